@@ -1,0 +1,177 @@
+-- Laws of tests.
+use mathlib.Core.Path.{_≡_, refl, sym, ap, _∙_}
+use mathlib.Core.List.{List, [], _∷_, _++_, List·Memᴰ, List·Memᴰ·head, List·Memᴰ·tail, List·Memᴰ·cases-cons, List·Memᴰ·not-nil}
+use mathlib.Core.Bool.{Bool, true, false, not, cond}
+use mathlib.Core.Logic.{_⊎_, inl, inr}
+use Prim.Native.Nat.{ℕ, zero, suc, _+_, _≤_, _<_}
+use native.Mathlib.Omega.{arith}
+use lib.Dec.{ltb, leb, eqb}
+use lib.ListN.{length}
+use borrow.Author.Tests.{eqb-true, eqb-false, eq-eqb, ltb-true, ltb-false, leb-true, leb-false}
+use Rattle.lists.specs.Tests.{_and_, _or_, all-below, count-below, every, some, only}
+
+-- ---- cases on a test, keeping the equation
+pub by {ℓ} : {P : Type ℓ} (b : Bool) → (b ≡ true → P) → (b ≡ false → P) → P
+by true t f = t refl
+by false t f = f refl
+
+-- the same on two numbers: each side has the test's value and the fact
+pub by-eq {ℓ} : {P : Type ℓ} (a b : ℕ) → (eqb a b ≡ true → a ≡ b → P) → (eqb a b ≡ false → (a ≡ b → ⊥) → P) → P
+by-eq a b t f = by (eqb a b) (λ q. t q (eqb-true a b q)) (λ q. f q (eqb-false a b q))
+
+pub by-lt {ℓ} : {P : Type ℓ} (a b : ℕ) → (ltb a b ≡ true → a < b → P) → (ltb a b ≡ false → b ≤ a → P) → P
+by-lt a b t f = by (ltb a b) (λ q. t q (ltb-true a b q)) (λ q. f q (ltb-false a b q))
+
+-- a choice, with its family written: for a test that names a field of a record that the goal has whole (`rw` would open the record)
+pub either {ℓ κ} : {A : Type ℓ} (P : A → Type κ) (b : Bool) {x y : A} → (b ≡ true → P x) → (b ≡ false → P y) → P (cond b x y)
+either P true t f = t refl
+either P false t f = f refl
+
+pub eqb-self : (a : ℕ) → eqb a a ≡ true
+eqb-self a = eq-eqb a a refl
+
+-- ---- what can't be
+pub impossible {ℓ} : {A : Type ℓ} → false ≡ true → A
+impossible e = let z : _≡_ {A = ℕ} 0 1 = cc in absurd (omega arith)
+
+pub clash {ℓ} : {A : Type ℓ} {b : Bool} → b ≡ false → b ≡ true → A
+clash e f = impossible (sym e ∙ f)
+
+pub no : (a : Bool) → (a ≡ true → ⊥) → not a ≡ true
+no true f = absurd (f refl)
+no false f = refl
+
+pub is-no : (a : Bool) → not a ≡ true → a ≡ true → ⊥
+is-no true n y = impossible n
+is-no false n y = impossible y
+
+-- ---- and, or
+pub and-l : (a b : Bool) → (a and b) ≡ true → a ≡ true
+unfolding _and_
+and-l true b h = refl
+and-l false b h = h
+
+pub and-r : (a b : Bool) → (a and b) ≡ true → b ≡ true
+unfolding _and_
+and-r true b h = h
+and-r false b h = impossible h
+
+pub both : (a b : Bool) → a ≡ true → b ≡ true → (a and b) ≡ true
+unfolding _and_
+both a b e f = cc
+
+pub or-cases : (a b : Bool) → (a or b) ≡ true → (a ≡ true) ⊎ (b ≡ true)
+unfolding _or_
+or-cases true b h = inl refl
+or-cases false b h = inr h
+
+pub or-l : (a b : Bool) → a ≡ true → (a or b) ≡ true
+unfolding _or_
+or-l a b e = cc
+
+pub or-r : (a b : Bool) → b ≡ true → (a or b) ≡ true
+unfolding _or_
+or-r true b e = refl
+or-r false b e = e
+
+-- where the first is no, the second decides
+pub or-second : (a b : Bool) → (a or b) ≡ true → a ≡ false → b ≡ true
+or-second a b h n = elim (or-cases a b h) [ inl y ↦ clash n y | inr y ↦ y ]
+
+-- an implication, as a test
+pub if-so : (a b : Bool) → (not a or b) ≡ true → a ≡ true → b ≡ true
+if-so a b h y = or-second (not a) b h (ap not y)
+
+pub so-if : (a b : Bool) → (a ≡ true → b ≡ true) → (not a or b) ≡ true
+so-if a b f = by a (λ y. or-r (not a) b (f y)) (λ n. or-l (not a) b (ap not n))
+
+-- two tests that imply each other are one
+pub same-test : (a b : Bool) → (a ≡ true → b ≡ true) → (b ≡ true → a ≡ true) → a ≡ b
+same-test a b f g = by a (λ y. y ∙ sym (f y)) (λ n. n ∙ sym (by b (λ y. clash n (g y)) (λ z. z)))
+
+-- ---- every index below a bound
+pub all-true : (n : ℕ) (test : ℕ → Bool) → ((k : ℕ) → k < n → test k ≡ true) → all-below n test ≡ true
+unfolding all-below
+all-true zero test h = refl
+all-true (suc n) test h = both _ _ (all-true n test (λ k l. h k (omega arith))) (h n (omega arith))
+
+pub all-at : (n : ℕ) (test : ℕ → Bool) → all-below n test ≡ true → (k : ℕ) → k < n → test k ≡ true
+unfolding all-below
+all-at zero test y k l = absurd (omega arith)
+all-at (suc n) test y k l = by-eq k n (λ _ e. rw e (and-r _ _ y)) (λ _ e. all-at n test (and-l _ _ y) k (omega arith))
+
+pub all-false : (n : ℕ) (test : ℕ → Bool) (k : ℕ) → k < n → test k ≡ false → all-below n test ≡ false
+all-false n test k l e = by (all-below n test) (λ y. clash e (all-at n test y k l)) (λ z. z)
+
+-- ---- counting below a bound
+pub count-at-most : (n : ℕ) (test : ℕ → Bool) → count-below n test ≤ n
+unfolding count-below
+count-at-most zero test = omega arith
+count-at-most (suc n) test = by (test n) (λ q. rw q (omega (arith, count-at-most n test))) (λ q. rw q (omega (arith, count-at-most n test)))
+
+pub count-one : (n : ℕ) (test : ℕ → Bool) → 0 < count-below n test → (i : ℕ) × (i < n) × (test i ≡ true)
+unfolding count-below
+count-one zero test l = absurd (omega arith)
+count-one (suc n) test l =
+    by (test n) (λ q. (n, omega arith, q)) (λ q. let z = count-one n test (omega (arith, rw q at l)) in (z .0, omega (arith, z .1), z .2))
+
+-- where there are two, there is one that is not x
+pub count-two : (n : ℕ) (test : ℕ → Bool) (x : ℕ) → 1 < count-below n test → (i : ℕ) × (i < n) × (test i ≡ true) × (i ≡ x → ⊥)
+unfolding count-below
+count-two zero test x l = absurd (omega arith)
+count-two (suc n) test x l =
+    by (test n)
+    (λ q. by-eq n x
+    (λ _ e. let z = count-one n test (omega (arith, rw q at l)) in (z .0, omega (arith, z .1), z .2, λ u. omega (arith, z .1)))
+    (λ _ e. (n, omega arith, q, e)))
+    (λ q. let z = count-two n test x (omega (arith, rw q at l)) in (z .0, omega (arith, z .1), z .2, z .3))
+
+-- ---- every element, some element
+pub every-in : {A : Type 0} (test : A → Bool) (l : List A) → every test l ≡ true → (x : A) → List·Memᴰ x l → test x ≡ true
+unfolding every
+every-in test [] y x m = absurd (List·Memᴰ·not-nil m)
+every-in test (z ∷ l) y x m = elim (List·Memᴰ·cases-cons m) [ inl e ↦ rw e (and-l _ _ y) | inr t ↦ every-in test l (and-r _ _ y) x t ]
+
+pub every-of : {A : Type 0} (test : A → Bool) (l : List A) → ((x : A) → List·Memᴰ x l → test x ≡ true) → every test l ≡ true
+unfolding every
+every-of test [] f = refl
+every-of test (z ∷ l) f = both _ _ (f z (List·Memᴰ·head refl)) (every-of test l (λ x m. f x (List·Memᴰ·tail m)))
+
+pub some-in : {A : Type 0} (test : A → Bool) (l : List A) → some test l ≡ true → (x : A) × List·Memᴰ x l × (test x ≡ true)
+unfolding some
+some-in test [] y = impossible y
+some-in test (z ∷ l) y =
+    elim (or-cases _ _ y) [ inl q ↦ (z, List·Memᴰ·head refl, q) | inr q ↦ let t = some-in test l q in (t .0, List·Memᴰ·tail (t .1), t .2) ]
+
+pub some-of : {A : Type 0} (test : A → Bool) (l : List A) (x : A) → List·Memᴰ x l → test x ≡ true → some test l ≡ true
+unfolding some
+some-of test [] x m y = absurd (List·Memᴰ·not-nil m)
+some-of test (z ∷ l) x m y = elim (List·Memᴰ·cases-cons m) [ inl e ↦ or-l _ _ (rw (← e) y) | inr t ↦ or-r _ _ (some-of test l x t y) ]
+
+-- ---- the elements that a test keeps
+pub only-in : {A : Type 0} (test : A → Bool) (l : List A) {x : A} → List·Memᴰ x (only test l) → List·Memᴰ x l × (test x ≡ true)
+unfolding only
+only-in test [] m = absurd (List·Memᴰ·not-nil m)
+only-in {A} test (z ∷ l) {x} m =
+    either (λ (r : List A). List·Memᴰ x r → List·Memᴰ x (z ∷ l) × (test x ≡ true)) (test z)
+    (λ q (n : List·Memᴰ x (z ∷ only test l)). elim (List·Memᴰ·cases-cons n) [
+      | inl e ↦ (List·Memᴰ·head e, rw e q)
+      | inr t ↦ let y = only-in test l t in (List·Memᴰ·tail (y .0), y .1)
+    ])
+    (λ _ n. let y = only-in test l n in (List·Memᴰ·tail (y .0), y .1)) m
+
+pub in-only : {A : Type 0} (test : A → Bool) (l : List A) {x : A} → List·Memᴰ x l → test x ≡ true → List·Memᴰ x (only test l)
+unfolding only
+in-only test [] m y = m
+in-only {A} test (z ∷ l) {x} m y =
+    elim (List·Memᴰ·cases-cons m) [
+      | inl e ↦ rw (← e, y) (List·Memᴰ·head refl)
+      | inr t ↦ either (λ (r : List A). List·Memᴰ x r) (test z) (λ _. List·Memᴰ·tail (in-only test l t y)) (λ _. in-only test l t y)
+    ]
+
+pub length-only : {A : Type 0} (test : A → Bool) (l : List A) → length (only test l) ≤ length l
+unfolding only
+length-only test [] = omega arith
+length-only {A} test (z ∷ l) =
+    let u = length-only test l in
+    either (λ (r : List A). length r ≤ suc (length l)) (test z) {x = z ∷ only test l} {y = only test l} (λ _. omega arith) (λ _. omega arith)

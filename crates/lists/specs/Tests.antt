@@ -1,0 +1,43 @@
+-- Yes and no: the connectives of tests, and a test of every index or every element.
+use mathlib.Core.List.{List, [], _∷_}
+use mathlib.Core.Bool.{Bool, true, false, cond, _&&_, _||_}
+use Prim.Native.Nat.{ℕ, zero, suc, _+_}
+
+-- the library's connectives, shut, so that a law finds its arguments in a test
+infixl 35 _and_
+infixl 30 _or_
+unfoldable pub _and_ : Bool → Bool → Bool
+a and b = a && b
+
+unfoldable pub _or_ : Bool → Bool → Bool
+a or b = a || b
+
+-- the test holds of 0, 1, .., n - 1
+unfoldable pub all-below : ℕ → (ℕ → Bool) → Bool
+all-below zero test = true
+all-below (suc n) test = all-below n test and test n
+
+-- the test holds of one of 0, 1, .., n - 1
+unfoldable pub some-below : ℕ → (ℕ → Bool) → Bool
+some-below zero test = false
+some-below (suc n) test = some-below n test or test n
+
+-- how many of 0, 1, .., n - 1 the test holds of
+unfoldable pub count-below : ℕ → (ℕ → Bool) → ℕ
+count-below zero test = 0
+count-below (suc n) test = cond (test n) 1 0 + count-below n test
+
+-- the test holds of every element
+unfoldable pub every : {A : Type 0} → (A → Bool) → List A → Bool
+every test [] = true
+every test (x ∷ l) = test x and every test l
+
+-- the test holds of some element
+unfoldable pub some : {A : Type 0} → (A → Bool) → List A → Bool
+some test [] = false
+some test (x ∷ l) = test x or some test l
+
+-- the elements of which the test holds, in their order
+unfoldable pub only : {A : Type 0} → (A → Bool) → List A → List A
+only test [] = []
+only test (x ∷ l) = cond (test x) (x ∷ only test l) (only test l)

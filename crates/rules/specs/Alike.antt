@@ -1,0 +1,23 @@
+-- Alike: same settings, view, members and, for each bucket, the same blocks and keys in the primary's memory. (Copies are sorted, so the same entries.)
+use mathlib.Core.Bool.{Bool, true, false, not}
+use Prim.Native.Nat.{ℕ, suc}
+use lib.Dec.{eqb}
+use Rattle.lists.specs.Tests.{_and_, all-below}
+use Rattle.rules.specs.declared.settings.Settings.{Settings}
+use Rattle.rules.specs.Limits.{buckets, max-id}
+use Rattle.rules.specs.State.{State}
+use Rattle.rules.specs.Parts.{primary-memory}
+use Rattle.rules.specs.Sound.{same-entries}
+
+unfoldable pub same-flag : Bool → Bool → Bool
+same-flag true b = b
+same-flag false b = not b
+
+unfoldable pub same-settings : Settings → Settings → Bool
+same-settings c d = eqb (c .places) (d .places) and eqb (c .size) (d .size) and eqb (c .entries) (d .entries) and eqb (c .chunks) (d .chunks)
+
+unfoldable pub alike : State → State → Bool
+alike s t =
+    same-settings (s .settings) (t .settings) and eqb (s .view) (t .view)
+    and all-below (suc max-id) (λ i. same-flag (s .bricks .member i) (t .bricks .member i))
+    and all-below (buckets (s .settings)) (λ g. same-entries (primary-memory (s .bucket g)) (primary-memory (t .bucket g)))

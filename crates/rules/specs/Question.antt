@@ -1,0 +1,69 @@
+-- The questions, asked in the order of their numbers: a no answers with its number.
+use mathlib.Core.Path.{_≡_}
+use mathlib.Core.List.{List, [], _∷_}
+use mathlib.Core.Bool.{Bool, true, not, cond}
+use Prim.Native.Nat.{ℕ}
+use lib.Dec.{ltb, eqb}
+use Rattle.rules.specs.Limits.{proxies, buckets}
+use Rattle.rules.specs.Numbers.{blocks, proxy-of}
+use Rattle.rules.specs.Entries.{has}
+use Rattle.rules.specs.State.{State}
+use Rattle.rules.specs.Parts.{up-member, bucket-at, pending}
+
+pub record Question : Type 0 where
+  pub code : ℕ
+  pub yes : Bool
+
+infix 20 _asks_
+abbrev pub _asks_ : ℕ → Bool → Question
+_asks_ c b = record { code = c; yes = b }
+
+-- the number of the first question that is answered no: 0 if none is
+unfoldable pub first-no : List Question → ℕ
+first-no [] = 0
+first-no (q ∷ qs) = cond (q .yes) (first-no qs) (q .code)
+
+abbrev pub AllYes : List Question → Type 0
+AllYes [] = Unit {0}
+AllYes (q ∷ qs) = (q .yes ≡ true) × AllYes qs
+
+-- ---- what several kinds ask
+-- 3: each field in range
+abbrev pub is-proxy : ℕ → Bool
+is-proxy p = ltb p proxies
+
+abbrev pub is-block : ℕ → Bool
+is-block b = ltb b blocks
+
+abbrev pub is-place : State → ℕ → Bool
+is-place s i = ltb i (s .settings .places)
+
+abbrev pub is-bucket : State → ℕ → Bool
+is-bucket s g = ltb g (buckets (s .settings))
+
+-- 4: does the block belong to the proxy?
+abbrev pub belongs : ℕ → ℕ → Bool
+belongs p b = eqb (proxy-of b) p
+
+-- 5: does the proxy know the present view?
+abbrev pub knows-view : State → ℕ → Bool
+knows-view s p = eqb (s .known p) (s .view)
+
+-- 6: is the primary an up member?
+abbrev pub primary-up : State → ℕ → Bool
+primary-up s b = up-member s (bucket-at s b .primary)
+
+-- 7: bucket ready?
+abbrev pub is-ready : State → ℕ → Bool
+is-ready s b = bucket-at s b .ready
+
+-- 8: block not pending, nor in the buffer?
+abbrev pub not-pending : State → ℕ → Bool
+not-pending s b = not (pending (bucket-at s b) b)
+
+abbrev pub not-waiting : State → ℕ → Bool
+not-waiting s b = not (has (s .bricks .buffer (bucket-at s b .primary)) b)
+
+-- 9: an item?
+abbrev pub has-item : State → ℕ → ℕ → Bool
+has-item s p b = has (s .items p) b

@@ -1,0 +1,3 @@
+// What the rules fix in code: the settings with their limits, and blocks, keys and views as types of their own.
+pub mod numbers;
+pub mod settings;
