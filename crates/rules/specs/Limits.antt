@@ -38,14 +38,14 @@ min-chunks = 4
 abbrev pub max-chunks : ℕ
 max-chunks = 65536
 
-abbrev within : ℕ → ℕ → ℕ → Bool
-within low high n = leb low n and leb n high
+unfoldable pub in-range : ℕ → ℕ → ℕ → Bool
+in-range low high n = leb low n and leb n high
 
 -- question 1, of the settings
 unfoldable pub in-limits : Settings → Bool
 in-limits c =
-    within min-places max-places (c .places) and within min-size max-size (c .size) and eqb (c .size % size-step) 0
-    and within min-entries max-entries (c .entries) and within min-chunks max-chunks (c .chunks)
+    in-range min-places max-places (c .places) and in-range min-size max-size (c .size) and eqb (c .size % size-step) 0
+    and in-range min-entries max-entries (c .entries) and in-range min-chunks max-chunks (c .chunks)
 
 -- what the constructor of settings answers
 unfoldable pub checked : ℕ → ℕ → ℕ → ℕ → Checked

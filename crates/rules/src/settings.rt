@@ -1,6 +1,6 @@
 // A store's settings, fixed at format.
 ghost use mathlib.Core.Path.{_≡_};
-ghost use Rattle.rules.specs.Limits.{checked};
+ghost use Rattle.rules.specs.Limits.{in-range, checked};
 
 pub struct Settings {
     // places for bricks
@@ -42,19 +42,19 @@ impl Settings {
     pub fn new(places: usize, size: usize, entries: usize, chunks: usize) -> Checked
         ensures { λ r. ⌜ r ≡ checked places size entries chunks ⌝ }
     {
-        if places < Settings::MIN_PLACES || Settings::MAX_PLACES < places {
+        if !within(Settings::MIN_PLACES, Settings::MAX_PLACES, places) {
             return Checked::Bad;
         }
-        if size < Settings::MIN_SIZE || Settings::MAX_SIZE < size {
+        if !within(Settings::MIN_SIZE, Settings::MAX_SIZE, size) {
             return Checked::Bad;
         }
         if size % Settings::SIZE_STEP != 0 {
             return Checked::Bad;
         }
-        if entries < Settings::MIN_ENTRIES || Settings::MAX_ENTRIES < entries {
+        if !within(Settings::MIN_ENTRIES, Settings::MAX_ENTRIES, entries) {
             return Checked::Bad;
         }
-        if chunks < Settings::MIN_CHUNKS || Settings::MAX_CHUNKS < chunks {
+        if !within(Settings::MIN_CHUNKS, Settings::MAX_CHUNKS, chunks) {
             return Checked::Bad;
         }
         Checked::Good(Settings {
@@ -64,4 +64,13 @@ impl Settings {
             chunks,
         })
     }
+}
+
+fn within(low: usize, high: usize, n: usize) -> bool
+    ensures { λ r. ⌜ r ≡ in-range low high n ⌝ }
+{
+    if n < low {
+        return false;
+    }
+    n <= high
 }

@@ -1,0 +1,12 @@
+use mathlib.Core.Path.{refl}
+use Rattle.rules.specs.Limits.{buckets}
+use Rattle.rules.specs.Numbers.{proxy-of, bucket-of}
+use Rattle.rules.proofs.numbers.BlockNumber.proxy.Statement.{statement}
+use Rattle.rules.proofs.numbers.BlockNumber.proxy.Tie as tie
+
+returns : tie.Need-returns
+unfolding proxy-of
+returns c = refl
+
+pub proxy-spec : {M : Type 1} → statement M
+proxy-spec = tie.close (tie.spec returns)
