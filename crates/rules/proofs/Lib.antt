@@ -1,3 +1,5 @@
 pub mod Limits
+pub mod Entries
+pub mod Chunks
 pub mod Step
 pub mod Sound
