@@ -1,5 +1,6 @@
 pub mod Limits
 pub mod Entries
 pub mod Chunks
+pub mod Parts
 pub mod Step
 pub mod Sound
