@@ -1,0 +1,154 @@
+-- Demand 3: the one claim about a list of events. The history, the ageing rule and the claim on want read events and their answers, and whether a crash or
+-- loss found a whole store; nothing else of the store.
+use mathlib.Core.Path.{_≡_}
+use mathlib.Core.List.{List, [], _∷_}
+use mathlib.Core.Bool.{Bool, true, false, cond}
+use mathlib.Core.Logic.{_⊎_}
+use Prim.Native.Nat.{ℕ, zero, suc, _≤_, _<_}
+use lib.Dec.{eqb}
+use lib.ListN.{length}
+use Rattle.lists.specs.Columns.{upd}
+use Rattle.rules.specs.declared.settings.Settings.{Settings}
+use Rattle.rules.specs.Limits.{in-limits}
+use Rattle.rules.specs.Event.{Event}
+use Rattle.rules.specs.State.{State}
+use Rattle.rules.specs.Format.{format}
+use Rattle.rules.specs.Reads.{zeros}
+use Rattle.rules.specs.Step.{Answer, step}
+use Rattle.rules.specs.Whole.{whole}
+
+-- ---- the list: each event with its code and answer, as the step gives them from the store that the events before left
+pub record Told : Type 0 where
+  pub event : Event
+  pub code : ℕ
+  pub said : Answer
+  -- whether it found a whole store
+  pub found-whole : Bool
+
+unfoldable pub told : State → List Event → List Told
+told s [] = []
+told s (e ∷ es) = let o = step s e in record { event = e; code = o .code; said = o .said; found-whole = whole s } ∷ told (o .after) es
+
+-- ---- history: for each block it has its writes, numbered from 1 (the newest first in the list), and a mark, first 0
+pub record Write : Type 0 where
+  pub key : ℕ
+  pub bytes : List ℕ
+
+pub record History : Type 0 where
+  pub writes : ℕ → List Write
+  pub mark : ℕ → ℕ
+
+abbrev pub no-history : History
+no-history = record { writes = λ b. []; mark = λ b. 0 }
+
+-- the number of the write with a key, 0 if there is none; and its bytes
+unfoldable pub number : List Write → ℕ → ℕ
+number [] k = 0
+number (w ∷ l) k = cond (eqb k (w .key)) (suc (length l)) (number l k)
+
+unfoldable pub written : List Write → ℕ → List ℕ
+written [] k = []
+written (w ∷ l) k = cond (eqb k (w .key)) (w .bytes) (written l k)
+
+-- what an accepted event is to the history and to the claim on want
+pub data Meaning : Type 0 where
+  writes : ℕ → List ℕ → Meaning
+  confirms : ℕ → Meaning
+  shows : ℕ → Meaning
+  views : Meaning
+  readies : ℕ → Meaning
+  nothing : Meaning
+
+unfoldable pub meaning : Event → Meaning
+meaning (Event.put p i b d) = writes b d
+meaning (Event.copy k) = nothing
+meaning (Event.savelog i) = nothing
+meaning (Event.map p b) = nothing
+meaning (Event.send b) = nothing
+meaning (Event.deliver n) = nothing
+meaning (Event.drop n) = nothing
+meaning (Event.savemap i) = nothing
+meaning (Event.done p b) = confirms b
+meaning (Event.get p b) = shows b
+meaning (Event.abandon p b) = nothing
+meaning (Event.learn p) = nothing
+meaning (Event.reset p) = nothing
+meaning (Event.crash i) = nothing
+meaning (Event.lose i) = nothing
+meaning (Event.rise i) = nothing
+meaning (Event.join i) = nothing
+meaning Event.view = views
+meaning (Event.fetch g) = nothing
+meaning (Event.ready g) = readies g
+meaning (Event.mend i) = nothing
+meaning (Event.collect i) = nothing
+meaning Event.unknown = nothing
+
+-- a put adds its answered key and its data as the next write; a done confirms the block's last write: the mark becomes its number; a get shows the write
+-- whose key it answers: the mark becomes its number, or 0 for key 0
+abbrev pub hears : History → Meaning → Answer → History
+hears h (writes b d) a = record { writes = upd (h .writes) b (record { key = a .key; bytes = d } ∷ h .writes b); mark = h .mark }
+hears h (confirms b) a = record { writes = h .writes; mark = upd (h .mark) b (length (h .writes b)) }
+hears h (shows b) a = record { writes = h .writes; mark = upd (h .mark) b (number (h .writes b) (a .key)) }
+hears h views a = h
+hears h (readies g) a = h
+hears h nothing a = h
+
+-- accepted means code 0; refused ones change nothing
+abbrev pub hear : History → Event → ℕ → Answer → History
+hear h e zero a = hears h (meaning e) a
+hear h e (suc c) a = h
+
+-- ---- the ageing rule
+-- key 0 and zeros where the mark is 0, or the key and bytes of one write of its block whose number is at least the mark
+abbrev pub Shown : ℕ → List Write → ℕ → Answer → Type 0
+Shown size w mark a =
+    ((a .key ≡ 0) × (a .bytes ≡ zeros size) × (mark ≡ 0)) ⊎ ((0 < number w (a .key)) × (a .bytes ≡ written w (a .key)) × (mark ≤ number w (a .key)))
+
+pub record Obeys (size : ℕ) (h : History) (t : Told) : Type 0 where
+  -- no two accepted puts answer one key: the new one is no earlier write's, of any block
+  pub fresh : (p i b : ℕ) (d : List ℕ) → t .event ≡ Event.put p i b d → t .code ≡ 0 → (c : ℕ) → number (h .writes c) (t .said .key) ≡ 0
+  -- what an accepted get answers, by the block's mark just before it
+  pub shown : (p b : ℕ) → t .event ≡ Event.get p b → t .code ≡ 0 → Shown size (h .writes b) (h .mark b) (t .said)
+
+unfoldable pub Ageing : ℕ → History → List Told → Type 0
+Ageing size h [] = Unit {0}
+Ageing size h (t ∷ ts) = Obeys size h t × Ageing size (hear h (t .event) (t .code) (t .said)) ts
+
+-- ---- for want
+-- accepted crash and lose events each find a whole store
+abbrev pub Strikes : Event → Type 0
+Strikes e = (i : ℕ) × ((e ≡ Event.crash i) ⊎ (e ≡ Event.lose i))
+
+unfoldable pub StruckWhole : List Told → Type 0
+StruckWhole [] = Unit {0}
+StruckWhole (t ∷ ts) = (Strikes (t .event) → t .code ≡ 0 → t .found-whole ≡ true) × StruckWhole ts
+
+-- the buckets of which a view was accepted and no ready has been accepted since
+abbrev pub opens : (ℕ → Bool) → Meaning → (ℕ → Bool)
+opens o (writes b d) = o
+opens o (confirms b) = o
+opens o (shows b) = o
+opens o views = λ g. true
+opens o (readies g) = upd o g false
+opens o nothing = o
+
+abbrev pub open-after : (ℕ → Bool) → Event → ℕ → (ℕ → Bool)
+open-after o e zero = opens o (meaning e)
+open-after o e (suc c) = o
+
+pub record Sated (o : ℕ → Bool) (t : Told) : Type 0 where
+  -- no get answers 11
+  pub bytes : (p b : ℕ) → t .event ≡ Event.get p b → t .code ≡ 11 → ⊥
+  -- no fetch answers 13 where a view was accepted and no ready of its bucket has been accepted since
+  pub source : (g : ℕ) → t .event ≡ Event.fetch g → o g ≡ true → t .code ≡ 13 → ⊥
+
+unfoldable pub NoWant : (ℕ → Bool) → List Told → Type 0
+NoWant o [] = Unit {0}
+NoWant o (t ∷ ts) = Sated o t × NoWant (open-after o (t .event) (t .code)) ts
+
+-- ---- the claim: format with any settings that question 1 passes, then take any list of events, all kinds, any order, refused ones included
+abbrev pub Claim : Type 0
+Claim = (c : Settings) → in-limits c ≡ true → (es : List Event) →
+    let ts = told (format c) es in
+    Ageing (c .size) no-history ts × (StruckWhole ts → NoWant (λ g. false) ts)
