@@ -18,3 +18,4 @@ pub mod Step
 pub mod Whole
 pub mod Sound
 pub mod Alike
+pub mod Examples

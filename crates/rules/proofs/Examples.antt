@@ -1,0 +1,57 @@
+-- The examples hold: each table is one statement, computed.
+use mathlib.Core.Path.{_≡_, refl}
+use mathlib.Core.Bool.{Bool, true}
+use Prim.Native.Nat.{ℕ}
+use Rattle.lists.specs.Tests.{_and_, _or_, all-below, some-below, count-below, every, some, only}
+use Rattle.lists.specs.Columns.{upd}
+use Rattle.rules.specs.Limits.{in-range, in-limits, buckets}
+use Rattle.rules.specs.Numbers.{proxy-of, bucket-of, is-data}
+use Rattle.rules.specs.Entries.{look, has, names, insert, remove, takes, waits-for, drain}
+use Rattle.rules.specs.Chunks.{held, saved-in, bytes-in, save-all, save-key, only-saved, only-named}
+use Rattle.rules.specs.Pairs.{ids-of, among, load, preferred, choose, least-loaded, kept, keep-at, fill-slot, give-way, in-order, filled, walked, share}
+use Rattle.rules.specs.Pairs.{pairs, slots-of}
+use Rattle.rules.specs.Format.{first-id, is-first, first-pairs, format}
+use Rattle.rules.specs.Parts.{circle, seek, holder, saved-at, agree, pending, none-pending, calm}
+use Rattle.rules.specs.Question.{first-no}
+use Rattle.rules.specs.Writes.{raised, put-effect, other-than, target, copy-effect, savelog-effect}
+use Rattle.rules.specs.Maps.{map-effect, send-effect, is-taken, remove-at, deliver-effect, drop-effect, savemap-effect, item-goes, learn-effect, reset-effect}
+use Rattle.rules.specs.Reads.{zeros, get-bytes}
+use Rattle.rules.specs.Membership.{crash-effect, lose-effect, rise-effect, join-effect}
+use Rattle.rules.specs.Views.{last-pairs, view-pairs, view-effect, source, fetch-effect, dropped, ready-effect}
+use Rattle.rules.specs.Upkeep.{of-first-two, mend-key, mend-keys, mend-buckets, mend-effect, is-named, collect-effect}
+use Rattle.rules.specs.Step.{rule, step}
+use Rattle.rules.specs.Whole.{saved-twice, whole}
+use Rattle.rules.specs.Examples.{after, pairs-in, last-of, value, same-numbers, all-right, a1, b2, again, marked, slips}
+
+unfoldable lists-open : ℕ
+unfolding _and_ _or_ all-below some-below count-below every some only upd
+lists-open = 0
+
+unfoldable parts-open : ℕ
+unfolding lists-open in-range in-limits buckets proxy-of bucket-of is-data look has names insert remove takes waits-for drain held saved-in bytes-in save-all save-key only-saved only-named circle seek holder saved-at agree pending none-pending calm
+parts-open = 0
+
+unfoldable pairs-open : ℕ
+unfolding ids-of among load preferred choose least-loaded kept keep-at fill-slot give-way in-order filled walked share pairs slots-of first-id is-first first-pairs format last-pairs view-pairs
+pairs-open = 0
+
+unfoldable events-open : ℕ
+unfolding raised put-effect other-than target copy-effect savelog-effect map-effect send-effect is-taken remove-at deliver-effect drop-effect savemap-effect item-goes learn-effect reset-effect zeros get-bytes crash-effect lose-effect rise-effect join-effect view-effect source fetch-effect dropped ready-effect of-first-two mend-key mend-keys mend-buckets mend-effect is-named collect-effect
+events-open = 0
+
+-- to unfold this is to unfold all the rules
+unfoldable pub rules-open : ℕ
+unfolding parts-open pairs-open events-open first-no rule step saved-twice whole
+rules-open = 0
+
+unfoldable tables-open : ℕ
+unfolding rules-open after pairs-in last-of value same-numbers all-right a1 b2 again
+tables-open = 0
+
+pub marked-right : all-right marked ≡ true
+unfolding tables-open marked
+marked-right = refl
+
+pub slips-right : all-right slips ≡ true
+unfolding tables-open slips
+slips-right = refl

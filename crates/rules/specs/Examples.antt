@@ -1,0 +1,189 @@
+-- Worked examples: what is asked, and the numbers that are the answer. `marked` are 01's examples with a star; `slips` would catch a wrong rule or a wrong
+-- order of questions.
+use mathlib.Core.List.{List, [], _∷_, _++_}
+use mathlib.Core.Bool.{Bool, true, false, cond}
+use Prim.Native.Nat.{ℕ, zero, suc, _+_, _*_, _^_}
+use lib.Dec.{eqb}
+use lib.ListN.{replicate}
+use Rattle.lists.specs.Tests.{_and_, every}
+use Rattle.rules.specs.declared.settings.Settings.{Settings}
+use Rattle.rules.specs.Limits.{in-limits, buckets}
+use Rattle.rules.specs.Numbers.{bucket-of, key-of}
+use Rattle.rules.specs.Event.{Event}
+use Rattle.rules.specs.State.{State}
+use Rattle.rules.specs.Format.{format}
+use Rattle.rules.specs.Step.{step}
+use Rattle.rules.specs.Whole.{whole}
+
+pub data Asked : Type 0 where
+  -- the code of a format
+  format-code : Settings → Asked
+  -- the bucket of a block
+  bucket : Settings → ℕ → Asked
+  -- after a list of events from format: some buckets' primaries and backups
+  pairs-after : Settings → List Event → List ℕ → Asked
+  -- the last event's code, key and data
+  last-answer : Settings → List Event → Asked
+  -- 1 where the store is whole
+  is-whole : Settings → List Event → Asked
+
+unfoldable pub after : State → List Event → State
+after s [] = s
+after s (e ∷ es) = after (step s e .after) es
+
+unfoldable pub pairs-in : State → List ℕ → List ℕ
+pairs-in s [] = []
+pairs-in s (g ∷ l) = s .bucket g .primary ∷ s .bucket g .backup ∷ pairs-in s l
+
+unfoldable pub last-of : State → List Event → List ℕ
+last-of s [] = []
+last-of s (e ∷ []) = let o = step s e in o .code ∷ o .said .key ∷ o .said .bytes
+last-of s (e ∷ f ∷ es) = last-of (step s e .after) (f ∷ es)
+
+unfoldable pub value : Asked → List ℕ
+value (format-code c) = cond (in-limits c) 0 1 ∷ []
+value (bucket c b) = bucket-of (buckets c) b ∷ []
+value (pairs-after c es l) = pairs-in (after (format c) es) l
+value (last-answer c es) = last-of (format c) es
+value (is-whole c es) = cond (whole (after (format c) es)) 1 0 ∷ []
+
+pub record Row : Type 0 where
+  pub asked : Asked
+  pub answer : List ℕ
+
+infix 20 _gives_
+abbrev pub _gives_ : Asked → List ℕ → Row
+a gives n = record { asked = a; answer = n }
+
+unfoldable pub same-numbers : List ℕ → List ℕ → Bool
+same-numbers [] [] = true
+same-numbers [] (n ∷ m) = false
+same-numbers (n ∷ l) [] = false
+same-numbers (n ∷ l) (k ∷ m) = eqb n k and same-numbers l m
+
+-- every row gives its answer
+unfoldable pub all-right : List Row → Bool
+all-right rows = every (λ r. same-numbers (value (r .asked)) (r .answer)) rows
+
+-- ---- settings and lists that the rows share
+abbrev places : ℕ → Settings
+places n = record { places = n; size = 8; entries = 2; chunks = 4 }
+
+abbrev small : Settings
+small = places 3
+
+abbrev refused : ℕ → List ℕ
+refused c = c ∷ 0 ∷ []
+
+abbrev done-with : ℕ → List ℕ
+done-with key = 0 ∷ key ∷ []
+
+unfoldable pub a1 : List ℕ
+a1 = replicate 8 161
+
+unfoldable pub b2 : List ℕ
+b2 = replicate 8 178
+
+-- block 5 in bucket 0, whose pair is (1, 2): put at brick 1 and saved there
+abbrev put-5 : List Event
+put-5 = Event.learn 0 ∷ Event.put 0 0 5 a1 ∷ Event.savelog 0 ∷ []
+
+abbrev mapped-5 : List Event
+mapped-5 = put-5 ++ (Event.map 0 5 ∷ [])
+
+-- all four copies have it
+abbrev settled-5 : List Event
+settled-5 = mapped-5 ++ (Event.send 5 ∷ Event.deliver 0 ∷ Event.savemap 0 ∷ Event.savemap 1 ∷ [])
+
+-- a second chunk, and confirmed
+abbrev written-5 : List Event
+written-5 = Event.learn 0 ∷ Event.put 0 0 5 a1 ∷ Event.copy (key-of 1 0) ∷ Event.savelog 0 ∷ Event.savelog 1 ∷ Event.map 0 5 ∷ Event.send 5 ∷ Event.deliver 0
+    ∷ Event.savemap 0 ∷ Event.savemap 1 ∷ Event.done 0 5 ∷ []
+
+-- a new view, with bucket 0 ready and proxy 0 knowing it
+abbrev next-view : List Event
+next-view = Event.view ∷ Event.fetch 0 ∷ Event.ready 0 ∷ Event.learn 0 ∷ []
+
+unfoldable pub again : ℕ → List Event → List Event
+again zero l = []
+again (suc n) l = l ++ again n l
+
+-- ---- 01's marked examples
+unfoldable pub marked : List Row
+marked =
+    (format-code (places 2) gives (1 ∷ []))
+    ∷ (format-code (places 9) gives (1 ∷ []))
+    ∷ (format-code (places 3) gives (0 ∷ []))
+    ∷ (format-code (places 8) gives (0 ∷ []))
+    ∷ (last-answer small (Event.get 0 (2 ^ 51) ∷ []) gives refused 3)
+    ∷ (last-answer small (Event.put 0 0 (2 ^ 49) a1 ∷ []) gives refused 4)
+    ∷ (bucket small 1023 gives (0 ∷ []))
+    ∷ (bucket small 1024 gives (1 ∷ []))
+    ∷ (bucket small 16384 gives (0 ∷ []))
+    ∷ (pairs-after small [] (0 ∷ 1 ∷ 2 ∷ 3 ∷ 4 ∷ 5 ∷ 15 ∷ []) gives (1 ∷ 2 ∷ 3 ∷ 1 ∷ 2 ∷ 3 ∷ 1 ∷ 2 ∷ 3 ∷ 1 ∷ 2 ∷ 3 ∷ 1 ∷ 2 ∷ []))
+    ∷ (pairs-after small (Event.lose 1 ∷ Event.view ∷ []) (0 ∷ 1 ∷ 2 ∷ []) gives (1 ∷ 3 ∷ 3 ∷ 1 ∷ 3 ∷ 1 ∷ []))
+    ∷ (last-answer small (Event.put 0 0 5 a1 ∷ Event.crash 0 ∷ Event.rise 0 ∷ Event.view ∷ Event.put 0 0 6 a1 ∷ []) gives done-with (key-of 1 1024))
+    ∷ (last-answer small (Event.learn 0 ∷ Event.put 0 0 5 a1 ∷ Event.map 0 5 ∷ []) gives refused 11)
+    ∷ (last-answer small (Event.learn 0 ∷ Event.put 0 0 5 a1 ∷ Event.put 0 0 6 a1 ∷ Event.put 0 0 7 a1 ∷ Event.savelog 0 ∷ Event.map 0 5 ∷ Event.map 0 6
+    ∷ Event.map 0 7 ∷ []) gives refused 10)
+    ∷ []
+
+-- ---- what a slip would change
+unfoldable pub slips : List Row
+slips =
+    -- useless stores: what is stored is read, an empty log has room, a relay is taken, a read of nothing shows zeros
+    (last-answer small (written-5 ++ (Event.get 0 5 ∷ [])) gives (done-with (key-of 1 0) ++ a1))
+    ∷ (last-answer small (Event.put 0 0 5 a1 ∷ []) gives done-with (key-of 1 0))
+    ∷ (last-answer small (mapped-5 ++ (Event.send 5 ∷ Event.deliver 0 ∷ [])) gives done-with 1)
+    ∷ (last-answer small (Event.learn 0 ∷ Event.get 0 5 ∷ []) gives (done-with 0 ++ replicate 8 0))
+    -- a pending block is not shown: before the relay, and before the backup has saved it
+    ∷ (last-answer small (mapped-5 ++ (Event.get 0 5 ∷ [])) gives refused 8)
+    ∷ (last-answer small (mapped-5 ++ (Event.send 5 ∷ Event.deliver 0 ∷ Event.savemap 0 ∷ Event.get 0 5 ∷ [])) gives refused 8)
+    -- a relay that comes late is set aside
+    ∷ (last-answer small (mapped-5 ++ (Event.send 5 ∷ Event.send 5 ∷ Event.deliver 1 ∷ Event.deliver 0 ∷ [])) gives done-with 0)
+    -- both of the last ready pair are lost: no other brick is a source
+    ∷ (last-answer (places 5) (Event.lose 0 ∷ Event.lose 1 ∷ Event.view ∷ Event.fetch 0 ∷ []) gives refused 13)
+    -- after a crash, a return, a new view, fetch, ready and mend the block is there
+    ∷ (last-answer small (written-5 ++ (Event.crash 0 ∷ Event.rise 0 ∷ next-view) ++ (Event.mend 0 ∷ Event.get 0 5 ∷ [])) gives (done-with (key-of 1 0) ++ a1))
+    -- what waited in the buffer while the bucket was not ready is mapped by ready
+    ∷ (last-answer small ((Event.view ∷ put-5) ++ (Event.map 0 5 ∷ Event.fetch 0 ∷ Event.ready 0 ∷ Event.send 5 ∷ []))
+    gives done-with 0)
+    -- order of the questions: 3 before 4, 4 before 5, 5 before 6, 6 before 7
+    ∷ (last-answer small (Event.put 0 0 (2 ^ 49) (replicate 7 161) ∷ []) gives refused 3)
+    ∷ (last-answer small (Event.get 1 5 ∷ []) gives refused 4)
+    ∷ (last-answer small (Event.crash 0 ∷ Event.get 0 5 ∷ []) gives refused 5)
+    ∷ (last-answer small (Event.view ∷ Event.learn 0 ∷ Event.crash 0 ∷ Event.get 0 5 ∷ []) gives refused 6)
+    ∷ (last-answer small (Event.view ∷ Event.learn 0 ∷ Event.get 0 5 ∷ []) gives refused 7)
+    -- 6 before 13: fetch and ready of a ready bucket without its primary
+    ∷ (last-answer small (Event.crash 0 ∷ Event.fetch 0 ∷ []) gives refused 6)
+    ∷ (last-answer small (Event.crash 0 ∷ Event.ready 0 ∷ []) gives refused 6)
+    -- 8 before 9: a pending block without an item
+    ∷ (last-answer small (mapped-5 ++ (Event.abandon 0 5 ∷ Event.map 0 5 ∷ [])) gives refused 8)
+    -- 9 before 10: a second put of a block into a full log; a map without an item into a full bucket
+    ∷ (last-answer small (Event.put 0 0 5 a1 ∷ Event.put 0 0 6 a1 ∷ Event.put 0 0 7 a1 ∷ Event.put 0 0 8 a1 ∷ Event.put 0 0 5 a1 ∷ []) gives refused 9)
+    ∷ (last-answer small (put-5 ++ (Event.put 0 0 6 a1 ∷ Event.savelog 0 ∷ Event.map 0 5 ∷ Event.map 0 6 ∷ Event.map 0 7 ∷ [])) gives refused 9)
+    -- 10: a fifth chunk; 10 before 11: a copy of a key that is not held into a full log
+    ∷ (last-answer small (Event.put 0 0 5 a1 ∷ Event.put 0 0 6 a1 ∷ Event.put 0 0 7 a1 ∷ Event.put 0 0 8 a1 ∷ Event.put 0 0 9 a1 ∷ []) gives refused 10)
+    ∷ (last-answer small (Event.put 0 1 5 a1 ∷ Event.put 0 1 6 a1 ∷ Event.put 0 1 7 a1 ∷ Event.put 0 1 8 a1 ∷ Event.copy (key-of 1 0) ∷ []) gives refused 10)
+    ∷ (last-answer small (Event.copy (key-of 1 0) ∷ []) gives refused 11)
+    -- 10 before 13: a block that is not mapped, with a full bag
+    ∷ (last-answer small (mapped-5 ++ again 64 (Event.send 5 ∷ []) ++ (Event.send 6 ∷ [])) gives refused 10)
+    ∷ (last-answer small (mapped-5 ++ (Event.send 6 ∷ [])) gives refused 13)
+    -- 12 before 13: no id is left, and the place is not empty
+    ∷ (last-answer small (again 252 (Event.lose 0 ∷ Event.join 0 ∷ []) ++ (Event.join 0 ∷ [])) gives refused 12)
+    ∷ (last-answer small (Event.join 0 ∷ []) gives refused 13)
+    -- 13: crash, rise, lose; ready waits for the fetch; the view's majority counts risen bricks and not joined ones
+    ∷ (last-answer small (Event.crash 1 ∷ Event.crash 1 ∷ []) gives refused 13)
+    ∷ (last-answer small (Event.rise 1 ∷ []) gives refused 13)
+    ∷ (last-answer small (Event.lose 1 ∷ Event.lose 1 ∷ []) gives refused 13)
+    ∷ (last-answer small (Event.view ∷ Event.ready 0 ∷ []) gives refused 13)
+    ∷ (last-answer small (Event.lose 0 ∷ Event.crash 1 ∷ Event.join 0 ∷ Event.view ∷ []) gives refused 13)
+    ∷ (last-answer small (Event.lose 0 ∷ Event.crash 1 ∷ Event.join 0 ∷ Event.rise 1 ∷ Event.view ∷ []) gives done-with 0)
+    -- collect waits until nothing is pending; a block not mapped is not confirmed
+    ∷ (last-answer small (mapped-5 ++ (Event.abandon 0 5 ∷ Event.collect 0 ∷ [])) gives refused 13)
+    ∷ (last-answer small (put-5 ++ (Event.done 0 5 ∷ [])) gives refused 15)
+    ∷ (last-answer small (Event.unknown ∷ []) gives refused 3)
+    -- whole asks for two saved chunks
+    ∷ (is-whole small settled-5 gives (0 ∷ []))
+    ∷ (is-whole small written-5 gives (1 ∷ []))
+    ∷ []
