@@ -4,3 +4,4 @@ pub mod Chunks
 pub mod Parts
 pub mod Step
 pub mod Sound
+pub mod SoundTest
