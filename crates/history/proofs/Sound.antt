@@ -3,6 +3,7 @@ pub mod Lists
 pub mod Groups
 pub mod Writes
 pub mod Maps
+pub mod Membership
 pub mod Upkeep
 pub mod Views
 pub mod All
