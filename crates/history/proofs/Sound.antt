@@ -6,4 +6,5 @@ pub mod Maps
 pub mod Membership
 pub mod Upkeep
 pub mod Views
+pub mod Format
 pub mod All

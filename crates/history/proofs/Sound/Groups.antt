@@ -1,7 +1,7 @@
 -- The facts of a sound store in groups that events change as one, and how each is kept where one brick, one bucket, one proxy or the bag changes.
-use mathlib.Core.Path.{_≡_, refl, sym, ap, fun-ext, _∙_}
-use mathlib.Core.List.{List, [], _∷_, List·Memᴰ}
-use mathlib.Core.Bool.{Bool, true, false, cond}
+use mathlib.Core.Path.{_≡_, refl, ap, fun-ext, _∙_}
+use mathlib.Core.List.{List, [], List·Memᴰ}
+use mathlib.Core.Bool.{Bool, true, false}
 use Prim.Native.Nat.{ℕ, _≤_, _<_}
 use native.Mathlib.Omega.{arith}
 use lib.ListN.{length}
@@ -17,7 +17,6 @@ use Rattle.rules.specs.Chunks.{Chunk}
 use Rattle.rules.specs.State.{Bucket, Relay, State, blank-bucket, set-parts, set-lists, set-bricks, with-log, with-copies}
 use Rattle.rules.specs.Parts.{up-member}
 use Rattle.rules.proofs.Sound.{KeyOk, TableOk, BufferOk, LogOk, RelayOk, BricksOk, NumbersOk, PairOk, BucketOk, KeyOf, Sound}
-use Rattle.rules.proofs.SoundTest.{table-none, buffer-none, log-none}
 use Rattle.history.proofs.Sound.Lists.{table-map, buffer-map, log-map, relay-map}
 
 -- ---- columns: what holds wherever a flag is down

@@ -1,17 +1,17 @@
 -- Laws of sound lists: copies and items, buffers, logs, relays.
-use mathlib.Core.Path.{_≡_, refl, sym, ap}
+use mathlib.Core.Path.{_≡_, refl}
 use mathlib.Core.List.{List, [], _∷_, _++_, map, List·Memᴰ, List·Memᴰ·head, List·Memᴰ·tail, List·Memᴰ·cases-cons}
 use mathlib.Core.List.{List·Memᴰ·append-cases, List·Memᴰ·eq-of-singleton}
-use mathlib.Core.Bool.{Bool, true, false, not, cond}
-use mathlib.Core.Logic.{_⊎_, inl, inr}
+use mathlib.Core.Bool.{Bool, true, false}
+use mathlib.Core.Logic.{inl, inr}
 use Prim.Native.Nat.{ℕ, zero, suc, _≤_, _<_}
 use native.Mathlib.Omega.{arith}
 use lib.ListN.{length, getD, length-append}
 use Rattle.lists.specs.Tests.{only}
 use Rattle.lists.proofs.Tests.{either, only-in, length-only}
 use Rattle.rules.specs.Limits.{max-waiting}
-use Rattle.rules.specs.Entries.{Entry, entry, insert, remove, takes, drain}
-use Rattle.rules.specs.Chunks.{Chunk, chunk, held, append, save}
+use Rattle.rules.specs.Entries.{Entry, entry, insert, takes, drain}
+use Rattle.rules.specs.Chunks.{Chunk, held, append, save}
 use Rattle.rules.specs.State.{Relay}
 use Rattle.rules.specs.Maps.{remove-at}
 use Rattle.rules.proofs.Entries.{insert-in, ascending-insert, length-insert, ascending-only}

@@ -1,21 +1,17 @@
 -- map, send, deliver, drop, savemap, done, abandon, learn and reset keep a store sound.
-use mathlib.Core.Path.{_≡_, refl, sym, ap, _∙_}
-use mathlib.Core.List.{List, [], _∷_, _++_, List·Memᴰ, List·Memᴰ·append-cases, List·Memᴰ·eq-of-singleton}
-use mathlib.Core.Bool.{Bool, true, false, not, cond}
-use mathlib.Core.Logic.{_⊎_, inl, inr}
-use Prim.Native.Nat.{ℕ, zero, suc, _≤_, _<_}
+use mathlib.Core.Path.{_≡_, refl, ap}
+use mathlib.Core.List.{List, [], _∷_, _++_, List·Memᴰ·append-cases, List·Memᴰ·eq-of-singleton}
+use mathlib.Core.Bool.{true}
+use mathlib.Core.Logic.{inl, inr}
+use Prim.Native.Nat.{ℕ, _<_}
 use native.Mathlib.Omega.{arith}
-use lib.Dec.{ltb, leb, eqb}
 use lib.ListN.{length, length-append}
 use borrow.Author.Tests.{ltb-true}
-use Rattle.lists.specs.Tests.{_and_, _or_}
-use Rattle.lists.specs.Columns.{upd}
 use Rattle.lists.proofs.Tests.{either, and-l, or-second, if-so}
-use Rattle.rules.specs.Limits.{buckets, max-relays, max-number, max-waiting}
-use Rattle.rules.specs.Numbers.{bucket-of}
-use Rattle.rules.specs.Entries.{Entry, entry, look, has, remove}
-use Rattle.rules.specs.State.{State, Bucket, Relay, blank-relay, blank-bucket, with-copies}
-use Rattle.rules.specs.Parts.{up-member, bucket-no, bucket-at, primary-memory, item}
+use Rattle.rules.specs.Limits.{buckets, max-relays, max-number}
+use Rattle.rules.specs.Entries.{Entry, entry, has, remove}
+use Rattle.rules.specs.State.{State, blank-relay, blank-bucket, with-copies}
+use Rattle.rules.specs.Parts.{bucket-at, primary-memory, item}
 use Rattle.rules.specs.Question.{AllYes, is-proxy}
 use Rattle.rules.specs.Maps.{map-asks, map-effect, send-asks, new-relay, send-effect, relay-at, is-taken, deliver-asks, remove-at, deliver-effect, drop-effect}
 use Rattle.rules.specs.Maps.{savemap-asks, saved-bucket, savemap-effect, item-goes, learn-effect, reset-effect}

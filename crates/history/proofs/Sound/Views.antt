@@ -1,24 +1,22 @@
 -- view, fetch and ready keep a store sound.
-use mathlib.Core.Path.{_≡_, refl, sym, ap, _∙_}
-use mathlib.Core.List.{List, [], _∷_, List·Memᴰ}
-use mathlib.Core.Bool.{Bool, true, false, not}
-use Prim.Native.Nat.{ℕ, zero, suc, _+_, _*_, _≤_, _<_}
+use mathlib.Core.Path.{_≡_, refl, sym}
+use mathlib.Core.List.{List, [], List·Memᴰ}
+use mathlib.Core.Bool.{Bool, true}
+use Prim.Native.Nat.{ℕ, _+_, _*_, _≤_, _<_}
 use native.Mathlib.Omega.{arith}
-use lib.Dec.{ltb, eqb}
 use lib.ListN.{length, List·getD-eq-default}
 use borrow.Author.Tests.{eqb-true, ltb-true}
 use Rattle.lists.specs.Tests.{only, count-below}
-use Rattle.lists.specs.Columns.{upd}
 use Rattle.lists.proofs.Tests.{either, and-l, count-one, count-two, count-at-most, only-in}
 use Rattle.rules.specs.Limits.{buckets, max-number}
 use Rattle.rules.specs.Entries.{Entry, waits-for}
-use Rattle.rules.specs.State.{State, Bucket, blank-bucket}
+use Rattle.rules.specs.State.{State}
 use Rattle.rules.specs.Pairs.{at, ids-of}
-use Rattle.rules.specs.Parts.{up-member, is-up}
+use Rattle.rules.specs.Parts.{is-up}
 use Rattle.rules.specs.Question.{AllYes}
-use Rattle.rules.specs.Views.{view-asks, last-pairs, view-pairs, viewed-bucket, view-effect, source, fetch-asks, fetch-effect, ready-asks, dropped, ready-effect}
+use Rattle.rules.specs.Views.{view-asks, last-pairs, view-pairs, view-effect, source, fetch-asks, fetch-effect, ready-asks, dropped, ready-effect}
 use Rattle.rules.proofs.Parts.{in-ids}
-use Rattle.rules.proofs.Sound.{PairOk, KeyOf, Sound}
+use Rattle.rules.proofs.Sound.{PairOk, Sound}
 use Rattle.rules.proofs.SoundTest.{table-none, buffer-none}
 use Rattle.pairs.proofs.Facts.{pairs-length}
 use Rattle.pairs.proofs.Counts.{slots-length}

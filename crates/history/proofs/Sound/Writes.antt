@@ -1,22 +1,20 @@
 -- put, copy and savelog keep a store sound.
-use mathlib.Core.Path.{_≡_, refl, sym, ap, _∙_}
+use mathlib.Core.Path.{_≡_, refl, ap}
 use mathlib.Core.List.{List, [], _∷_, List·Memᴰ, List·Memᴰ·head, List·Memᴰ·tail}
-use mathlib.Core.Bool.{Bool, true, false, not, cond}
+use mathlib.Core.Bool.{Bool, true, false}
 use mathlib.Core.Logic.{_⊎_, inl, inr}
-use Prim.Native.Nat.{ℕ, zero, suc, _+_, _≤_, _<_}
+use Prim.Native.Nat.{ℕ, suc, _≤_, _<_}
 use native.Mathlib.Omega.{arith}
-use lib.Dec.{ltb, leb, eqb}
+use lib.Dec.{eqb}
 use lib.ListN.{length, length-append}
 use borrow.Author.Tests.{eqb-true, eq-eqb, ltb-true, leb-true}
-use Rattle.lists.specs.Tests.{_and_, _or_}
 use Rattle.lists.specs.Columns.{upd}
 use Rattle.lists.proofs.Tests.{by, by-eq, either, clash, both, or-cases, or-l, or-r, or-second}
 use Rattle.lists.proofs.Columns.{upd-same, upd-all}
-use Rattle.rules.specs.Limits.{ceiling-step}
 use Rattle.rules.specs.Numbers.{sequences, home-of}
 use Rattle.rules.specs.Entries.{takes}
-use Rattle.rules.specs.Chunks.{Chunk, chunk, held, bytes-in, save-all}
-use Rattle.rules.specs.State.{State, Bricks, set-bricks, with-log}
+use Rattle.rules.specs.Chunks.{chunk, held, bytes-in, save-all}
+use Rattle.rules.specs.State.{State, set-bricks}
 use Rattle.rules.specs.Parts.{up-member, circle}
 use Rattle.rules.specs.Question.{AllYes}
 use Rattle.rules.specs.Writes.{put-asks, new-key, raised, put-effect, other-than, target, nothing-to-copy, copy-asks, copy-effect, savelog-asks, savelog-effect}
