@@ -21,10 +21,10 @@ use Rattle.rules.specs.Sound.{sound-copies, sound-brick, alone, sound-pl
 use Rattle.rules.proofs.Sound.{EntryOk, TableOk, BufferOk, ChunkOk, LogOk, RelayOk, PairOk, KeyOf, Sound}
 
 -- ---- an implication between tests, read backwards
-pub so-not : (a b : Bool) → (a ≡ true → b ≡ true) → b ≡ false → a ≡ false
+so-not : (a b : Bool) → (a ≡ true → b ≡ true) → b ≡ false → a ≡ false
 so-not a b f n = by a (λ y. clash n (f y)) (λ z. z)
 
-pub not-so : (a b : Bool) → (b ≡ false → a ≡ false) → a ≡ true → b ≡ true
+not-so : (a b : Bool) → (b ≡ false → a ≡ false) → a ≡ true → b ≡ true
 not-so a b f y = by b (λ z. z) (λ n. clash (f n) y)
 
 -- ---- empty lists
@@ -356,8 +356,8 @@ module _ (s : State) where
       };
     }
 
-    first-id : (i : ℕ) → s .bricks .here i ≡ true → 0 < i
-    first-id i y = by-lt 0 i (λ _ l. l) (λ _ l. let e : i ≡ 0 = omega arith in clash (h .no-zero) (rw e at y))
+    here-first : (i : ℕ) → s .bricks .here i ≡ true → 0 < i
+    here-first i y = by-lt 0 i (λ _ l. l) (λ _ l. let e : i ≡ 0 = omega arith in clash (h .no-zero) (rw e at y))
 
     pub sound-facts : sound s ≡ true → Sound s
     unfolding sound
@@ -373,7 +373,7 @@ module _ (s : State) where
         let place = place-is (and-r _ _ a₄) in
         let brick : (i : ℕ) → Brick i
         = λ i. by (s .bricks .here i)
-        (λ z. let t = h .somewhere i z in rw (t .2) at (place (t .0) (omega (arith, first-id i z, t .2)) .brick)) (brick-blank i) in
+        (λ z. let t = h .somewhere i z in rw (t .2) at (place (t .0) (omega (arith, here-first i z, t .2)) .brick)) (brick-blank i) in
         record {
           limits = and-l _ _ a₈;
           bricks = record {
@@ -383,7 +383,7 @@ module _ (s : State) where
             apart = apart place;
             stands = h .stands;
             somewhere = h .somewhere;
-            first = first-id;
+            first = here-first;
             up-here = λ i. not-so _ _ (h .blank-up i);
             member-up = λ i. brick i .member;
             began-here = λ i. not-so _ _ (h .blank-began i);

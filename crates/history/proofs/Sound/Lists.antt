@@ -59,7 +59,8 @@ module _ {K P : ℕ → Type 0} {most : ℕ} where
       (λ x i. f x (List·Memᴰ·tail i))
 
 -- ---- buffers
-pub buffer-append : {K : ℕ → Type 0} {l : List Entry} (e : Entry) → BufferOk K l → length l < max-waiting → EntryOk K (λ b. Unit {0}) e → BufferOk K (l ++ (e ∷ []))
+pub buffer-append : {K : ℕ → Type 0} {l : List Entry} (e : Entry) → BufferOk K l → length l < max-waiting → EntryOk K (λ b. Unit {0}) e
+    → BufferOk K (l ++ (e ∷ []))
 buffer-append {K} {l} e v u new = record {
   room = omega (arith, length-append l (e ∷ []));
   each = λ x m. elim (List·Memᴰ·append-cases l m) [ inl o ↦ v .each x o | inr o ↦ rw (List·Memᴰ·eq-of-singleton o) new ];

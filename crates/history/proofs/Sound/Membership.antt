@@ -18,7 +18,8 @@ use Rattle.rules.specs.Chunks.{Chunk, only-saved}
 use Rattle.rules.specs.State.{State, Bucket, blank-bucket, with-copies}
 use Rattle.rules.specs.Parts.{is-empty}
 use Rattle.rules.specs.Question.{AllYes}
-use Rattle.rules.specs.Membership.{crash-asks, crashed-bucket, crash-effect, lose-asks, blank-copies, lose-effect, rise-asks, rise-effect, join-asks, join-effect}
+use Rattle.rules.specs.Membership.{crash-asks, crashed-bucket, crash-effect, lose-asks, blank-copies, lose-effect}
+use Rattle.rules.specs.Membership.{rise-asks, rise-effect, join-asks, join-effect}
 use Rattle.rules.proofs.Sound.{KeyOk, BufferOk, LogOk, NumbersOk, PairOk, KeyOf, Sound}
 use Rattle.rules.proofs.SoundTest.{table-none, buffer-none, log-none}
 use Rattle.history.proofs.Sound.Lists.{log-only}
@@ -135,8 +136,8 @@ module _ {s : State} (v : Sound s) where
         started = v .started;
         logs = one-log logs x here (log-only (logs .each x) _) (omega (arith, length-only (λ (c : Chunk). c .saved) (k .log x), v .log-room x));
         buffers = blank-buffers x false (buffers-map (g .buffers) more);
-        bucket = all-buckets (buckets-map (g .bucket) more) (crashed-bucket x) (ap (λ (m : ℕ → List Entry). with-copies blank-bucket m (λ i. [])) (upd-blank [] x))
-            (λ g o. new-copies o (crashed-copies x here (copies o)));
+        bucket = all-buckets (buckets-map (g .bucket) more) (crashed-bucket x)
+            (ap (λ (m : ℕ → List Entry). with-copies blank-bucket m (λ i. [])) (upd-blank [] x)) (λ g o. new-copies o (crashed-copies x here (copies o)));
         bag = bag-map (g .bag) more;
         items = items-map (g .items) more;
         known = g .known;

@@ -22,7 +22,8 @@ use Rattle.pairs.proofs.Facts.{pairs-length}
 use Rattle.pairs.proofs.Counts.{slots-length}
 use Rattle.pairs.proofs.Members.{two-members, PairOf, pair-at}
 use Rattle.history.proofs.Sound.Lists.{table-drain, buffer-only}
-use Rattle.history.proofs.Sound.Groups.{one-buffer, CopyOk, CopiesOk, one-memory, one-disk, copies, bucket-ok, one-bucket, groups, from-groups, new-parts, member-here}
+use Rattle.history.proofs.Sound.Groups.{one-buffer, CopyOk, CopiesOk, one-memory, one-disk, copies, bucket-ok, one-bucket}
+use Rattle.history.proofs.Sound.Groups.{groups, from-groups, new-parts, member-here}
 
 -- ids that the pairs give a bucket are given
 pub pair-ok : {most x y : ℕ} {f : ℕ → Bool} → PairOf most f x y → PairOk most x y
@@ -51,7 +52,8 @@ module _ {s : State} (v : Sound s) where
   last-length = slots-length _ _ _
 
   -- the pair of each bucket: two different bricks are up
-  view-pair : AllYes (view-asks s) → (g : ℕ) → g < buckets (s .settings) → PairOf (s .given) (s .bricks .up) (at (view-pairs s) (2 * g)) (at (view-pairs s) (2 * g + 1))
+  view-pair : AllYes (view-asks s) → (g : ℕ) → g < buckets (s .settings)
+      → PairOf (s .given) (s .bricks .up) (at (view-pairs s) (2 * g)) (at (view-pairs s) (2 * g + 1))
   unfolding view-pairs
   view-pair y g l =
       let n = s .settings .places in
@@ -121,7 +123,8 @@ module _ {s : State} (v : Sound s) where
       let new = f .memory (source s g) in
       let c = one-disk (one-memory (copies f) x here up new) x here up new in
       let o = groups v in
-      new-parts v (o .logs) (o .buffers) (one-bucket (o .bucket) g inside (bucket-ok (f .pair) (f .last) (f .order) (f .taken) c)) (o .bag) (o .items) (o .known)
+      let bucket = one-bucket (o .bucket) g inside (bucket-ok (f .pair) (f .last) (f .order) (f .taken) c) in
+      new-parts v (o .logs) (o .buffers) bucket (o .bag) (o .items) (o .known)
 
   -- ---- ready
   pub ready-sound : (g : ℕ) → AllYes (ready-asks s g) → Sound (ready-effect s g)
@@ -145,5 +148,5 @@ module _ {s : State} (v : Sound s) where
       let backup = one-disk (one-memory (dropped-ok (copies f)) z zh zu (f .memory x)) z zh zu (f .memory x) in
       let c = one-disk (one-memory backup x xh xu drained) x xh xu (f .disk x) in
       let o = groups v in
-      new-parts v (o .logs) (one-buffer (o .buffers) x xu (buffer-only _ (v .buffers x)))
-      (one-bucket (o .bucket) g inside (bucket-ok (f .pair) (f .pair) (f .order) (f .taken) c)) (o .bag) (o .items) (o .known)
+      let bucket = one-bucket (o .bucket) g inside (bucket-ok (f .pair) (f .pair) (f .order) (f .taken) c) in
+      new-parts v (o .logs) (one-buffer (o .buffers) x xu (buffer-only _ (v .buffers x))) bucket (o .bag) (o .items) (o .known)

@@ -121,7 +121,8 @@ other-in h (i ∷ l) =
 
 module _ {s : State} (v : Sound s) where
   -- a chunk that is held somewhere, put elsewhere
-  pub held-ok : (x k : ℕ) (saved : Bool) → held (s .bricks .log x) k ≡ true → ChunkOk (KeyOf s) (s .settings .size) (chunk k saved (bytes-in (s .bricks .log x) k))
+  pub held-ok : (x k : ℕ) (saved : Bool) → held (s .bricks .log x) k ≡ true
+      → ChunkOk (KeyOf s) (s .settings .size) (chunk k saved (bytes-in (s .bricks .log x) k))
   held-ok x k saved y =
       let t = held-in (s .bricks .log x) k y in
       let u = v .logs x .each (t .0) (t .1) in
