@@ -19,9 +19,9 @@ use Rattle.rules.specs.Reads.{zeros, get-bytes}
 use Rattle.rules.specs.Membership.{crash-effect, lose-effect, rise-effect, join-effect}
 use Rattle.rules.specs.Views.{last-pairs, view-pairs, view-effect, source, fetch-effect, dropped, ready-effect}
 use Rattle.rules.specs.Upkeep.{of-first-two, mend-key, mend-keys, mend-buckets, mend-effect, is-named, collect-effect}
-use Rattle.rules.specs.Step.{rule, step}
+use Rattle.rules.specs.Step.{rule, step, after-all}
 use Rattle.rules.specs.Whole.{saved-twice, whole}
-use Rattle.rules.specs.Examples.{after, pairs-in, last-of, value, same-numbers, all-right, a1, b2, again, marked, slips}
+use Rattle.rules.specs.Examples.{pairs-in, last-of, value, same-numbers, all-right, a1, b2, again, marked, slips}
 
 unfoldable lists-open : ℕ
 unfolding _and_ _or_ all-below some-below count-below every some only upd
@@ -41,11 +41,11 @@ events-open = 0
 
 -- to unfold this is to unfold all the rules
 unfoldable pub rules-open : ℕ
-unfolding parts-open pairs-open events-open first-no rule step saved-twice whole
+unfolding parts-open pairs-open events-open first-no rule step after-all saved-twice whole
 rules-open = 0
 
 unfoldable tables-open : ℕ
-unfolding rules-open after pairs-in last-of value same-numbers all-right a1 b2 again
+unfolding rules-open pairs-in last-of value same-numbers all-right a1 b2 again
 tables-open = 0
 
 pub marked-right : all-right marked ≡ true

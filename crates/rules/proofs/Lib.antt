@@ -4,4 +4,5 @@ pub mod Chunks
 pub mod Parts
 pub mod Step
 pub mod Sound
+pub mod SoundTest
 pub mod Examples

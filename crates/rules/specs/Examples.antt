@@ -12,7 +12,7 @@ use Rattle.rules.specs.Numbers.{bucket-of, key-of}
 use Rattle.rules.specs.Event.{Event}
 use Rattle.rules.specs.State.{State}
 use Rattle.rules.specs.Format.{format}
-use Rattle.rules.specs.Step.{step}
+use Rattle.rules.specs.Step.{step, after-all}
 use Rattle.rules.specs.Whole.{whole}
 
 pub data Asked : Type 0 where
@@ -27,10 +27,6 @@ pub data Asked : Type 0 where
   -- 1 where the store is whole
   is-whole : Settings → List Event → Asked
 
-unfoldable pub after : State → List Event → State
-after s [] = s
-after s (e ∷ es) = after (step s e .after) es
-
 unfoldable pub pairs-in : State → List ℕ → List ℕ
 pairs-in s [] = []
 pairs-in s (g ∷ l) = s .bucket g .primary ∷ s .bucket g .backup ∷ pairs-in s l
@@ -43,9 +39,9 @@ last-of s (e ∷ f ∷ es) = last-of (step s e .after) (f ∷ es)
 unfoldable pub value : Asked → List ℕ
 value (format-code c) = cond (in-limits c) 0 1 ∷ []
 value (bucket c b) = bucket-of (buckets c) b ∷ []
-value (pairs-after c es l) = pairs-in (after (format c) es) l
+value (pairs-after c es l) = pairs-in (after-all (format c) es) l
 value (last-answer c es) = last-of (format c) es
-value (is-whole c es) = cond (whole (after (format c) es)) 1 0 ∷ []
+value (is-whole c es) = cond (whole (after-all (format c) es)) 1 0 ∷ []
 
 pub record Row : Type 0 where
   pub asked : Asked

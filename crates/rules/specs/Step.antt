@@ -67,3 +67,8 @@ finish s r (suc c) = record { code = suc c; said = only-key 0; after = s }
 
 unfoldable pub step : State → Event → Outcome
 step s e = finish s (rule s e) (first-no (rule s e .questions))
+
+-- the store that a list of events leaves
+unfoldable pub after-all : State → List Event → State
+after-all s [] = s
+after-all s (e ∷ es) = after-all (step s e .after) es

@@ -1,0 +1,158 @@
+-- put, copy and savelog keep a store sound.
+use mathlib.Core.Path.{_≡_, refl, ap}
+use mathlib.Core.List.{List, [], _∷_, List·Memᴰ, List·Memᴰ·head, List·Memᴰ·tail}
+use mathlib.Core.Bool.{Bool, true, false}
+use mathlib.Core.Logic.{_⊎_, inl, inr}
+use Prim.Native.Nat.{ℕ, suc, _≤_, _<_}
+use native.Mathlib.Omega.{arith}
+use lib.Dec.{eqb}
+use lib.ListN.{length, length-append}
+use borrow.Author.Tests.{eqb-true, eq-eqb, ltb-true, leb-true}
+use Rattle.lists.specs.Columns.{upd}
+use Rattle.lists.proofs.Tests.{by, by-eq, either, clash, both, or-cases, or-l, or-r, or-second}
+use Rattle.lists.proofs.Columns.{upd-same, upd-all}
+use Rattle.rules.specs.Numbers.{sequences, home-of}
+use Rattle.rules.specs.Entries.{takes}
+use Rattle.rules.specs.Chunks.{chunk, held, bytes-in, save-all}
+use Rattle.rules.specs.State.{State, set-bricks}
+use Rattle.rules.specs.Parts.{up-member, circle}
+use Rattle.rules.specs.Question.{AllYes}
+use Rattle.rules.specs.Writes.{put-asks, new-key, raised, put-effect, other-than, target, nothing-to-copy, copy-asks, copy-effect, savelog-asks, savelog-effect}
+use Rattle.rules.proofs.Chunks.{held-in, length-save}
+use Rattle.rules.proofs.Parts.{ids-in, home-key, sequence-key, circle-in}
+use Rattle.rules.proofs.Sound.{KeyOk, ChunkOk, KeyOf, Sound}
+use Rattle.history.proofs.Sound.Lists.{table-insert, log-append, log-save}
+use Rattle.history.proofs.Sound.Groups.{upd-up, next-grows, logs-map, one-log, buffers-map, buckets-map, bag-map, items-map, one-items}
+use Rattle.history.proofs.Sound.Groups.{groups, from-groups, member-here, log-sound}
+
+-- ---- put
+module _ (s : State) (v : Sound s) (p i b : ℕ) (d : List ℕ) (y : AllYes (put-asks s p i b d)) where
+  abbrev x : ℕ
+  x = s .ids i
+
+  abbrev next : ℕ
+  next = s .bricks .next x
+
+  abbrev ceiling : ℕ
+  ceiling = s .bricks .ceiling x
+
+  abbrev New : ℕ → Type 0
+  New = KeyOk (s .given) (s .bricks .here) (upd (s .bricks .next) x (suc next))
+
+  x-here : s .bricks .here x ≡ true
+  x-here = member-here v x (y .1 .1 .1 .1 .1 .0)
+
+  next-inside : next < sequences
+  next-inside =
+      elim (or-cases _ _ (y .1 .1 .1 .1 .1 .1 .1 .1 .1 .0)) [
+        | inl e ↦ omega (arith, ltb-true, v .numbers .most x)
+        | inr e ↦ omega (arith, leb-true, v .numbers .below x)
+      ]
+
+  raised-most : raised next ceiling ≤ sequences
+  unfolding raised
+  raised-most =
+      by-eq next ceiling
+      (λ q e. rw q (elim (or-cases _ _ (y .1 .1 .1 .1 .1 .1 .1 .1 .1 .0)) [ inl z ↦ absurd (omega (arith, ltb-true)) | inr z ↦ leb-true _ _ z ]))
+      (λ q e. rw q (v .numbers .most x))
+
+  raised-below : (j : ℕ) → upd (s .bricks .next) x (suc next) j ≤ upd (s .bricks .ceiling) x (raised next ceiling) j
+  unfolding raised upd
+  raised-below j =
+      by-eq j x (λ q e. rw q (by-eq next ceiling (λ t z. rw t (omega arith)) (λ t z. rw t (omega (arith, v .numbers .below x)))))
+      (λ q _. rw q (v .numbers .below j))
+
+  key-new : New (new-key s x)
+  key-new = record {
+    home = omega (arith, home-key x next next-inside, v .bricks .first x x-here);
+    born = omega (arith, home-key x next next-inside, v .bricks .born i);
+    used = λ _. rw (home-key x next next-inside, upd-same (s .bricks .next) x (suc next)) (omega (arith, sequence-key x next next-inside));
+  }
+
+  -- the new key is at its brick's next, so its log doesn't hold it
+  key-unheld : held (s .bricks .log x) (new-key s x) ≡ false
+  key-unheld =
+      by (held (s .bricks .log x) (new-key s x))
+      (λ z.
+      let t = held-in (s .bricks .log x) (new-key s x) z in
+      let u : KeyOf s (new-key s x) = rw (t .2) at (v .logs x .each (t .0) (t .1) .key) in
+      let h = home-key x next next-inside in
+      absurd (omega (arith, u .used (rw h x-here), ap (s .bricks .next) h, sequence-key x next next-inside)))
+      (λ z. z)
+
+  pub put-sound : Sound (put-effect s p x b d)
+  unfolding put-effect takes
+  put-sound =
+      let k = s .bricks in
+      let g = groups v in
+      let room : length (k .log x) < s .settings .chunks = ltb-true _ _ (y .1 .1 .1 .1 .1 .1 .1 .1 .0) in
+      let more : (j : ℕ) → KeyOf s j → New j = λ j. next-grows x (suc next) (omega arith) in
+      let logs = logs-map (g .logs) more in
+      let items = items-map (g .items) more in
+      from-groups (record {
+        limits = v .limits;
+        bricks = v .bricks;
+        numbers = record {
+          below = raised-below;
+          most = upd-all (λ _ m. m ≤ sequences) (k .ceiling) x _ (v .numbers .most) raised-most;
+          blank-next = upd-up (k .here) (λ _ m. m ≡ 0) (k .next) x _ x-here (v .numbers .blank-next);
+          blank-ceiling = upd-up (k .here) (λ _ m. m ≡ 0) (k .ceiling) x _ x-here (v .numbers .blank-ceiling);
+        };
+        view-first = v .view-first;
+        view-last = v .view-last;
+        started = v .started;
+        logs = one-log logs x x-here (log-append (logs .each x) _ key-unheld (record { key = key-new; bytes = y .1 .1 .1 .0 }))
+            (omega (arith, length-append (k .log x) (chunk (new-key s x) false d ∷ [])));
+        buffers = buffers-map (g .buffers) more;
+        bucket = buckets-map (g .bucket) more;
+        bag = bag-map (g .bag) more;
+        items = one-items items p (ltb-true _ _ (y .0)) (table-insert b _ (items .each p) (or-r _ _ (y .1 .1 .1 .1 .1 .1 .1 .0))
+            (record { mine = eqb-true _ _ (y .1 .1 .1 .1 .0); small = ltb-true _ _ (y .1 .1 .0); key = key-new }));
+        known = g .known;
+      })
+
+-- ---- copy, savelog
+other-in : (h : ℕ) (l : List ℕ) → (other-than h l ≡ 0) ⊎ List·Memᴰ (other-than h l) l
+unfolding other-than
+other-in h [] = inl refl
+other-in h (i ∷ l) =
+    either (λ z. (z ≡ 0) ⊎ List·Memᴰ z (i ∷ l)) (eqb i h) (λ _. elim (other-in h l) [ inl e ↦ inl e | inr m ↦ inr (List·Memᴰ·tail m) ])
+    (λ _. inr (List·Memᴰ·head refl))
+
+module _ {s : State} (v : Sound s) where
+  -- a chunk that is held somewhere, put elsewhere
+  pub held-ok : (x k : ℕ) (saved : Bool) → held (s .bricks .log x) k ≡ true
+      → ChunkOk (KeyOf s) (s .settings .size) (chunk k saved (bytes-in (s .bricks .log x) k))
+  held-ok x k saved y =
+      let t = held-in (s .bricks .log x) k y in
+      let u = v .logs x .each (t .0) (t .1) in
+      record { key = rw (t .2) at (u .key); bytes = rw (t .3) (u .bytes) }
+
+  -- where there is a target, it is an up member
+  target-up : (k : ℕ) → (target s k ≡ 0) ⊎ (up-member s (target s k) ≡ true)
+  unfolding target
+  target-up k =
+      elim (other-in (home-of k) (circle s (home-of k))) [
+        | inl e ↦ inl e
+        | inr m ↦ let y = ids-in _ _ _ (circle-in s (home-of k) _ m) .2 in inr (both _ _ (v .bricks .member-up _ y) y)
+      ]
+
+  pub copy-sound : (k : ℕ) → AllYes (copy-asks s k) → Sound (copy-effect s k)
+  unfolding copy-effect
+  copy-sound k y =
+      let t = target s k in
+      let l = s .bricks .log t in
+      let new = chunk k false (bytes-in (s .bricks .log (home-of k)) k) in
+      either (λ b. Sound (set-bricks s b)) (nothing-to-copy s k) (λ _. v)
+      (λ q.
+      let unheld : held l k ≡ false = by (held l k) (λ z. clash q (or-r _ _ z)) (λ z. z) in
+      let up : up-member s t ≡ true = elim (target-up k) [ inl e ↦ clash q (or-l _ _ (eq-eqb t 0 e)) | inr z ↦ z ] in
+      let room : length l < s .settings .chunks = ltb-true _ _ (or-second _ _ (y .1 .1 .0) q) in
+      log-sound v t up (log-append (v .logs t) new unheld (held-ok (home-of k) k false (y .1 .1 .1 .0)))
+      (omega (arith, length-append l (new ∷ []))))
+
+  pub savelog-sound : (i : ℕ) → AllYes (savelog-asks s i) → Sound (savelog-effect s (s .ids i))
+  unfolding savelog-effect save-all
+  savelog-sound i y =
+      let x = s .ids i in
+      log-sound v x (y .1 .0) (log-save (v .logs x) (λ k. true)) (omega (arith, length-save (λ k. true) (s .bricks .log x), v .log-room x))
