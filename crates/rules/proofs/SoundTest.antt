@@ -60,11 +60,11 @@ pub same-entries-test : (l m : List Entry) → (same-entries l m ≡ true) ↔ (
 same-entries-test l m = (equal-lists l m, λ e. subst (λ (k : List Entry). same-entries l k ≡ true) e (lists-same l))
 
 module _ (s : State) where
-  abbrev K : ℕ → Type 0
-  K = KeyOf s
+  abbrev Key : ℕ → Type 0
+  Key = KeyOf s
 
   -- ---- keys, entries, lists
-  key-test : (k : ℕ) → (sound-key s k ≡ true) ↔ K k
+  key-test : (k : ℕ) → (sound-key s k ≡ true) ↔ Key k
   unfolding sound-key
   key-test k = (
     λ y. record {
@@ -76,27 +76,27 @@ module _ (s : State) where
   )
 
   module _ (mine : ℕ → Bool) (P : ℕ → Type 0) (same : (b : ℕ) → (mine b ≡ true) ↔ P b) where
-    entry-test : (e : Entry) → (sound-entry s mine e ≡ true) ↔ EntryOk K P e
+    entry-test : (e : Entry) → (sound-entry s mine e ≡ true) ↔ EntryOk Key P e
     unfolding sound-entry
     entry-test e = (
       λ y. record { mine = same _ .0 (and-l _ _ (and-l _ _ y)); small = ltb-true _ _ (and-r _ _ (and-l _ _ y)); key = key-test _ .0 (and-r _ _ y) },
       λ v. both _ _ (both _ _ (same _ .1 (v .mine)) (lt-ltb _ _ (v .small))) (key-test _ .1 (v .key)),
     )
 
-    entries-test : (l : List Entry) → (every (sound-entry s mine) l ≡ true) ↔ ((e : Entry) → List·Memᴰ e l → EntryOk K P e)
+    entries-test : (l : List Entry) → (every (sound-entry s mine) l ≡ true) ↔ ((e : Entry) → List·Memᴰ e l → EntryOk Key P e)
     entries-test l = (
       λ y e i. entry-test e .0 (every-in (sound-entry s mine) l y e i),
       λ f. every-of (sound-entry s mine) l (λ e i. entry-test e .1 (f e i)),
     )
 
-    table-test : (most : ℕ) (l : List Entry) → (sound-table s mine most l ≡ true) ↔ TableOk K P most l
+    table-test : (most : ℕ) (l : List Entry) → (sound-table s mine most l ≡ true) ↔ TableOk Key P most l
     unfolding sound-table
     table-test most l = (
       λ y. record { sorted = and-l _ _ (and-l _ _ y); room = leb-true _ _ (and-r _ _ (and-l _ _ y)); each = entries-test l .0 (and-r _ _ y) },
       λ v. both _ _ (both _ _ (v .sorted) (le-leb _ _ (v .room))) (entries-test l .1 (v .each)),
     )
 
-  buffer-test : (l : List Entry) → (sound-buffer s l ≡ true) ↔ BufferOk K l
+  buffer-test : (l : List Entry) → (sound-buffer s l ≡ true) ↔ BufferOk Key l
   unfolding sound-buffer
   buffer-test l =
       let each = entries-test (λ b. true) (λ b. Unit {0}) (λ b. (λ _. tt, λ _. refl)) l in (
@@ -104,11 +104,11 @@ module _ (s : State) where
         λ v. both _ _ (le-leb _ _ (v .room)) (each .1 (v .each)),
       )
 
-  chunk-test : (c : Chunk) → (sound-chunk s c ≡ true) ↔ ChunkOk K (s .settings .size) c
+  chunk-test : (c : Chunk) → (sound-chunk s c ≡ true) ↔ ChunkOk Key (s .settings .size) c
   unfolding sound-chunk
   chunk-test c = (λ y. record { key = key-test _ .0 (and-l _ _ y); bytes = and-r _ _ y }, λ v. both _ _ (key-test _ .1 (v .key)) (v .bytes))
 
-  log-test : (l : List Chunk) → (sound-log s l ≡ true) ↔ (LogOk K (s .settings .size) l × (length l ≤ s .settings .chunks))
+  log-test : (l : List Chunk) → (sound-log s l ≡ true) ↔ (LogOk Key (s .settings .size) l × (length l ≤ s .settings .chunks))
   unfolding sound-log
   log-test l = (
     λ y. (
@@ -119,7 +119,7 @@ module _ (s : State) where
   )
 
   -- ---- relays, pairs, buckets
-  relay-test : (r : Relay) → (sound-relay s r ≡ true) ↔ RelayOk K (buckets (s .settings)) r
+  relay-test : (r : Relay) → (sound-relay s r ≡ true) ↔ RelayOk Key (buckets (s .settings)) r
   unfolding sound-relay in-bucket
   relay-test r = (
     λ y.
@@ -182,7 +182,7 @@ module _ (s : State) where
   -- ---- proxies
   record Proxy (p : ℕ) : Type 0 where
     known : s .known p ≤ max-number
-    items : TableOk K (λ b. proxy-of b ≡ p) max-items (s .items p)
+    items : TableOk Key (λ b. proxy-of b ≡ p) max-items (s .items p)
 
   proxy-test : (p : ℕ) → (sound-proxy s p ≡ true) ↔ Proxy p
   unfolding sound-proxy
@@ -194,7 +194,7 @@ module _ (s : State) where
 
   -- ---- bricks
   abbrev Copy : ℕ → List Entry → Type 0
-  Copy g l = TableOk K (λ b. bucket-of (buckets (s .settings)) b ≡ g) (s .settings .entries) l
+  Copy g l = TableOk Key (λ b. bucket-of (buckets (s .settings)) b ≡ g) (s .settings .entries) l
 
   record Copies (i g : ℕ) : Type 0 where
     memory : Copy g (s .bucket g .memory i)
@@ -221,9 +221,9 @@ module _ (s : State) where
     member : s .bricks .member i ≡ true → s .bricks .up i ≡ true
     below : s .bricks .next i ≤ s .bricks .ceiling i
     most : s .bricks .ceiling i ≤ sequences
-    log : LogOk K (s .settings .size) (s .bricks .log i)
+    log : LogOk Key (s .settings .size) (s .bricks .log i)
     log-room : length (s .bricks .log i) ≤ s .settings .chunks
-    buffer : BufferOk K (s .bricks .buffer i)
+    buffer : BufferOk Key (s .bricks .buffer i)
     buffer-down : s .bricks .up i ≡ false → s .bricks .buffer i ≡ []
     copies : (g : ℕ) → g < buckets (s .settings) → Copies i g
 

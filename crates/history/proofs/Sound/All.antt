@@ -22,7 +22,7 @@ pub use Rattle.history.proofs.Sound.Format.{format-sound}
 -- an accepted event
 pub sound-kept : (s : State) (e : Event) → Sound s → Yes s e → Sound (rule s e .after)
 unfolding rule
-sound-kept s (Event.put p i b d) v y = put-sound s v p i b d y
+sound-kept s (Event.put p i b d) v y = put-sound v p i b d y
 sound-kept s (Event.copy k) v y = copy-sound v k y
 sound-kept s (Event.savelog i) v y = savelog-sound v i y
 sound-kept s (Event.map p b) v y = map-sound v p b y

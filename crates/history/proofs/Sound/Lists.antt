@@ -15,8 +15,12 @@ use Rattle.rules.specs.Chunks.{Chunk, held, append, save}
 use Rattle.rules.specs.State.{Relay}
 use Rattle.rules.specs.Maps.{remove-at}
 use Rattle.rules.proofs.Entries.{insert-in, ascending-insert, length-insert, ascending-only}
-use Rattle.rules.proofs.Chunks.{append-in, append-apart, save-from, apart-save, apart-only}
+use Rattle.rules.proofs.Chunks.{append-apart, save-from, apart-save, apart-only}
 use Rattle.rules.proofs.Sound.{EntryOk, TableOk, BufferOk, ChunkOk, LogOk, RelayOk}
+
+-- ---- what holds of each element, with one more
+pub one-more : {A : Type 0} {P : A → Type 0} (l : List A) {x : A} → ((y : A) → List·Memᴰ y l → P y) → P x → (y : A) → List·Memᴰ y (l ++ (x ∷ [])) → P y
+one-more l h p y m = elim (List·Memᴰ·append-cases l m) [ inl o ↦ h y o | inr o ↦ rw (List·Memᴰ·eq-of-singleton o) p ]
 
 -- ---- what is asked of keys may be weakened
 module _ {K L : ℕ → Type 0} (f : (k : ℕ) → K k → L k) where
@@ -63,7 +67,7 @@ pub buffer-append : {K : ℕ → Type 0} {l : List Entry} (e : Entry) → Buffer
     → BufferOk K (l ++ (e ∷ []))
 buffer-append {K} {l} e v u new = record {
   room = omega (arith, length-append l (e ∷ []));
-  each = λ x m. elim (List·Memᴰ·append-cases l m) [ inl o ↦ v .each x o | inr o ↦ rw (List·Memᴰ·eq-of-singleton o) new ];
+  each = one-more l (v .each) new;
 }
 
 pub buffer-only : {K : ℕ → Type 0} {l : List Entry} (test : Entry → Bool) → BufferOk K l → BufferOk K (only test l)
@@ -72,10 +76,7 @@ buffer-only {K} {l} test v = record { room = omega (arith, length-only test l, v
 -- ---- logs
 module _ {K : ℕ → Type 0} {size : ℕ} {l : List Chunk} (v : LogOk K size l) where
   pub log-append : (c : Chunk) → held l (c .key) ≡ false → ChunkOk K size c → LogOk K size (append l c)
-  log-append c n new = record {
-    apart = append-apart l c (v .apart) n;
-    each = λ d m. elim (append-in l c m) [ inl o ↦ v .each d o | inr e ↦ rw e new ];
-  }
+  log-append c n new = record { apart = append-apart l c (v .apart) n; each = one-more l (v .each) new }
 
   pub log-save : (test : ℕ → Bool) → LogOk K size (map (save test) l)
   log-save test = record {

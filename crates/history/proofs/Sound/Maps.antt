@@ -1,8 +1,7 @@
 -- map, send, deliver, drop, savemap, done, abandon, learn and reset keep a store sound.
 use mathlib.Core.Path.{_≡_, refl, ap}
-use mathlib.Core.List.{List, [], _∷_, _++_, List·Memᴰ·append-cases, List·Memᴰ·eq-of-singleton}
+use mathlib.Core.List.{List, [], _∷_, _++_}
 use mathlib.Core.Bool.{true}
-use mathlib.Core.Logic.{inl, inr}
 use Prim.Native.Nat.{ℕ, _<_}
 use native.Mathlib.Omega.{arith}
 use lib.ListN.{length, length-append}
@@ -19,7 +18,7 @@ use Rattle.rules.proofs.Entries.{has-entry}
 use Rattle.rules.proofs.Parts.{bucket-below}
 use Rattle.rules.proofs.Sound.{EntryOk, RelayOk, KeyOf, Sound}
 use Rattle.rules.proofs.SoundTest.{table-none}
-use Rattle.history.proofs.Sound.Lists.{table-insert, table-only, buffer-append, getD-in, remove-at-in, length-remove-at}
+use Rattle.history.proofs.Sound.Lists.{one-more, table-insert, table-only, buffer-append, getD-in, remove-at-in, length-remove-at}
 use Rattle.history.proofs.Sound.Groups.{upd-blank, one-buffer, one-memory, one-disk, copies, bucket-ok, new-copies, one-bucket, all-buckets, BagOk}
 use Rattle.history.proofs.Sound.Groups.{one-items, one-known, groups, new-parts, member-here}
 
@@ -67,7 +66,7 @@ module _ {s : State} (v : Sound s) where
       let bag : BagOk (KeyOf s) (buckets (s .settings)) (s .bag ++ (new-relay s b ∷ []))
       = record {
         room = omega (arith, length-append (s .bag) (new-relay s b ∷ []));
-        each = λ r m. elim (List·Memᴰ·append-cases (s .bag) m) [ inl o ↦ v .relays r o | inr o ↦ rw (List·Memᴰ·eq-of-singleton o) new ];
+        each = one-more (s .bag) (v .relays) new;
       } in
       let g = groups v in
       new-parts v (g .logs) (g .buffers) (one-bucket (g .bucket) _ inside (bucket-ok (f .pair) (f .last) few (f .taken) (copies f))) bag (g .items) (g .known)
@@ -81,7 +80,7 @@ module _ {s : State} (v : Sound s) where
   drop-sound n = let g = groups v in new-parts v (g .logs) (g .buffers) (g .bucket) (fewer n) (g .items) (g .known)
 
   pub deliver-sound : (n : ℕ) → AllYes (deliver-asks s n) → Sound (deliver-effect s n)
-  unfolding deliver-effect
+  unfolding deliver-effect drop-effect
   deliver-sound n y =
       let r = relay-at s n in
       let k = s .bucket (r .bucket) in
@@ -98,7 +97,7 @@ module _ {s : State} (v : Sound s) where
       let memory = one-memory (copies f) x (member-here v x up) (and-l _ _ up) new in
       let bucket = one-bucket (g .bucket) (r .bucket) inside (bucket-ok (f .pair) (f .last) (f .order) (o .order) memory) in
       new-parts v (g .logs) (g .buffers) bucket (fewer n) (g .items) (g .known))
-      (λ _. new-parts v (g .logs) (g .buffers) (g .bucket) (fewer n) (g .items) (g .known))
+      (λ _. drop-sound n)
 
   -- ---- savemap
   pub savemap-sound : (i : ℕ) → AllYes (savemap-asks s i) → Sound (savemap-effect s (s .ids i))

@@ -26,27 +26,27 @@ use Rattle.history.proofs.Sound.Groups.{upd-up, next-grows, logs-map, o
 use Rattle.history.proofs.Sound.Groups.{groups, from-groups, member-here, log-sound}
 
 -- ---- put
-module _ (s : State) (v : Sound s) (p i b : ℕ) (d : List ℕ) (y : AllYes (put-asks s p i b d)) where
-  abbrev x : ℕ
-  x = s .ids i
+module _ {s : State} (v : Sound s) (p i b : ℕ) (d : List ℕ) (y : AllYes (put-asks s p i b d)) where
+  abbrev brick : ℕ
+  brick = s .ids i
 
   abbrev next : ℕ
-  next = s .bricks .next x
+  next = s .bricks .next brick
 
   abbrev ceiling : ℕ
-  ceiling = s .bricks .ceiling x
+  ceiling = s .bricks .ceiling brick
 
   abbrev New : ℕ → Type 0
-  New = KeyOk (s .given) (s .bricks .here) (upd (s .bricks .next) x (suc next))
+  New = KeyOk (s .given) (s .bricks .here) (upd (s .bricks .next) brick (suc next))
 
-  x-here : s .bricks .here x ≡ true
-  x-here = member-here v x (y .1 .1 .1 .1 .1 .0)
+  brick-here : s .bricks .here brick ≡ true
+  brick-here = member-here v brick (y .1 .1 .1 .1 .1 .0)
 
   next-inside : next < sequences
   next-inside =
       elim (or-cases _ _ (y .1 .1 .1 .1 .1 .1 .1 .1 .1 .0)) [
-        | inl e ↦ omega (arith, ltb-true, v .numbers .most x)
-        | inr e ↦ omega (arith, leb-true, v .numbers .below x)
+        | inl e ↦ omega (arith, ltb-true, v .numbers .most brick)
+        | inr e ↦ omega (arith, leb-true, v .numbers .below brick)
       ]
 
   raised-most : raised next ceiling ≤ sequences
@@ -54,39 +54,39 @@ module _ (s : State) (v : Sound s) (p i b : ℕ) (d : List ℕ) (y : AllYes (put
   raised-most =
       by-eq next ceiling
       (λ q e. rw q (elim (or-cases _ _ (y .1 .1 .1 .1 .1 .1 .1 .1 .1 .0)) [ inl z ↦ absurd (omega (arith, ltb-true)) | inr z ↦ leb-true _ _ z ]))
-      (λ q e. rw q (v .numbers .most x))
+      (λ q e. rw q (v .numbers .most brick))
 
-  raised-below : (j : ℕ) → upd (s .bricks .next) x (suc next) j ≤ upd (s .bricks .ceiling) x (raised next ceiling) j
+  raised-below : (j : ℕ) → upd (s .bricks .next) brick (suc next) j ≤ upd (s .bricks .ceiling) brick (raised next ceiling) j
   unfolding raised upd
   raised-below j =
-      by-eq j x (λ q e. rw q (by-eq next ceiling (λ t z. rw t (omega arith)) (λ t z. rw t (omega (arith, v .numbers .below x)))))
+      by-eq j brick (λ q e. rw q (by-eq next ceiling (λ t z. rw t (omega arith)) (λ t z. rw t (omega (arith, v .numbers .below brick)))))
       (λ q _. rw q (v .numbers .below j))
 
-  key-new : New (new-key s x)
+  key-new : New (new-key s brick)
   key-new = record {
-    home = omega (arith, home-key x next next-inside, v .bricks .first x x-here);
-    born = omega (arith, home-key x next next-inside, v .bricks .born i);
-    used = λ _. rw (home-key x next next-inside, upd-same (s .bricks .next) x (suc next)) (omega (arith, sequence-key x next next-inside));
+    home = omega (arith, home-key brick next next-inside, v .bricks .first brick brick-here);
+    born = omega (arith, home-key brick next next-inside, v .bricks .born i);
+    used = λ _. rw (home-key brick next next-inside, upd-same (s .bricks .next) brick (suc next)) (omega (arith, sequence-key brick next next-inside));
   }
 
   -- the new key is at its brick's next, so its log doesn't hold it
-  key-unheld : held (s .bricks .log x) (new-key s x) ≡ false
+  key-unheld : held (s .bricks .log brick) (new-key s brick) ≡ false
   key-unheld =
-      by (held (s .bricks .log x) (new-key s x))
+      by (held (s .bricks .log brick) (new-key s brick))
       (λ z.
-      let t = held-in (s .bricks .log x) (new-key s x) z in
-      let u : KeyOf s (new-key s x) = rw (t .2) at (v .logs x .each (t .0) (t .1) .key) in
-      let h = home-key x next next-inside in
-      absurd (omega (arith, u .used (rw h x-here), ap (s .bricks .next) h, sequence-key x next next-inside)))
+      let t = held-in (s .bricks .log brick) (new-key s brick) z in
+      let u : KeyOf s (new-key s brick) = rw (t .2) at (v .logs brick .each (t .0) (t .1) .key) in
+      let h = home-key brick next next-inside in
+      absurd (omega (arith, u .used (rw h brick-here), ap (s .bricks .next) h, sequence-key brick next next-inside)))
       (λ z. z)
 
-  pub put-sound : Sound (put-effect s p x b d)
+  pub put-sound : Sound (put-effect s p brick b d)
   unfolding put-effect takes
   put-sound =
       let k = s .bricks in
       let g = groups v in
-      let room : length (k .log x) < s .settings .chunks = ltb-true _ _ (y .1 .1 .1 .1 .1 .1 .1 .1 .0) in
-      let more : (j : ℕ) → KeyOf s j → New j = λ j. next-grows x (suc next) (omega arith) in
+      let room : length (k .log brick) < s .settings .chunks = ltb-true _ _ (y .1 .1 .1 .1 .1 .1 .1 .1 .0) in
+      let more : (j : ℕ) → KeyOf s j → New j = λ j. next-grows brick (suc next) (omega arith) in
       let logs = logs-map (g .logs) more in
       let items = items-map (g .items) more in
       from-groups (record {
@@ -94,15 +94,15 @@ module _ (s : State) (v : Sound s) (p i b : ℕ) (d : List ℕ) (y : AllYes (put
         bricks = v .bricks;
         numbers = record {
           below = raised-below;
-          most = upd-all (λ _ m. m ≤ sequences) (k .ceiling) x _ (v .numbers .most) raised-most;
-          blank-next = upd-up (k .here) (λ _ m. m ≡ 0) (k .next) x _ x-here (v .numbers .blank-next);
-          blank-ceiling = upd-up (k .here) (λ _ m. m ≡ 0) (k .ceiling) x _ x-here (v .numbers .blank-ceiling);
+          most = upd-all (λ _ m. m ≤ sequences) (k .ceiling) brick _ (v .numbers .most) raised-most;
+          blank-next = upd-up (k .here) (λ _ m. m ≡ 0) (k .next) brick _ brick-here (v .numbers .blank-next);
+          blank-ceiling = upd-up (k .here) (λ _ m. m ≡ 0) (k .ceiling) brick _ brick-here (v .numbers .blank-ceiling);
         };
         view-first = v .view-first;
         view-last = v .view-last;
         started = v .started;
-        logs = one-log logs x x-here (log-append (logs .each x) _ key-unheld (record { key = key-new; bytes = y .1 .1 .1 .0 }))
-            (omega (arith, length-append (k .log x) (chunk (new-key s x) false d ∷ [])));
+        logs = one-log logs brick brick-here (log-append (logs .each brick) _ key-unheld (record { key = key-new; bytes = y .1 .1 .1 .0 }))
+            (omega (arith, length-append (k .log brick) (chunk (new-key s brick) false d ∷ [])));
         buffers = buffers-map (g .buffers) more;
         bucket = buckets-map (g .bucket) more;
         bag = bag-map (g .bag) more;
