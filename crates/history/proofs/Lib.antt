@@ -1,1 +1,9 @@
 pub mod Sound
+pub mod History
+pub mod Copies
+pub mod Facts
+pub mod Invariant
+pub mod Ageing
+pub mod Wanting
+pub mod Want
+pub mod Claim

@@ -1,0 +1,9 @@
+pub mod Writes
+pub mod Put
+pub mod Maps
+pub mod Relays
+pub mod Reads
+pub mod Membership
+pub mod Views
+pub mod Upkeep
+pub mod All

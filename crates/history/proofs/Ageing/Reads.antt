@@ -1,0 +1,116 @@
+-- done and get keep the invariant of the ageing rule: the mark of a block that is not pending becomes the number of the one key that all four copies give.
+-- And what a get answers obeys the rule.
+use mathlib.Core.Path.{_≡_, refl, sym, ap, _∙_}
+use mathlib.Core.List.{List·Memᴰ}
+use mathlib.Core.Bool.{true, not}
+use mathlib.Core.Logic.{inl, inr}
+use Prim.Native.Nat.{ℕ, _≤_, _<_}
+use native.Mathlib.Omega.{arith}
+use lib.ListN.{length}
+use borrow.Author.Tests.{eqb-true, ltb-true}
+use Rattle.lists.specs.Tests.{_and_, _or_}
+use Rattle.lists.specs.Columns.{upd}
+use Rattle.lists.proofs.Tests.{by-eq, clash, or-second}
+use Rattle.lists.proofs.Columns.{upd-other, upd-all}
+use Rattle.rules.specs.Limits.{buckets}
+use Rattle.rules.specs.Numbers.{bucket-of}
+use Rattle.rules.specs.Entries.{Entry}
+use Rattle.rules.specs.Event.{Event}
+use Rattle.rules.specs.State.{State}
+use Rattle.rules.specs.Parts.{holder, bucket-no, bucket-at, agree, item}
+use Rattle.rules.specs.Maps.{item-goes}
+use Rattle.rules.specs.Reads.{mapped, get-bytes}
+use Rattle.rules.specs.Step.{Answer, rule}
+use Rattle.rules.proofs.Step.{Yes}
+use Rattle.rules.proofs.Parts.{bucket-below, agrees, seek-held}
+use Rattle.rules.proofs.Sound.{Sound}
+use Rattle.history.specs.Claim.{History, number, meaning, hears, Shown}
+use Rattle.history.proofs.History.{number-most}
+use Rattle.history.proofs.Copies.{ReliedOn, Copies, copies-map, copies-agreed}
+use Rattle.history.proofs.Sound.Groups.{member-here}
+use Rattle.history.proofs.Facts.{zero-number, item-newest}
+use Rattle.history.proofs.Invariant.{Readable, AgeOf, Aged}
+use Rattle.history.proofs.Ageing.Writes.{honest-held}
+use Rattle.history.proofs.Ageing.Maps.{items-go}
+
+module _ (s : State) (h : History) (v : Aged s h) where
+  module _ (b m : ℕ) (ready : bucket-at s b .ready ≡ true) (one-key : agree (bucket-at s b) b ≡ true) (top : m ≤ number (h .writes b) (mapped s b)) where
+    abbrev marked′ : History
+    marked′ = record { writes = h .writes; mark = upd (h .mark) b m }
+
+    abbrev Was : ℕ → ℕ → ℕ → Type 0
+    Was = Readable (h .writes) (h .mark) (buckets (s .settings)) (s .bricks .buffer)
+
+    abbrev Is : ℕ → ℕ → ℕ → Type 0
+    Is = Readable (h .writes) (upd (h .mark) b m) (buckets (s .settings)) (s .bricks .buffer)
+
+    -- nothing waits for the block
+    none-waits : (i : ℕ) (e : Entry) → List·Memᴰ e (s .bricks .buffer i) → e .block ≡ b → ⊥
+    none-waits i e l z =
+        clash (v .buckets (bucket-no s b) (bucket-below (s .settings) b) .waiting i e l (ap (bucket-of (buckets (s .settings))) z) .unready) ready
+
+    -- a block of a bucket whose four copies agree on b
+    agreed : (g c j : ℕ) → (c ≡ b → bucket-of (buckets (s .settings)) c ≡ g → j ≡ mapped s b) → Was g c j → Is g c j
+    unfolding upd
+    agreed g c j e t = record {
+      known = t .known;
+      floor = λ z. by-eq c b (λ q n. rw (q, n, e n z) top) (λ q _. rw q (t .floor z));
+      waits = t .waits;
+    }
+
+    own-copies : let k = bucket-at s b in Copies (Is (bucket-no s b)) (ReliedOn (s .bricks .here) k) (k .memory) (k .disk)
+    own-copies =
+        let u = v .buckets (bucket-no s b) (bucket-below (s .settings) b) in
+        copies-agreed (bucket-at s b) (u .same ready) _ _ (λ c j y. agreed _ c j (λ n _. rw n at (y (rw n one-key)))) (u .copies)
+
+    mark-bucket : (g : ℕ) → AgeOf s marked′ g (s .bucket g)
+    mark-bucket g z =
+        let u = v .buckets g z in
+        record {
+          same = u .same;
+          copies = by-eq g (bucket-no s b) (λ _ e. rw e own-copies)
+              (λ _ n. copies-map _ _ (λ c j. agreed g c j (λ e q. absurd (n (sym q ∙ ap (bucket-of (buckets (s .settings))) e)))) (λ _ r. r) (u .copies));
+          waiting = λ i e l y. let t = u .waiting i e l y in record {
+            whose = t .whose;
+            unready = t .unready;
+            is-write = t .is-write;
+            floor = rw (upd-other (h .mark) b (e .block) m (none-waits i e l)) (t .floor);
+          };
+          queue = u .queue;
+          flight = u .flight;
+        }
+
+    mark-least : (c : ℕ) → upd (h .mark) b m c ≤ length (h .writes c)
+    mark-least = upd-all (λ c n. n ≤ length (h .writes c)) (h .mark) b m (v .marked) (omega (arith, top, number-most (h .writes b) (mapped s b)))
+
+    pub marked-aged : Aged s marked′
+    marked-aged = record { keys = v .keys; marked = mark-least; items = v .items; logs = v .logs; relays = v .relays; buckets = mark-bucket }
+
+  pub get-aged : (p b : ℕ) → Yes s (Event.get p b) → Aged (rule s (Event.get p b) .after) (hears h (meaning (Event.get p b)) (rule s (Event.get p b) .said))
+  unfolding rule meaning
+  get-aged p b y =
+      let ready : bucket-at s b .ready ≡ true = y .1 .1 .1 .1 .1 .0 in
+      marked-aged b _ ready (agrees (bucket-at s b) b ready (y .1 .1 .1 .1 .1 .1 .0)) (omega arith)
+
+  pub done-aged : (p b : ℕ) (a : Answer) → Yes s (Event.done p b) → Aged (rule s (Event.done p b) .after) (hears h (meaning (Event.done p b)) a)
+  unfolding rule meaning item-goes
+  done-aged p b a y =
+      let ready : bucket-at s b .ready ≡ true = y .1 .1 .1 .1 .1 .0 in
+      let its : mapped s b ≡ item s p b = eqb-true _ _ (y .1 .1 .1 .1 .1 .1 .1 .1 .1 .0) in
+      let last = item-newest s h v p b (y .1 .1 .1 .1 .1 .1 .1 .1 .0) .last in
+      let t = marked-aged b (length (h .writes b)) ready (agrees (bucket-at s b) b ready (y .1 .1 .1 .1 .1 .1 .0)) (rw its (omega arith)) in
+      record { keys = t .keys; marked = t .marked; items = items-go s h v p b; logs = t .logs; relays = t .relays; buckets = t .buckets }
+
+  -- what a get answers
+  pub get-shown : Sound s → (p b : ℕ) → Yes s (Event.get p b) → Shown (s .settings .size) (h .writes b) (h .mark b) (rule s (Event.get p b) .said)
+  unfolding rule get-bytes holder
+  get-shown o p b y =
+      let k = bucket-at s b in
+      let u = v .buckets (bucket-no s b) (bucket-below (s .settings) b) in
+      let here = member-here o (k .primary) (y .1 .1 .1 .1 .0) in
+      let t = u .copies .memory (k .primary) (record { present = here; role = inl (u .same (y .1 .1 .1 .1 .1 .0) .one) }) b in
+      by-eq (mapped s b) 0 (λ q e. inl (e, rw q refl, omega (arith, zero-number s h v b, rw e at (t .floor refl))))
+      (λ q n.
+      let is-write : 0 < number (h .writes b) (mapped s b) = elim (t .known) [ inl z ↦ absurd (n z) | inr z ↦ z ] in
+      let found = ltb-true _ _ (or-second _ _ (y .1 .1 .1 .1 .1 .1 .1 .1 .0) q) in
+      inr (is-write, rw q (honest-held s h v (holder s (mapped s b)) (mapped s b) (seek-held (s .bricks) (mapped s b) _ found) b is-write), t .floor refl))

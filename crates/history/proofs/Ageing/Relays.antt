@@ -1,0 +1,245 @@
+-- send, deliver and drop keep the invariant of the ageing rule.
+use mathlib.Core.Path.{_≡_, refl, sym, ap, _∙_}
+use mathlib.Core.List.{List, [], _∷_, _++_, List·Memᴰ}
+use mathlib.Core.Bool.{Bool, true}
+use mathlib.Core.Logic.{_⊎_, inl, inr}
+use Prim.Native.Nat.{ℕ, suc, _+_, _<_}
+use native.Mathlib.Omega.{arith}
+use borrow.Author.Tests.{eqb-true, ltb-true}
+use Rattle.lists.specs.Tests.{_and_}
+use Rattle.lists.specs.Columns.{upd}
+use Rattle.lists.proofs.Tests.{by-eq, either, clash, and-l, and-r, if-so}
+use Rattle.lists.proofs.Columns.{upd-same, upd-other, upd-all}
+use Rattle.rules.specs.Limits.{buckets}
+use Rattle.rules.specs.Numbers.{bucket-of}
+use Rattle.rules.specs.Entries.{Entry, entry, look, insert}
+use Rattle.rules.specs.Event.{Event}
+use Rattle.rules.specs.State.{State, Bucket, Relay, blank-relay, set-bag, with-order, with-taken}
+use Rattle.rules.specs.Parts.{bucket-no, bucket-at, primary-memory}
+use Rattle.rules.specs.Maps.{new-relay, send-effect, relay-at, relay-bucket, is-taken, remove-at, deliver-effect, drop-effect}
+use Rattle.rules.specs.Step.{rule}
+use Rattle.rules.proofs.Step.{Yes}
+use Rattle.rules.proofs.Parts.{bucket-below}
+use Rattle.rules.proofs.Entries.{has-entry, look-insert}
+use Rattle.rules.proofs.Sound.{Sound}
+use Rattle.history.specs.Claim.{History, number}
+use Rattle.history.proofs.Copies.{copies-insert}
+use Rattle.history.proofs.Sound.Lists.{one-more, getD-in, remove-at-in}
+use Rattle.history.proofs.Sound.Groups.{member-here}
+use Rattle.history.proofs.Facts.{key-first}
+use Rattle.history.proofs.Invariant.{Writes, Older, Flies, Queue, Flight, BucketAge, AgeOf, Aged}
+
+-- ---- the bag: a relay leaves it
+pub still-flies : {g view : ℕ} (bag : List Relay) (n : ℕ) {r : Relay} → Flies g view (remove-at bag n) r → Flies g view bag r
+still-flies bag n m = record { here = remove-at-in bag n (m .here); mine = m .mine; now = m .now }
+
+-- fewer relays of a bucket
+module _ {w : Writes} {g view view′ : ℕ} {bag bag′ : List Relay} (was : (r : Relay) → Flies g view′ bag′ r → Flies g view bag r) where
+  pub queue-fewer : {order : ℕ} {ready : Bool} → Queue w g bag view order ready → Queue w g bag′ view′ order ready
+  queue-fewer q = record {
+    ordered = λ r m. q .ordered r (was r m);
+    while-ready = λ r m. q .while-ready r (was r m);
+    sorted = λ r t m n. q .sorted r t (was r m) (was t n);
+  }
+
+  pub flight-fewer : {memory disk : ℕ → List Entry} {member : ℕ → Bool} {taken primary backup : ℕ} {ready : Bool}
+      → Flight w g memory disk member bag view taken primary backup ready → Flight w g memory disk member bag′ view′ taken primary backup ready
+  flight-fewer f = record {
+    behind = λ r m. f .behind r (was r m);
+    disk-behind = f .disk-behind;
+    leads = λ y r m. f .leads y r (was r m);
+    ahead = f .ahead;
+  }
+
+  pub bucket-fewer : {mark : ℕ → ℕ} {count : ℕ} {buffer : ℕ → List Entry} {here member : ℕ → Bool} {k : Bucket}
+      → BucketAge w mark count view bag buffer here member g k → BucketAge w mark count view′ bag′ buffer here member g k
+  bucket-fewer u = record { same = u .same; copies = u .copies; waiting = u .waiting; queue = queue-fewer (u .queue); flight = flight-fewer (u .flight) }
+
+module _ (s : State) (h : History) (v : Aged s h) where
+  pub fewer-aged : (n : ℕ) → Aged (set-bag s (remove-at (s .bag) n)) h
+  fewer-aged n = record {
+    keys = v .keys;
+    marked = v .marked;
+    items = v .items;
+    logs = v .logs;
+    relays = λ r m. v .relays r (remove-at-in (s .bag) n m);
+    buckets = λ g z. bucket-fewer (λ r. still-flies (s .bag) n) (v .buckets g z);
+  }
+
+  pub drop-aged : (n : ℕ) → Aged (rule s (Event.drop n) .after) h
+  unfolding rule drop-effect
+  drop-aged n = fewer-aged n
+
+-- ---- send
+module _ (s : State) (h : History) (v : Aged s h) (o : Sound s) (b : ℕ) (y : Yes s (Event.send b)) where
+  abbrev own : Bucket
+  own = bucket-at s b
+
+  abbrev which : ℕ
+  which = bucket-no s b
+
+  abbrev bag′ : List Relay
+  bag′ = s .bag ++ (new-relay s b ∷ [])
+
+  u : BucketAge (h .writes) (h .mark) (buckets (s .settings)) (s .view) (s .bag) (s .bricks .buffer) (s .bricks .here) (s .bricks .member) which own
+  u = v .buckets which (bucket-below (s .settings) b)
+
+  pub send-member : s .bricks .member (own .primary) ≡ true
+  unfolding rule
+  send-member = search and-r
+
+  pub send-ready : own .ready ≡ true
+  unfolding rule
+  send-ready = search
+
+  -- the primary's entry is some write's
+  sends-write : 0 < number (h .writes b) (look (primary-memory own) b)
+  unfolding rule
+  sends-write =
+      let inside = bucket-below (s .settings) b in
+      let t = has-entry (primary-memory own) b (search) in
+      let key = o .buckets-ok which inside .memory (own .primary) .each (t .0) (t .1) .key in
+      let here = member-here o (own .primary) (search) in
+      elim (u .copies .memory (own .primary) (record { present = here; role = inl (u .same send-ready .one) }) b .known) [
+        | inl z ↦ absurd (omega (arith, key-first _ key, t .3))
+        | inr z ↦ z
+      ]
+
+  sent-in : (r : Relay) → List·Memᴰ r bag′ → (List·Memᴰ r (s .bag)) ⊎ (r ≡ new-relay s b)
+  sent-in = one-more (s .bag) (λ r m. inl m) (inr refl)
+
+  pub sent-flies : (j : ℕ) (r : Relay) → Flies j (s .view) bag′ r → (Flies j (s .view) (s .bag) r) ⊎ ((r ≡ new-relay s b) × (which ≡ j))
+  sent-flies j r m =
+      elim (sent-in r (m .here)) [
+        | inl z ↦ inl (record { here = z; mine = m .mine; now = m .now })
+        | inr z ↦ inr (z, sym (ap (λ (q : Relay). q .bucket) z) ∙ m .mine)
+      ]
+
+  abbrev Either : Relay → Type 0
+  Either r = (Flies which (s .view) (s .bag) r) ⊎ ((r ≡ new-relay s b) × (which ≡ which))
+
+  sorted : (r t : Relay) → Either r → Either t → r .order < t .order → r .block ≡ t .block → Older (h .writes) (r .block) (r .key) (t .key)
+  sorted r t (inl m) (inl n) a e = u .queue .sorted r t m n a e
+  sorted r t (inl m) (inr n) a e =
+      let block : r .block ≡ b = e ∙ ap (λ (q : Relay). q .block) (n .0) in
+      let key : t .key ≡ look (primary-memory own) (r .block) = rw (n .0, block) in
+      rw key (u .flight .leads send-member r m)
+  sorted r t (inr m) (inl n) a e = absurd (omega (arith, u .queue .ordered t n, ap (λ (q : Relay). q .order) (m .0)))
+  sorted r t (inr m) (inr n) a e = absurd (omega (arith, ap (λ (q : Relay). q .order) (m .0), ap (λ (q : Relay). q .order) (n .0)))
+
+  abbrev SentOf : ℕ → Bucket → Type 0
+  SentOf = BucketAge (h .writes) (h .mark) (buckets (s .settings)) (s .view) bag′ (s .bricks .buffer) (s .bricks .here) (s .bricks .member)
+
+  mine : SentOf which (with-order own (suc (own .order)))
+  mine = record {
+    same = u .same;
+    copies = u .copies;
+    waiting = u .waiting;
+    queue = record {
+      ordered = λ r m. elim (sent-flies which r m) [ inl n ↦ omega (arith, u .queue .ordered r n) | inr z ↦ rw (z .0) (omega arith) ];
+      while-ready = λ r m. send-ready;
+      sorted = λ r t m n. sorted r t (sent-flies which r m) (sent-flies which t n);
+    };
+    flight = record {
+      behind = λ r m t. elim (sent-flies which r m) [ inl n ↦ u .flight .behind r n t | inr z ↦ rw (z .0) (u .flight .ahead send-ready send-member b) ];
+      disk-behind = u .flight .disk-behind;
+      leads = λ n r m. elim (sent-flies which r m) [ inl l ↦ u .flight .leads n r l | inr z ↦ rw (z .0) (omega arith) ];
+      ahead = u .flight .ahead;
+    };
+  }
+
+  others : (j : ℕ) → (j ≡ which → ⊥) → j < buckets (s .settings) → SentOf j (s .bucket j)
+  others j e z = bucket-fewer (λ r m. elim (sent-flies j r m) [ inl n ↦ n | inr n ↦ absurd (e (sym (n .1))) ]) (v .buckets j z)
+
+  pub send-aged : Aged (rule s (Event.send b) .after) h
+  unfolding rule send-effect upd
+  send-aged = record {
+    keys = v .keys;
+    marked = v .marked;
+    items = v .items;
+    logs = v .logs;
+    relays = λ r m. elim (sent-in r m) [ inl n ↦ v .relays r n | inr z ↦ rw z (record { is-write = sends-write; past = omega arith }) ];
+    buckets = λ j. by-eq j which (λ q e. rw (q, e) (λ _. mine)) (λ q e. rw q (others j e));
+  }
+
+-- ---- deliver
+module _ (s : State) (h : History) (v : Aged s h) (o : Sound s) (n : ℕ) (y : Yes s (Event.deliver n)) where
+  abbrev relay : Relay
+  relay = relay-at s n
+
+  abbrev its : Bucket
+  its = relay-bucket s n
+
+  abbrev memory′ : ℕ → List Entry
+  memory′ = upd (its .memory) (its .backup) (insert (its .memory (its .backup)) (relay .block) (relay .key))
+
+  in-bag : List·Memᴰ relay (s .bag)
+  unfolding rule
+  in-bag = getD-in (s .bag) n blank-relay (ltb-true _ _ (y .0))
+
+  home : bucket-of (buckets (s .settings)) (relay .block) ≡ relay .bucket
+  home = o .relays relay in-bag .bucket
+
+  inside : relay .bucket < buckets (s .settings)
+  inside = rw home at (bucket-below (s .settings) (relay .block))
+
+  module _ (yes : is-taken s n ≡ true) where
+    pub it-flies : Flies (relay .bucket) (s .view) (s .bag) relay
+    unfolding is-taken
+    it-flies = record { here = in-bag; mine = refl; now = eqb-true _ _ (and-l _ _ yes) }
+
+    pub it-is-new : its .taken < relay .order
+    unfolding is-taken
+    it-is-new = ltb-true _ _ (and-r _ _ yes)
+
+    taken : AgeOf (set-bag s (remove-at (s .bag) n)) h (relay .bucket) (with-taken its (relay .order) memory′)
+    unfolding rule upd
+    taken _ =
+        let u = v .buckets (relay .bucket) inside in
+        let f = u .flight in
+        let ready : its .ready ≡ true = u .queue .while-ready relay it-flies in
+        let here = member-here o (its .backup) (if-so _ _ (y .1 .0) yes) in
+        let apart : its .primary ≡ its .backup → ⊥ = o .buckets-ok (relay .bucket) inside .pair .apart in
+        let floor = u .copies .memory (its .backup) (record { present = here; role = inr (inl (u .same ready .two)) }) (relay .block) .floor home in
+        let l = insert (its .memory (its .backup)) (relay .block) (relay .key) in
+        let was : (r : Relay) → Flies (relay .bucket) (s .view) (remove-at (s .bag) n) r → Flies (relay .bucket) (s .view) (s .bag) r
+        = λ r. still-flies (s .bag) n in
+        let at-primary : memory′ (its .primary) ≡ its .memory (its .primary) = upd-other (its .memory) (its .backup) (its .primary) l apart in
+        let at-backup : (c : ℕ) → look (memory′ (its .backup)) c ≡ upd (look (its .memory (its .backup))) (relay .block) (relay .key) c
+        = λ c. ap (λ (m : List Entry). look m c) (upd-same (its .memory) (its .backup) l) ∙ look-insert (its .memory (its .backup)) (relay .block) (relay .key) c in
+        record {
+          same = u .same;
+          copies = copies-insert _ (u .copies) (its .backup) (relay .block) (relay .key) (record {
+            known = inr (v .relays relay in-bag .is-write);
+            floor = λ _. omega (arith, f .behind relay it-flies it-is-new, floor);
+            waits = λ i e m z. clash (u .waiting i e m (ap (bucket-of (buckets (s .settings))) z ∙ home) .unready) ready;
+          });
+          waiting = u .waiting;
+          queue = queue-fewer was (u .queue);
+          flight = record {
+            behind = λ r m t. rw (at-backup (r .block))
+                (by-eq (r .block) (relay .block) (λ q e. rw (q, e) (u .queue .sorted relay r it-flies (was r m) t (sym e)))
+                (λ q _. rw q (f .behind r (was r m) (omega (arith, it-is-new, t)))));
+            disk-behind = λ _ c. rw (at-backup c)
+                (by-eq c (relay .block) (λ q e. rw (q, e) (omega (arith, f .disk-behind ready (relay .block), f .behind relay it-flies it-is-new)))
+                (λ q _. rw q (f .disk-behind ready c)));
+            leads = λ t r m. rw at-primary (f .leads t r (was r m));
+            ahead = λ t z c. rw (at-primary, at-backup c)
+                (by-eq c (relay .block) (λ q e. rw (q, e) (f .leads z relay it-flies)) (λ q _. rw q (f .ahead t z c)));
+          };
+        }
+
+  pub deliver-aged : Aged (rule s (Event.deliver n) .after) h
+  unfolding rule deliver-effect
+  deliver-aged =
+      let u = fewer-aged s h v n in
+      either (λ (t : State). Aged t h) (is-taken s n)
+      (λ yes. record {
+        keys = v .keys;
+        marked = v .marked;
+        items = v .items;
+        logs = v .logs;
+        relays = u .relays;
+        buckets = upd-all (AgeOf (set-bag s (remove-at (s .bag) n)) h) (s .bucket) (relay .bucket) _ (u .buckets) (taken yes);
+      })
+      (λ _. u)

@@ -1,0 +1,123 @@
+-- Demand 3, proved: the claim about every list of events.
+use mathlib.Core.Path.{_≡_, refl, sym, ap, subst, _∙_}
+use mathlib.Core.List.{List, [], _∷_}
+use mathlib.Core.Bool.{Bool, true, false}
+use Prim.Native.Nat.{ℕ}
+use native.Mathlib.Omega.{arith}
+use Rattle.lists.proofs.Tests.{either}
+use Rattle.rules.specs.declared.settings.Settings.{Settings}
+use Rattle.rules.specs.Event.{Event}
+use Rattle.rules.specs.State.{State}
+use Rattle.rules.specs.Format.{format}
+use Rattle.rules.specs.Parts.{bucket-at}
+use Rattle.rules.specs.Question.{first-no}
+use Rattle.rules.specs.Writes.{put-effect, copy-effect, savelog-effect}
+use Rattle.rules.specs.Maps.{map-effect, send-effect, is-taken, deliver-effect, drop-effect, savemap-effect, item-goes, learn-effect, reset-effect}
+use Rattle.rules.specs.Membership.{crash-effect, lose-effect, rise-effect, join-effect}
+use Rattle.rules.specs.Views.{view-effect, fetch-effect, ready-effect}
+use Rattle.rules.specs.Upkeep.{mend-effect, collect-effect}
+use Rattle.rules.specs.Whole.{whole}
+use Rattle.rules.specs.Step.{Outcome, rule, step}
+use Rattle.rules.proofs.Step.{Yes, Stepped, refused, accepted, stepped, code-is}
+use Rattle.rules.proofs.Sound.{Sound}
+use Rattle.history.specs.Claim.{Told, told, History, no-history, number, hear, Shown, Obeys, Ageing, Strikes, StruckWhole, open-after, Sated, NoWant, Claim}
+use Rattle.history.proofs.Sound.All.{format-sound, sound-kept, step-sound}
+use Rattle.history.proofs.Invariant.{Aged}
+use Rattle.history.proofs.Wanting.{Stocked}
+use Rattle.history.proofs.Ageing.Put.{put-fresh}
+use Rattle.history.proofs.Ageing.Reads.{get-shown}
+use Rattle.history.proofs.Ageing.All.{aged-kept, format-aged}
+use Rattle.history.proofs.Want.Reads.{get-found}
+use Rattle.history.proofs.Want.Views.{fetch-found}
+use Rattle.history.proofs.Want.All.{stocked-kept, format-stocked}
+
+-- ---- the settings stay
+same-settings : (s : State) (e : Event) → rule s e .after .settings ≡ s .settings
+unfolding rule put-effect copy-effect savelog-effect map-effect send-effect deliver-effect drop-effect savemap-effect item-goes learn-effect reset-effect crash-effect lose-effect rise-effect join-effect view-effect fetch-effect ready-effect mend-effect collect-effect
+same-settings s (Event.put p i b d) = refl
+same-settings s (Event.copy k) = refl
+same-settings s (Event.savelog i) = refl
+same-settings s (Event.map p b) = either (λ (t : State). t .settings ≡ s .settings) (bucket-at s b .ready) (λ _. refl) (λ _. refl)
+same-settings s (Event.send b) = refl
+same-settings s (Event.deliver n) = either (λ (t : State). t .settings ≡ s .settings) (is-taken s n) (λ _. refl) (λ _. refl)
+same-settings s (Event.drop n) = refl
+same-settings s (Event.savemap i) = refl
+same-settings s (Event.done p b) = refl
+same-settings s (Event.get p b) = refl
+same-settings s (Event.abandon p b) = refl
+same-settings s (Event.learn p) = refl
+same-settings s (Event.reset p) = refl
+same-settings s (Event.crash i) = refl
+same-settings s (Event.lose i) = refl
+same-settings s (Event.rise i) = refl
+same-settings s (Event.join i) = refl
+same-settings s Event.view = refl
+same-settings s (Event.fetch g) = refl
+same-settings s (Event.ready g) = refl
+same-settings s (Event.mend i) = refl
+same-settings s (Event.collect i) = refl
+same-settings s Event.unknown = refl
+
+-- ---- one step
+abbrev as-told : State → Event → Outcome → Told
+as-told s e u = record { event = e; code = u .code; said = u .said; found-whole = whole s }
+
+module _ (s : State) (h : History) (v : Aged s h) (z : Sound s) where
+  new-key : (e : Event) → Yes s e → (p i b : ℕ) (d : List ℕ) → e ≡ Event.put p i b d → (c : ℕ) → number (h .writes c) (rule s e .said .key) ≡ 0
+  unfolding rule
+  new-key e y p i b d q = subst (λ (a : Event). Yes s a → (c : ℕ) → number (h .writes c) (rule s a .said .key) ≡ 0) (sym q) (λ y. put-fresh s h v z p i b d y (sound-kept s (Event.put p i b d) z y)) y
+
+  shows : (e : Event) → Yes s e → (p b : ℕ) → e ≡ Event.get p b → Shown (s .settings .size) (h .writes b) (h .mark b) (rule s e .said)
+  shows e y p b q = subst (λ (a : Event). Yes s a → Shown (s .settings .size) (h .writes b) (h .mark b) (rule s a .said)) (sym q) (get-shown s h v z p b) y
+
+  obeys : (e : Event) (u : Outcome) → Stepped s e u → Obeys (s .settings .size) h (as-told s e u)
+  obeys e u (refused c) = record { fresh = λ p i b d q n. absurd (omega (arith, n)); shown = λ p b q n. absurd (omega (arith, n)) }
+  obeys e u (accepted y) = record { fresh = λ p i b d q _. new-key e y p i b d q; shown = λ p b q _. shows e y p b q }
+
+  sated : (o : ℕ → Bool) → Stocked s o → (e : Event) → Sated o (as-told s e (step s e))
+  sated o w e = record {
+    bytes = λ p b q n. subst (λ (a : Event). first-no (rule s a .questions) ≡ 11 → ⊥) (sym q) (get-found s z h v o w p b) (sym (code-is s e) ∙ n);
+    source = λ g q y n. subst (λ (a : Event). first-no (rule s a .questions) ≡ 13 → ⊥) (sym q) (fetch-found s h v z o w g y) (sym (code-is s e) ∙ n);
+  }
+
+  aged-on : (e : Event) (u : Outcome) → Stepped s e u → Aged (u .after) (hear h e (u .code) (u .said))
+  aged-on e u (refused c) = v
+  aged-on e u (accepted y) = aged-kept s h e v z y (sound-kept s e z y)
+
+  stocked-on : (o : ℕ → Bool) → Stocked s o → (e : Event) (u : Outcome) → Stepped s e u → (Strikes e → u .code ≡ 0 → whole s ≡ true)
+      → Stocked (u .after) (open-after o e (u .code))
+  stocked-on o w e u (refused c) f = w
+  stocked-on o w e u (accepted y) f = stocked-kept s h o e v z w y (λ t. f t refl)
+
+settings-on : (s : State) (e : Event) (u : Outcome) → Stepped s e u → u .after .settings ≡ s .settings
+settings-on s e u (refused c) = refl
+settings-on s e u (accepted y) = same-settings s e
+
+-- ---- every list
+ageing : (size : ℕ) (es : List Event) (s : State) (h : History) → Aged s h → Sound s → s .settings .size ≡ size → Ageing size h (told s es)
+unfolding Ageing told
+ageing size [] s h v z q = tt
+ageing size (e ∷ es) s h v z q =
+    let u = step s e in
+    let t = stepped s e in (
+      subst (λ (n : ℕ). Obeys n h (as-told s e u)) q (obeys s h v z e u t),
+      ageing size es (u .after) _ (aged-on s h v z e u t) (step-sound s e z) (ap (λ (c : Settings). c .size) (settings-on s e u t) ∙ q),
+    )
+
+no-want : (es : List Event) (s : State) (h : History) (o : ℕ → Bool) → Aged s h → Sound s → Stocked s o → StruckWhole (told s es) → NoWant o (told s es)
+unfolding StruckWhole NoWant told
+no-want [] s h o v z w f = tt
+no-want (e ∷ es) s h o v z w f =
+    let u = step s e in
+    let t = stepped s e in (
+      sated s h v z o w e,
+      no-want es (u .after) _ _ (aged-on s h v z e u t) (step-sound s e z) (stocked-on s h v z o w e u t (f .0)) (f .1),
+    )
+
+pub claim : Claim
+claim c y es =
+    let z = format-sound c y in
+    (ageing (c .size) es (format c) no-history (format-aged c) z (same-size c), no-want es (format c) no-history (λ g. false) (format-aged c) z (format-stocked c z))
+  where
+    same-size : (c : Settings) → format c .settings .size ≡ c .size
+    same-size c = unfold format in refl

@@ -1,0 +1,68 @@
+-- Where every bucket is calm, all that is in use is mapped: nothing waits, and copies and relays have the primary's keys.
+use mathlib.Core.Path.{_≡_, refl, sym, ap, subst, _∙_}
+use mathlib.Core.List.{List, List·Memᴰ}
+use mathlib.Core.Bool.{Bool, true}
+use mathlib.Core.Logic.{inl}
+use Prim.Native.Nat.{ℕ, _<_}
+use native.Mathlib.Omega.{arith}
+use Rattle.lists.proofs.Tests.{by, clash}
+use Rattle.rules.specs.Limits.{buckets}
+use Rattle.rules.specs.Entries.{Entry, look}
+use Rattle.rules.specs.State.{State, Bucket}
+use Rattle.rules.specs.Parts.{bucket-no, primary-memory, backup-memory, agree, calm}
+use Rattle.rules.proofs.Parts.{bucket-below, agree-all, calm-agrees}
+use Rattle.rules.proofs.Sound.{Sound}
+use Rattle.history.specs.Claim.{History}
+use Rattle.history.proofs.History.{one-number}
+use Rattle.history.proofs.Copies.{ReliedOn, Same, Copies, copies-agreed}
+use Rattle.history.proofs.Invariant.{Aged}
+use Rattle.history.proofs.Wanting.{KeptBy, EachLive, Stocked}
+
+-- a calm bucket: the four agree on every block, and a relay not yet taken has the primary's key
+pub record Settled (s : State) (g : ℕ) (k : Bucket) : Type 0 where
+  pub ready : k .ready ≡ true
+  pub same : Same k
+  pub one-key : (b : ℕ) → agree k b ≡ true
+  pub flown : EachLive g (s .bag) (s .view) (k .taken) (λ r. r .key ≡ look (primary-memory k) (r .block))
+
+-- what is asked of the mapped keys holds of all keys in use
+module _ {s : State} {g : ℕ} {k : Bucket} (c : Settled s g k) (P : ℕ → Type 0) (f : (b : ℕ) → P (look (primary-memory k) b)) where
+  pub copies-mapped : {Q : ℕ → ℕ → Type 0} → Copies Q (ReliedOn (s .bricks .here) k) (k .memory) (k .disk)
+      → Copies (λ _. P) (ReliedOn (s .bricks .here) k) (k .memory) (k .disk)
+  copies-mapped = copies-agreed k (c .same) _ _ (λ b j y _. subst P (sym (y (c .one-key b))) (f b))
+
+  pub flown-mapped : EachLive g (s .bag) (s .view) (k .taken) (λ r. P (r .key))
+  flown-mapped r m t = subst P (sym (c .flown r m t)) (f (r .block))
+
+module _ (s : State) (h : History) (v : Aged s h) (o : ℕ → Bool) (w : Stocked s o) (calms : (g : ℕ) → g < buckets (s .settings) → calm (s .bucket g) ≡ true) where
+  pub settled : (g : ℕ) → g < buckets (s .settings) → Settled s g (s .bucket g)
+  settled g l =
+      let k = s .bucket g in
+      let t = calm-agrees k (calms g l) in
+      let u = v .buckets g l .flight in
+      record {
+        ready = t .0;
+        same = v .buckets g l .same (t .0);
+        one-key = t .1;
+        flown = λ r m n.
+            let e : look (backup-memory k) (r .block) ≡ look (primary-memory k) (r .block) = agree-all k (r .block) (t .1 (r .block)) .1 in
+            by (s .bricks .member (k .primary))
+            (λ y.
+            let ahead = u .leads y r m in
+            let behind = rw e at (u .behind r m n) in
+            one-number (h .writes (r .block)) (r .key) _ (omega arith) (v .relays r (m .here) .is-write))
+            (λ y. w .buckets g l .even (t .0) y r m n ∙ e);
+      }
+
+  pub none-waits : (i : ℕ) (e : Entry) → List·Memᴰ e (s .bricks .buffer i) → ⊥
+  none-waits i e m =
+      let l = bucket-below (s .settings) (e .block) in
+      clash (v .buckets (bucket-no s (e .block)) l .waiting i e m refl .unready) (settled _ l .ready)
+
+  pub mapped-kept : Sound s → (g : ℕ) → g < buckets (s .settings) → (b : ℕ) → KeptBy s (look (primary-memory (s .bucket g)) b)
+  unfolding look
+  mapped-kept z g l b =
+      let k = s .bucket g in
+      by (s .bricks .here (k .primary))
+      (λ y. w .buckets g l .copies .memory (k .primary) (record { present = y; role = inl (settled g l .same .one) }) b)
+      (λ n. inl (ap (λ (m : List Entry). look m b) (z .buckets-ok g l .blank-memory (k .primary) n)))

@@ -1,0 +1,183 @@
+-- crash, lose, rise and join keep the invariant of the claim on want; a crash and a loss where they find a whole store.
+use mathlib.Core.Path.{_≡_, refl, sym, _∙_}
+use mathlib.Core.List.{List, [], List·Memᴰ}
+use mathlib.Core.Bool.{Bool, true, false}
+use mathlib.Core.Logic.{inl, inr}
+use Prim.Native.Nat.{ℕ, suc, _<_}
+use native.Mathlib.Omega.{arith}
+use lib.ListN.{length}
+use borrow.Author.Tests.{ltb-true, leb-true}
+use Rattle.lists.specs.Tests.{_and_, every}
+use Rattle.lists.specs.Columns.{upd}
+use Rattle.lists.proofs.Tests.{by, by-eq, clash, and-l, and-r, all-at, every-in}
+use Rattle.lists.proofs.Columns.{upd-same, upd-other, unflag, still-flagged}
+use Rattle.rules.specs.Limits.{buckets}
+use Rattle.rules.specs.Entries.{Entry, look, has}
+use Rattle.rules.specs.Chunks.{Chunk, saved-in}
+use Rattle.rules.specs.Event.{Event}
+use Rattle.rules.specs.State.{State}
+use Rattle.rules.specs.Parts.{up-member, saved-at, primary-memory, calm}
+use Rattle.rules.specs.Membership.{crash-effect, lose-effect, rise-effect, join-effect}
+use Rattle.rules.specs.Whole.{saved-twice, whole}
+use Rattle.rules.specs.Step.{rule}
+use Rattle.rules.proofs.Step.{Yes}
+use Rattle.rules.proofs.Parts.{ids-in, two-ids, saved-at-in, agree-all}
+use Rattle.rules.proofs.Entries.{has-entry, no-entry}
+use Rattle.rules.proofs.Sound.{Sound}
+use Rattle.history.specs.Claim.{History}
+use Rattle.history.proofs.Copies.{copies-map, copies-crashed, copies-blank}
+use Rattle.history.proofs.Facts.{here-born, brick-here, not-joined, joined-relied, lost-relied, emptied}
+use Rattle.history.proofs.Invariant.{Aged}
+use Rattle.history.proofs.Wanting.{Kept, KeptBy, Full, PairWant, Stocked}
+use Rattle.history.proofs.Want.Calm.{Settled, copies-mapped, flown-mapped, settled, none-waits}
+
+pub rise-stocked : (s : State) (o : ℕ → Bool) → Stocked s o → (i : ℕ) → Stocked (rule s (Event.rise i) .after) o
+unfolding rule rise-effect
+rise-stocked s o w i = record { waiting = w .waiting; buckets = w .buckets }
+
+-- ---- a strike at a whole store
+module _ (s : State) (h : History) (v : Aged s h) (z : Sound s) (o : ℕ → Bool) (w : Stocked s o) (was : whole s ≡ true) where
+  calms : (g : ℕ) → g < buckets (s .settings) → calm (s .bucket g) ≡ true
+  unfolding whole
+  calms = all-at _ _ (and-r _ _ (and-l _ _ was))
+
+  calmed : (g : ℕ) → g < buckets (s .settings) → Settled s g (s .bucket g)
+  calmed = settled s h v o w calms
+
+  full : Full (s .settings .places) (s .ids) (s .bricks .member)
+  unfolding whole
+  full p l = and-r _ _ (all-at (s .settings .places) (λ p. up-member s (s .ids p)) (and-l _ _ (and-l _ _ was)) p l)
+
+  twice : (g : ℕ) → g < buckets (s .settings) → (e : Entry) → List·Memᴰ e (primary-memory (s .bucket g)) → 1 < length (saved-at s (e .key))
+  unfolding whole saved-twice
+  twice g l e m =
+      let t = all-at (buckets (s .settings)) (λ j. every (λ a. saved-twice s (a .key)) (primary-memory (s .bucket j))) (and-r _ _ was) g l in
+      leb-true _ _ (every-in (λ (a : Entry). saved-twice s (a .key)) (primary-memory (s .bucket g)) t e m)
+
+  module _ (x : ℕ) where
+    abbrev member′ : ℕ → Bool
+    member′ = upd (s .bricks .member) x false
+
+    -- without brick x every mapped key is kept
+    kept-elsewhere : (l : List Chunk) (g : ℕ) → g < buckets (s .settings) → (b : ℕ) → Kept member′ (upd (s .bricks .log) x l) (look (primary-memory (s .bucket g)) b)
+    unfolding saved-at
+    kept-elsewhere l g n b =
+        by (has (primary-memory (s .bucket g)) b)
+        (λ y.
+        let e = has-entry (primary-memory (s .bucket g)) b y in
+        let k = e .0 .key in
+        let t = two-ids (s .given) (s .bricks .member) (λ i. saved-in (s .bricks .log i) k) x (twice g n (e .0) (e .1)) in
+        let u = saved-at-in s k (t .0) (t .1) in
+        rw (e .3) (inr (record {
+          who = t .0;
+          is-member = still-flagged (s .bricks .member) x (t .0) (t .2) (ids-in _ _ _ (u .0) .2);
+          saved = rw (upd-other (s .bricks .log) x (t .0) l (t .2)) (u .1);
+        })))
+        (λ n. inl (no-entry _ b n))
+
+    -- the last ready pair keeps a member, and one place holds none
+    struck-pair : (ids′ : ℕ → ℕ) (i : ℕ) → i < s .settings .places → (member′ (ids′ i) ≡ true → ⊥) → (g : ℕ) → g < buckets (s .settings)
+        → let k = s .bucket g in PairWant (s .settings .places) ids′ member′ (k .last-primary) (k .last-backup) (k .ready) (o g)
+    struck-pair ids′ i inside gone g l =
+        let k = s .bucket g in
+        let u = w .buckets g l .pair in
+        let t = u .all (calmed g l .ready) full in
+        record {
+          tracked = u .tracked;
+          one = by-eq (k .last-primary) x
+              (λ _ e. inr (still-flagged (s .bricks .member) x _ (λ f. z .buckets-ok g l .last .apart (e ∙ sym f)) (t .1)))
+              (λ _ n. inl (still-flagged (s .bricks .member) x _ n (t .0)));
+          all = λ _ f. absurd (gone (f i inside));
+        }
+
+  pub crash-stocked : (i : ℕ) → Yes s (Event.crash i) → Stocked (rule s (Event.crash i) .after) o
+  unfolding rule crash-effect upd
+  crash-stocked i y =
+      let x = s .ids i in
+      let gone : member′ x x ≡ true → ⊥ = λ m. unflag (s .bricks .member) x x m .1 refl in
+      record {
+        waiting = λ j e m. absurd (none-waits s h v o w calms j e (emptied (s .bricks .buffer) x j e m));
+        buckets = λ g l.
+            let k = s .bucket g in
+            let u = w .buckets g l in
+            let c = calmed g l in
+            let kept = kept-elsewhere x _ g l in
+            record {
+              pair = struck-pair x (s .ids) i (ltb-true _ _ (y .0)) gone g l;
+              copies = copies-crashed _ (copies-mapped c _ kept (u .copies)) x;
+              flown = flown-mapped c _ kept;
+              even = λ _ _ r m t.
+                  let agreed = agree-all k (r .block) (c .one-key (r .block)) in
+                  by-eq (k .backup) x (λ q e. rw (q, ← e) (c .flown r m t ∙ sym (agreed .2))) (λ q _. rw q (c .flown r m t ∙ sym (agreed .1)));
+            };
+      }
+
+  pub lose-stocked : (i : ℕ) → Yes s (Event.lose i) → Stocked (rule s (Event.lose i) .after) o
+  unfolding rule lose-effect
+  lose-stocked i y =
+      let x = s .ids i in
+      record {
+        waiting = λ j e m. absurd (none-waits s h v o w calms j e (emptied (s .bricks .buffer) x j e m));
+        buckets = λ g l.
+            let k = s .bucket g in
+            let u = w .buckets g l in
+            let c = calmed g l in
+            let kept = kept-elsewhere x _ g l in
+            record {
+              pair = struck-pair x _ i (ltb-true _ _ (y .0)) (no-member x i) g l;
+              copies = copies-blank _ (copies-mapped c _ kept (u .copies)) x (lost-relied s x k);
+              flown = flown-mapped c _ kept;
+              even = λ ready n r m t.
+                  let primary = rw (← c .same .one) at (u .pair .all ready full .0) in
+                  let struck : k .primary ≡ x = by-eq (k .primary) x (λ _ e. e) (λ _ d. clash n (still-flagged (s .bricks .member) x _ d primary)) in
+                  let apart : k .backup ≡ x → ⊥ = λ e. z .buckets-ok g l .pair .apart (struck ∙ sym e) in
+                  rw (upd-other (k .memory) x (k .backup) [] apart)
+                  (c .flown r m t ∙ sym (agree-all k (r .block) (c .one-key (r .block)) .1));
+            };
+      }
+    where
+      no-member : (x i : ℕ) → member′ x (upd (s .ids) i 0 i) ≡ true → ⊥
+      no-member x i m =
+          let t = unflag (s .bricks .member) x 0 (rw (upd-same (s .ids) i 0) at m) .0 in absurd (omega (arith, z .bricks .first 0 (brick-here s z 0 t)))
+
+-- ---- join: its id is no one's yet
+module _ (s : State) (z : Sound s) (o : ℕ → Bool) (w : Stocked s o) where
+  abbrev new : ℕ
+  new = suc (s .given)
+
+  old : (j : ℕ) → s .bricks .member j ≡ true → j ≡ new → ⊥
+  old j y = not-joined s j (here-born s z j (brick-here s z j y))
+
+  still-member : (j : ℕ) → s .bricks .member j ≡ true → upd (s .bricks .member) new false j ≡ true
+  still-member j y = still-flagged (s .bricks .member) new j (old j y) y
+
+  still-kept : (k : ℕ) → KeptBy s k → Kept (upd (s .bricks .member) new false) (upd (s .bricks .log) new []) k
+  still-kept k (inl e) = inl e
+  still-kept k (inr t) = inr (record {
+    who = t .who;
+    is-member = still-member (t .who) (t .is-member);
+    saved = rw (upd-other (s .bricks .log) new (t .who) [] (old _ (t .is-member))) (t .saved);
+  })
+
+  pub join-stocked : (i : ℕ) → Yes s (Event.join i) → Stocked (rule s (Event.join i) .after) o
+  unfolding rule join-effect
+  join-stocked i y = record {
+    waiting = λ j e m. still-kept _ (w .waiting j e (emptied (s .bricks .buffer) new j e m));
+    buckets = λ g l.
+        let k = s .bucket g in
+        let u = w .buckets g l in
+        let pair = z .buckets-ok g l .pair in
+        record {
+          pair = record {
+            tracked = u .pair .tracked;
+            one = elim (u .pair .one) [ inl m ↦ inl (still-member _ m) | inr m ↦ inr (still-member _ m) ];
+            all = λ _ f. absurd (unflag (s .bricks .member) new new (rw (upd-same (s .ids) i new) at (f i (ltb-true _ _ (y .0)))) .1 refl);
+          };
+          copies = copies-map _ _ (λ _. still-kept) (λ _ r. r) (copies-blank _ (u .copies) new (joined-relied s z g l));
+          flown = λ r m t. still-kept _ (u .flown r m t);
+          even = λ ready n r m t.
+              let backup : k .backup ≡ new → ⊥ = not-joined s _ (pair .two-born) in
+              let primary : k .primary ≡ new → ⊥ = not-joined s _ (pair .one-born) in
+              rw (upd-other (k .memory) new (k .backup) [] backup) (u .even ready (rw (upd-other (s .bricks .member) new (k .primary) false primary) at n) r m t);
+        };
+  }

@@ -1,0 +1,81 @@
+-- mend and collect keep the invariant of the claim on want: mend saves more, and collect keeps what the pairs name, which is all that is in use.
+use mathlib.Core.Path.{_≡_}
+use mathlib.Core.Bool.{Bool, true}
+use mathlib.Core.Logic.{inl, inr}
+use Prim.Native.Nat.{ℕ, zero, suc, _<_}
+use native.Mathlib.Omega.{arith}
+use Rattle.lists.specs.Tests.{_and_, _or_, some-below}
+use Rattle.lists.specs.Columns.{upd}
+use Rattle.lists.proofs.Tests.{by-eq, or-l, or-r, all-at}
+use Rattle.lists.proofs.Columns.{upd-all}
+use Rattle.rules.specs.Limits.{buckets}
+use Rattle.rules.specs.Entries.{look}
+use Rattle.rules.specs.Chunks.{saved-in, save-key, only-named}
+use Rattle.rules.specs.Event.{Event}
+use Rattle.rules.specs.State.{State}
+use Rattle.rules.specs.Parts.{primary-memory, calm}
+use Rattle.rules.specs.Upkeep.{mend-effect, pair-names, is-named, collect-effect}
+use Rattle.rules.specs.Step.{rule}
+use Rattle.rules.proofs.Step.{Yes}
+use Rattle.rules.proofs.Entries.{look-names}
+use Rattle.rules.proofs.Chunks.{saved-append, still-saved, saved-only-named}
+use Rattle.rules.proofs.Sound.{Sound}
+use Rattle.history.specs.Claim.{History}
+use Rattle.history.proofs.Invariant.{Aged}
+use Rattle.history.proofs.Wanting.{Kept, KeptBy, Stocked}
+use Rattle.history.proofs.Ageing.Upkeep.{mend-keeps}
+use Rattle.history.proofs.Want.Writes.{log-stocked}
+use Rattle.history.proofs.Want.Calm.{copies-mapped, flown-mapped, settled, none-waits, mapped-kept}
+
+-- the test holds of one index below a bound
+some-at : (n : ℕ) (test : ℕ → Bool) (k : ℕ) → k < n → test k ≡ true → some-below n test ≡ true
+unfolding some-below
+some-at zero test k l y = absurd (omega arith)
+some-at (suc n) test k l y = by-eq k n (λ _ e. or-r _ _ (rw (← e) y)) (λ _ e. or-l _ _ (some-at n test k (omega arith) y))
+
+-- ---- mend
+pub mend-stocked : (s : State) (o : ℕ → Bool) → Stocked s o → (i : ℕ) → Stocked (rule s (Event.mend i) .after) o
+unfolding rule mend-effect save-key
+mend-stocked s o w i =
+    log-stocked s o w _ _ (λ k. mend-keeps s (s .ids i) (λ l. saved-in l k ≡ true) (λ l j. still-saved _ l k) (λ l j _ _. saved-append l _ k))
+
+-- ---- collect
+module _ (s : State) (h : History) (v : Aged s h) (z : Sound s) (o : ℕ → Bool) (w : Stocked s o) where
+  abbrev Left : ℕ → ℕ → Type 0
+  Left x = Kept (s .bricks .member) (upd (s .bricks .log) x (only-named (is-named s) (s .bricks .log x)))
+
+  named-left : (x k : ℕ) → is-named s k ≡ true → KeptBy s k → Left x k
+  named-left x k n (inl e) = inl e
+  named-left x k n (inr t) = inr (record {
+    who = t .who;
+    is-member = t .is-member;
+    saved = upd-all (λ i l. saved-in (s .bricks .log i) k ≡ true → saved-in l k ≡ true) (s .bricks .log) x _ (λ _ y. y)
+        (saved-only-named (is-named s) (s .bricks .log x) k n) (t .who) (t .saved);
+  })
+
+  mapped-left : (x : ℕ) → ((g : ℕ) → g < buckets (s .settings) → calm (s .bucket g) ≡ true) → (g : ℕ) → g < buckets (s .settings) → (b : ℕ)
+      → Left x (look (primary-memory (s .bucket g)) b)
+  unfolding is-named
+  mapped-left x calms g l b =
+      let k = look (primary-memory (s .bucket g)) b in
+      let test : ℕ → Bool = λ j. pair-names (s .bucket j) k in
+      by-eq k 0 (λ _ e. inl e)
+      (λ _ n. named-left x k (some-at (buckets (s .settings)) test g l (or-l _ _ (or-l _ _ (or-l _ _ (look-names _ b n))))) (mapped-kept s h v o w calms z g l b))
+
+  pub collect-stocked : (i : ℕ) → Yes s (Event.collect i) → Stocked (rule s (Event.collect i) .after) o
+  unfolding rule collect-effect
+  collect-stocked i y =
+      let calms : (g : ℕ) → g < buckets (s .settings) → calm (s .bucket g) ≡ true = all-at _ _ (y .1 .1 .1 .0) in
+      let left = mapped-left (s .ids i) calms in
+      record {
+        waiting = λ j e m. absurd (none-waits s h v o w calms j e m);
+        buckets = λ g l.
+            let u = w .buckets g l in
+            let c = settled s h v o w calms g l in
+            record {
+              pair = u .pair;
+              copies = copies-mapped c _ (left g l) (u .copies);
+              flown = flown-mapped c _ (left g l);
+              even = u .even;
+            };
+      }

@@ -1,0 +1,137 @@
+-- view, fetch and ready keep the invariant of the claim on want; and a bucket that is not ready has a source.
+use mathlib.Core.Path.{_≡_, refl, sym, ap, _∙_}
+use mathlib.Core.List.{List·Memᴰ·not-nil}
+use mathlib.Core.Bool.{Bool, true, false, not}
+use mathlib.Core.Logic.{inl, inr}
+use Prim.Native.Nat.{ℕ, _<_}
+use native.Mathlib.Omega.{arith}
+use lib.Dec.{ltb}
+use borrow.Author.Tests.{ltb-true, lt-ltb, not-true}
+use Rattle.lists.specs.Tests.{_and_, only}
+use Rattle.lists.specs.Columns.{upd}
+use Rattle.lists.proofs.Tests.{either, impossible, clash, and-r, both, only-in}
+use Rattle.lists.proofs.Columns.{upd-same, upd-all, unflag}
+use Rattle.rules.specs.Limits.{buckets}
+use Rattle.rules.specs.Entries.{waits-for, drain}
+use Rattle.rules.specs.Event.{Event}
+use Rattle.rules.specs.State.{State}
+use Rattle.rules.specs.Parts.{up-member}
+use Rattle.rules.specs.Question.{first-no}
+use Rattle.rules.specs.Views.{view-effect, source, fetch-effect, ready-bucket, ready-effect}
+use Rattle.rules.specs.Step.{rule}
+use Rattle.rules.proofs.Step.{Yes, first-stops, past}
+use Rattle.rules.proofs.Sound.{Sound}
+use Rattle.history.specs.Claim.{History}
+use Rattle.history.proofs.Copies.{relied-anew, relied-before, ReliedOn, in-drain, copies-map, copies-fetched, copies-ready}
+use Rattle.history.proofs.Sound.Groups.{member-here}
+use Rattle.history.proofs.Invariant.{Aged}
+use Rattle.history.proofs.Wanting.{Kept, KeptBy, BucketWant, WantOf, Stocked}
+use Rattle.history.proofs.Ageing.Views.{source-relied, old-relay, still, waits-yet}
+
+module _ (s : State) (h : History) (v : Aged s h) (z : Sound s) (o : ℕ → Bool) (w : Stocked s o) where
+  -- ---- view: members are all up bricks, and every member was one
+  kept-anew : (k : ℕ) → KeptBy s k → Kept (s .bricks .up) (s .bricks .log) k
+  kept-anew k (inl e) = inl e
+  kept-anew k (inr t) = inr (record { who = t .who; is-member = z .bricks .member-up _ (t .is-member); saved = t .saved })
+
+  pub view-stocked : Stocked (rule s Event.view .after) (λ g. true)
+  unfolding rule view-effect
+  view-stocked = record {
+    waiting = λ i e m. absurd (List·Memᴰ·not-nil m);
+    buckets = λ g l.
+        let u = w .buckets g l in
+        record {
+          pair = record {
+            tracked = λ _. refl;
+            one = elim (u .pair .one) [ inl y ↦ inl (z .bricks .member-up _ y) | inr y ↦ inr (z .bricks .member-up _ y) ];
+            all = λ y. impossible y;
+          };
+          copies = copies-map _ _ (λ _. kept-anew) (λ i. relied-anew _ _ _) (u .copies);
+          flown = λ r m. absurd (old-relay s h v g r m);
+          even = λ y. impossible y;
+        };
+  }
+
+  -- ---- fetch
+  pub fetch-stocked : (g : ℕ) → Yes s (Event.fetch g) → Stocked (rule s (Event.fetch g) .after) o
+  unfolding rule fetch-effect
+  fetch-stocked g y =
+      let k = s .bucket g in
+      record {
+        waiting = w .waiting;
+        buckets = upd-all (WantOf (KeptBy s) s o) (s .bucket) g _ (w .buckets) (λ l.
+            let u = w .buckets g l in
+            record {
+              pair = u .pair;
+              copies = copies-fetched _ (u .copies) (k .primary) (k .memory (source s g)) (u .copies .memory _ (source-relied s z g (y .1 .1 .1 .0))) (λ i. relied-before (k .primary) _);
+              flown = u .flown;
+              even = λ t. clash (not-true _ (y .1 .1 .0)) t;
+            });
+      }
+
+  -- ---- ready
+  readied : (g : ℕ) → Yes s (Event.ready g)
+      → let k = s .bucket g in
+      let waits = s .bricks .buffer (k .primary) in
+      let drained = drain (s .settings .entries) (k .memory (k .primary)) (only (waits-for (buckets (s .settings)) g) waits) in
+      WantOf (KeptBy s) s (upd o g false) g (ready-bucket (s .bricks .up) drained k)
+  unfolding rule
+  readied g y l =
+      let k = s .bucket g in
+      let u = w .buckets g l in
+      let unready : k .ready ≡ false = not-true _ (y .1 .1 .1 .1 .0) in
+      let apart : k .backup ≡ k .primary → ⊥ = λ e. z .buckets-ok g l .pair .apart (sym e) in
+      let relied : ReliedOn (s .bricks .here) k (k .primary) = record { present = member-here z _ (y .1 .0); role = inr (inr (y .1 .1 .1 .0, refl)) } in
+      let top = u .copies .memory (k .primary) relied in
+      let drained = in-drain (λ _. KeptBy s) (s .settings .entries) _ (k .memory (k .primary)) top (λ e m. w .waiting (k .primary) e (only-in _ _ m .0)) in
+      record {
+        pair = record {
+          tracked = λ t. impossible (sym (upd-same o g false) ∙ t);
+          one = inl (and-r _ _ (y .1 .0));
+          all = λ _ _. (and-r _ _ (y .1 .0), and-r _ _ (y .1 .1 .0));
+        };
+        copies = copies-ready (λ _. KeptBy s) _ (k .primary) (k .backup) _ _ _ (k .memory (k .primary)) _ (k .disk (k .primary)) apart top drained (u .copies .disk _ relied);
+        flown = λ r m. absurd (still s h v z g l unready r m);
+        even = λ _ _ r m. absurd (still s h v z g l unready r m);
+      }
+
+  pub ready-stocked : (g : ℕ) → Yes s (Event.ready g) → Stocked (rule s (Event.ready g) .after) (upd o g false)
+  unfolding rule ready-effect
+  ready-stocked g y =
+      let l = ltb-true _ _ (y .0) in
+      record {
+        waiting = λ i e m. w .waiting i e (waits-yet s h v z g l i e m .0);
+        buckets = upd-all (WantOf (KeptBy s) s (upd o g false)) (s .bucket) g _ (λ j l. others j l (w .buckets j l)) (readied g y);
+      }
+    where
+      others : (j : ℕ) → j < buckets (s .settings) → BucketWant (KeptBy s) (s .settings .places) (s .ids) (s .bricks .here) (s .bricks .member) (s .bag) (s .view) (o j) j (s .bucket j)
+          → BucketWant (KeptBy s) (s .settings .places) (s .ids) (s .bricks .here) (s .bricks .member) (s .bag) (s .view) (upd o g false j) j (s .bucket j)
+      others j l u = record {
+        pair = record { tracked = λ t. u .pair .tracked (unflag o g j t .0); one = u .pair .one; all = u .pair .all };
+        copies = u .copies;
+        flown = u .flown;
+        even = u .even;
+      }
+
+  -- ---- no fetch answers 13 where the bucket is open
+  source-found : (g : ℕ) → g < buckets (s .settings) → ltb 0 (source s g) ≡ true
+  unfolding source
+  source-found g l =
+      let k = s .bucket g in
+      let last = z .buckets-ok g l .last in
+      let is-up : (i : ℕ) → s .bricks .member i ≡ true → up-member s i ≡ true = λ i y. both _ _ (z .bricks .member-up i y) y in
+      let P : ℕ → Type 0 = λ i. ltb 0 i ≡ true in
+      either P (up-member s (k .last-primary)) (λ _. lt-ltb _ _ (last .one-first))
+      (λ n. either P (up-member s (k .last-backup)) (λ _. lt-ltb _ _ (last .two-first))
+      (λ m. elim (w .buckets g l .pair .one) [ inl y ↦ clash n (is-up _ y) | inr y ↦ clash m (is-up _ y) ]))
+
+  pub fetch-found : (g : ℕ) → o g ≡ true → first-no (rule s (Event.fetch g) .questions) ≡ 13 → ⊥
+  unfolding rule
+  fetch-found g opened e =
+      let s₁ = past (first-stops _ 13 e (omega arith)) (omega arith) in
+      let s₂ = past (s₁ .1) (omega arith) in
+      let l = ltb-true _ _ (s₁ .0) in
+      elim (s₂ .1) [
+        | inl t ↦ clash (t .0) (ap not (w .buckets g l .pair .tracked opened))
+        | inr t ↦ elim (t .1) [ inl u ↦ clash (u .0) (source-found g l) | inr u ↦ u .1 ]
+      ]
