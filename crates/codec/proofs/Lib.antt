@@ -1,0 +1,4 @@
+pub mod Laws
+pub mod Focus
+pub mod Round
+pub mod Loops

@@ -1,0 +1,88 @@
+-- What a change of one part of the state does to the words of a sound store.
+use mathlib.Core.Path.{_≡_, refl, sym, ap, subst, _∙_}
+use mathlib.Core.List.{List}
+use Prim.Native.Nat.{ℕ, _<_}
+use lib.ListN.{length, getD, set}
+use Rattle.lists.specs.Runs.{run, on-run}
+use Rattle.rules.specs.declared.settings.Settings.{Settings}
+use Rattle.rules.specs.State.{State}
+use Rattle.codec.specs.Codec.{Codec, Clean, _&_, word}
+use Rattle.codec.proofs.Focus.{Focus, part-length, clean-part, read-word, write-word}
+use Rattle.layout.specs.Places.{Apart}
+use Rattle.layout.specs.Disk.{Brick, Place}
+use Rattle.layout.specs.Layout.{disk-codec, settings-of}
+use Rattle.layout.specs.Store.{brick-in, to-disk, decode, render}
+use Rattle.layout.proofs.Places.{one-brick}
+use Rattle.layout.proofs.Foci.{brick-focus}
+use Rattle.layout.proofs.Decoded.{settings-read}
+use Rattle.layout.proofs.Sound.{SoundWords, by-place, sound-clean}
+
+module _ (ws : List ℕ) (sd : SoundWords ws) where
+  -- a state of the same settings is written by the same codec
+  rendered : (t : State) → t .settings ≡ decode ws .settings → render t ws ≡ disk-codec (settings-of ws) .enc (to-disk t) ws
+  unfolding render
+  rendered t e = ap (λ (c : Settings). disk-codec c .enc (to-disk t) ws) (e ∙ settings-read ws)
+
+  module _ {B : Type 0} {d : Codec B} (φ : Focus (disk-codec (settings-of ws)) d) where
+    abbrev words-of : List ℕ
+    words-of = run (φ .off) (d .size) ws
+
+    pub words-length : length words-of ≡ d .size
+    words-length = part-length φ ws (sd .size)
+
+    module _ (e : φ .Else (to-disk (decode ws)) (to-disk (decode ws))) where
+      -- a part of the state, read from its words
+      pub seen : φ .see (to-disk (decode ws)) ≡ d .dec words-of
+      seen = ap (φ .see) (by-place ws sd) ∙ φ .read ws (sd .size) (rw (by-place ws sd) at e)
+
+      pub cleaned : Clean d words-of
+      cleaned = clean-part φ ws (sd .size) (rw (by-place ws sd) at e) (sound-clean ws sd)
+
+    -- a change of that part alone, and a second change
+    pub again : (t u : State) → t .settings ≡ decode ws .settings → u .settings ≡ decode ws .settings → φ .Else (to-disk t) (to-disk u)
+        → render u ws ≡ on-run (φ .off) (d .size) (λ _. d .enc (φ .see (to-disk u)) words-of) (render t ws)
+    again t u a b e =
+        rendered u b ∙ φ .write (to-disk t) (to-disk u) ws (sd .size) e
+        ∙ ap (on-run (φ .off) (d .size) (λ _. d .enc (φ .see (to-disk u)) words-of)) (sym (rendered t a))
+
+    pub change : (t : State) → t .settings ≡ decode ws .settings → φ .Else (to-disk (decode ws)) (to-disk t)
+        → render t ws ≡ on-run (φ .off) (d .size) (λ _. d .enc (φ .see (to-disk t)) words-of) ws
+    change t a e = again (decode ws) t refl a e ∙ ap (on-run (φ .off) (d .size) (λ _. d .enc (φ .see (to-disk t)) words-of)) (sd .still)
+
+  module _ (φ : Focus (disk-codec (settings-of ws)) word) where
+    pub seen-word : φ .Else (to-disk (decode ws)) (to-disk (decode ws)) → φ .see (to-disk (decode ws)) ≡ getD ws (φ .off) 0
+    seen-word e = ap (φ .see) (by-place ws sd) ∙ read-word φ ws (sd .size) (rw (by-place ws sd) at e)
+
+    pub again-word : (t u : State) → t .settings ≡ decode ws .settings → u .settings ≡ decode ws .settings → φ .Else (to-disk t) (to-disk u)
+        → render u ws ≡ set (render t ws) (φ .off) (φ .see (to-disk u))
+    again-word t u a b e =
+        rendered u b ∙ write-word φ (to-disk t) (to-disk u) ws (sd .size) e ∙ ap (λ (v : List ℕ). set v (φ .off) (φ .see (to-disk u))) (sym (rendered t a))
+
+    pub change-word : (t : State) → t .settings ≡ decode ws .settings → φ .Else (to-disk (decode ws)) (to-disk t)
+        → render t ws ≡ set ws (φ .off) (φ .see (to-disk t))
+    change-word t a e = again-word (decode ws) t refl a e ∙ ap (λ (v : List ℕ). set v (φ .off) (φ .see (to-disk t))) (sd .still)
+
+-- ---- two states that differ in one brick alone
+pub record OneBrick (s t : State) (x : ℕ) : Type 0 where
+  pub head : to-disk s .head ≡ to-disk t .head
+  pub agreed : to-disk s .agreed ≡ to-disk t .agreed
+  pub proxy : to-disk s .proxy ≡ to-disk t .proxy
+  pub bag : s .bag ≡ t .bag
+  pub ids : s .ids ≡ t .ids
+  pub others : (i : ℕ) → (i ≡ x → ⊥) → brick-in s i ≡ brick-in t i
+
+-- with distinct ids, an update by id is a change of one place's part
+pub only-brick : (c : Settings) (s t : State) (p : ℕ) (h : p < c .places) → Apart (c .places) (s .ids) → 0 < s .ids p → OneBrick s t (s .ids p)
+    → brick-focus c p h .Else (to-disk s) (to-disk t)
+only-brick c s t p h u z o =
+    ((
+      (
+        (((o .head, o .agreed), o .proxy), o .bag),
+        λ j l x. same-place (s .ids j) (t .ids j) (ap (λ (g : ℕ → ℕ). g j) (o .ids))
+            (one-brick (c .places) (s .ids) (brick-in s) (brick-in t) p u h z (o .others) j l x),
+      ),
+      (ap (λ (g : ℕ → ℕ). g p) (o .ids), z),
+    ))
+  where
+    same-place : (i j : ℕ) → i ≡ j → brick-in s i ≡ brick-in t i → _≡_ {A = Place} (i & brick-in s i) (j & brick-in t j)
+    same-place i j q r = subst (λ (k : ℕ). _≡_ {A = Place} (i & brick-in s i) (k & brick-in t k)) q (ap (λ (b : Brick). i & b) r)

@@ -1,0 +1,13 @@
+pub mod Places
+pub mod Codecs
+pub mod Foci
+pub mod Views
+pub mod Decoded
+pub mod Sound
+pub mod Changes
+pub mod Fit
+pub mod Parts
+pub mod Sizes
+pub mod Clean
+pub mod Check
+pub mod Bytes

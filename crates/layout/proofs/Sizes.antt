@@ -1,0 +1,25 @@
+-- No sum or product that leads to an offset in the store reaches 2^34, also at the largest settings.
+use Prim.Native.Nat.{_*_, _/_, _^_, _≤_, _<_}
+use native.Mathlib.Nat.{mul-le-mul}
+use native.Mathlib.Omega.{arith}
+use Rattle.rules.specs.declared.settings.Settings.{Settings}
+use Rattle.rules.specs.Limits.{buckets}
+use Rattle.rules.proofs.Limits.{Limits}
+use Rattle.layout.specs.Layout.{place-words, store-words}
+
+module _ (c : Settings) (l : Limits c) where
+  -- the words of a log's cells
+  pub cells-small : c .chunks * (c .size / 8) ≤ 2 ^ 26
+  cells-small = let w : c .size / 8 ≤ 2 ^ 10 = omega (arith, l .size-to) in mul-le-mul (l .chunks-to) w
+
+  pub place-small : place-words c < 2 ^ 27
+  unfolding buckets
+  place-small = omega (arith, cells-small, l .entries-to, l .chunks-to)
+
+  pub places-small : c .places * place-words c ≤ 2 ^ 30
+  places-small = let w : place-words c ≤ 2 ^ 27 = omega (arith, place-small) in mul-le-mul (l .places-to) w
+
+  -- so many bytes has a store
+  pub store-small : 8 * store-words c < 2 ^ 34
+  unfolding buckets
+  store-small = omega (arith, places-small)

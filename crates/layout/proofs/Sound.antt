@@ -1,0 +1,102 @@
+-- Sound words, as facts.
+use mathlib.Core.Path.{_≡_, refl, sym, ap, _∙_}
+use mathlib.Core.List.{List, [], _∷_}
+use mathlib.Core.Bool.{true}
+use mathlib.Core.Logic.{inl, inr}
+use Prim.Native.Nat.{ℕ, _<_}
+use native.Mathlib.Omega.{arith}
+use lib.ListN.{length}
+use borrow.Author.Tests.{eqb-true, eq-eqb}
+use Rattle.lists.specs.Tests.{all-below}
+use Rattle.lists.proofs.Tests.{by-lt, impossible, and-l, and-r, both, or-cases, all-at, is-no, eqb-self}
+use Rattle.rules.specs.declared.settings.Settings.{Settings}
+use Rattle.rules.specs.Limits.{in-limits}
+use Rattle.rules.specs.State.{State}
+use Rattle.rules.specs.Sound.{alone, sound-place, sound}
+use Rattle.codec.specs.Codec.{Clean}
+use Rattle.layout.specs.Places.{Apart}
+use Rattle.layout.specs.Layout.{disk-codec, settings-of, store-words}
+use Rattle.layout.specs.Store.{to-disk, decode, render, same-words, sound-words}
+use Rattle.layout.proofs.Decoded.{settings-read, as-decoded}
+
+-- ---- two lists of words are the same
+pub same-words-true : (l m : List ℕ) → same-words l m ≡ true → l ≡ m
+unfolding same-words
+same-words-true [] [] y = refl
+same-words-true [] (b ∷ m) y = impossible y
+same-words-true (a ∷ l) [] y = impossible y
+same-words-true (a ∷ l) (b ∷ m) y =
+    let e : a ≡ b = eqb-true a b (and-l _ _ y) in
+    let r : l ≡ m = same-words-true l m (and-r _ _ y) in
+    cc
+
+same-words-self : (l : List ℕ) → same-words l l ≡ true
+unfolding same-words
+same-words-self [] = refl
+same-words-self (a ∷ l) = both _ _ (eqb-self a) (same-words-self l)
+
+pub same-words-of : (l m : List ℕ) → l ≡ m → same-words l m ≡ true
+same-words-of l m e = rw (← e) (same-words-self l)
+
+-- ---- sound words
+pub record SoundWords (ws : List ℕ) : Type 0 where
+  pub size : length ws ≡ store-words (settings-of ws)
+  pub still : render (decode ws) ws ≡ ws
+  pub state : sound (decode ws) ≡ true
+
+pub sound-facts : (ws : List ℕ) → sound-words ws ≡ true → SoundWords ws
+unfolding sound-words
+sound-facts ws y = record {
+  size = eqb-true _ _ (and-l _ _ (and-l _ _ y));
+  still = same-words-true _ _ (and-r _ _ (and-l _ _ y));
+  state = and-r _ _ y;
+}
+
+pub facts-sound : (ws : List ℕ) → SoundWords ws → sound-words ws ≡ true
+unfolding sound-words
+facts-sound ws f = both _ _ (both _ _ (eq-eqb _ _ (f .size)) (same-words-of _ _ (f .still))) (f .state)
+
+-- ---- no id at two places
+ids-apart : (s : State) → all-below (s .settings .places) (sound-place s) ≡ true → (p q : ℕ) → q < s .settings .places → p < q → s .ids p ≡ s .ids q
+    → 0 < s .ids q → ⊥
+unfolding sound-place alone
+ids-apart s y p q h l e o = elim (or-cases _ _ (all-at _ _ y q h)) [
+  | inl z ↦ omega (arith, eqb-true (s .ids q) 0 z)
+  | inr z ↦ is-no _ (all-at q _ (and-r _ _ (and-l _ _ z)) p l) (eq-eqb _ _ e)
+]
+
+pub sound-apart : (s : State) → sound s ≡ true → Apart (s .settings .places) (s .ids)
+unfolding sound
+sound-apart s y p q hp hq e o =
+    let places = and-r _ _ (and-l _ _ (and-l _ _ (and-l _ _ (and-l _ _ y)))) in
+    by-lt p q (λ _ l. absurd (ids-apart s places p q hq l e (omega arith)))
+    (λ _ l. by-lt q p (λ _ m. absurd (ids-apart s places q p hp m (sym e) o)) (λ _ m. omega arith))
+
+-- settings in limits
+pub sound-limits : (s : State) → sound s ≡ true → in-limits (s .settings) ≡ true
+unfolding sound
+sound-limits s y = and-l _ _ (and-l _ _ (and-l _ _ (and-l _ _ (and-l _ _ (and-l _ _ (and-l _ _ (and-l _ _ (and-l _ _ y))))))))
+
+module _ (ws : List ℕ) (sd : SoundWords ws) where
+  pub words-limits : in-limits (settings-of ws) ≡ true
+  words-limits = rw (settings-read ws) at (sound-limits (decode ws) (sd .state))
+
+  pub words-apart : Apart (settings-of ws .places) (decode ws .ids)
+  words-apart = rw (settings-read ws) at (sound-apart (decode ws) (sd .state))
+
+  pub by-place : to-disk (decode ws) ≡ disk-codec (settings-of ws) .dec ws
+  by-place = as-decoded ws words-apart
+
+  -- sound words are clean
+  pub sound-clean : Clean (disk-codec (settings-of ws)) ws
+  unfolding render
+  sound-clean =
+      ap (λ d. disk-codec (settings-of ws) .enc d ws) (sym by-place)
+      ∙ ap (λ (c : Settings). disk-codec c .enc (to-disk (decode ws)) ws) (sym (settings-read ws)) ∙ sd .still
+
+-- where no id stands at two places, clean words are what their own state renders
+pub clean-still : (ws : List ℕ) → Apart (settings-of ws .places) (decode ws .ids) → Clean (disk-codec (settings-of ws)) ws → render (decode ws) ws ≡ ws
+unfolding render
+clean-still ws apart clean =
+    ap (λ (c : Settings). disk-codec c .enc (to-disk (decode ws)) ws) (settings-read ws)
+    ∙ ap (λ d. disk-codec (settings-of ws) .enc d ws) (as-decoded ws apart) ∙ clean

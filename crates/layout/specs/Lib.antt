@@ -1,0 +1,4 @@
+pub mod Places
+pub mod Disk
+pub mod Layout
+pub mod Store

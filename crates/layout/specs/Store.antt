@@ -1,0 +1,131 @@
+-- Words decoded to the rules' state, a state rendered over words, and which words are sound.
+use mathlib.Core.List.{List, [], _∷_}
+use mathlib.Core.Bool.{Bool, true, false}
+use Prim.Native.Nat.{ℕ, _*_, _%_}
+use lib.Dec.{eqb}
+use lib.ListN.{length}
+use Rattle.lists.specs.Tests.{_and_}
+use Rattle.words.specs.Words.{words, unwords}
+use Rattle.rules.specs.declared.settings.Settings.{Settings}
+use Rattle.rules.specs.Limits.{size-step}
+use Rattle.rules.specs.State.{Bucket, State}
+use Rattle.rules.specs.Sound.{sound}
+use Rattle.codec.specs.Codec.{_&_}
+use Rattle.layout.specs.Places.{of}
+use Rattle.layout.specs.Disk.{Agreed, Brick, Disk, blank-brick}
+use Rattle.layout.specs.Layout.{disk-codec, settings-of, store-words}
+
+-- ---- from places to ids
+unfoldable pub brick-at : Disk → ℕ → Brick
+brick-at d = of (d .head .settings .places) (λ p. d .place p .fst) blank-brick (λ p. d .place p .snd)
+
+abbrev pub bucket-with : Agreed → ℕ → (ℕ → Brick) → Bucket
+bucket-with k g bricks = record {
+  primary = k .primary;
+  backup = k .backup;
+  last-primary = k .last-primary;
+  last-backup = k .last-backup;
+  ready = k .ready;
+  fetched = k .fetched;
+  order = k .order;
+  taken = k .taken;
+  memory = λ i. bricks i .copies g .memory;
+  disk = λ i. bricks i .copies g .disk;
+}
+
+abbrev pub state-with : Disk → (ℕ → Brick) → State
+state-with d bricks = record {
+  settings = d .head .settings;
+  ids = λ p. d .place p .fst;
+  given = d .head .given;
+  view = d .head .view;
+  started = d .head .started;
+  bricks = record {
+    here = λ i. bricks i .here;
+    up = λ i. bricks i .status .up;
+    member = λ i. bricks i .status .member;
+    began = λ i. bricks i .status .began;
+    next = λ i. bricks i .status .next;
+    ceiling = λ i. bricks i .status .ceiling;
+    log = λ i. bricks i .log;
+    buffer = λ i. bricks i .buffer;
+  };
+  bucket = λ g. bucket-with (d .agreed g) g bricks;
+  bag = d .bag;
+  items = λ p. d .proxy p .items;
+  known = λ p. d .proxy p .known;
+}
+
+abbrev pub to-state : Disk → State
+to-state d = state-with d (brick-at d)
+
+-- ---- from ids to places
+abbrev pub brick-in : State → ℕ → Brick
+brick-in s i = record {
+  here = s .bricks .here i;
+  status = record {
+    up = s .bricks .up i;
+    member = s .bricks .member i;
+    began = s .bricks .began i;
+    next = s .bricks .next i;
+    ceiling = s .bricks .ceiling i;
+  };
+  buffer = s .bricks .buffer i;
+  copies = λ g. record { memory = s .bucket g .memory i; disk = s .bucket g .disk i };
+  log = s .bricks .log i;
+}
+
+abbrev pub agreed-in : Bucket → Agreed
+agreed-in k = record {
+  primary = k .primary;
+  backup = k .backup;
+  last-primary = k .last-primary;
+  last-backup = k .last-backup;
+  ready = k .ready;
+  fetched = k .fetched;
+  order = k .order;
+  taken = k .taken;
+}
+
+abbrev pub to-disk : State → Disk
+to-disk s = record {
+  head = record { settings = s .settings; view = s .view; given = s .given; started = s .started };
+  agreed = λ g. agreed-in (s .bucket g);
+  proxy = λ p. record { known = s .known p; items = s .items p };
+  bag = s .bag;
+  place = λ p. s .ids p & brick-in s (s .ids p);
+}
+
+-- ---- words
+unfoldable pub decode : List ℕ → State
+decode ws = to-state (disk-codec (settings-of ws) .dec ws)
+
+unfoldable pub render : State → List ℕ → List ℕ
+render s ws = disk-codec (s .settings) .enc (to-disk s) ws
+
+-- ---- sound
+unfoldable pub same-words : List ℕ → List ℕ → Bool
+same-words [] [] = true
+same-words [] (b ∷ m) = false
+same-words (a ∷ l) [] = false
+same-words (a ∷ l) (b ∷ m) = eqb a b and same-words l m
+
+-- the length is that of the settings; the words are what their own state renders (so flags are 0 or 1, and a log's positions list its rows by
+-- ascending key); and the state is sound (so the settings are in limits)
+unfoldable pub sound-words : List ℕ → Bool
+sound-words ws = eqb (length ws) (store-words (settings-of ws)) and same-words (render (decode ws) ws) ws and sound (decode ws)
+
+-- ---- bytes
+unfoldable pub decode-bytes : List ℕ → State
+decode-bytes bs = decode (words bs)
+
+unfoldable pub render-bytes : State → List ℕ → List ℕ
+render-bytes s bs = unwords (render s (words bs))
+
+-- so many bytes are lent for a store of these settings
+abbrev pub store-bytes : Settings → ℕ
+store-bytes c = size-step * store-words c
+
+-- the bytes are whole words, and those are sound
+unfoldable pub sound-bytes : List ℕ → Bool
+sound-bytes bs = eqb (length bs % size-step) 0 and sound-words (words bs)

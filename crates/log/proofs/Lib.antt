@@ -1,0 +1,6 @@
+pub mod Positions
+pub mod Regions
+pub mod Chunks
+pub mod Check
+pub mod Changes
+pub mod Codec

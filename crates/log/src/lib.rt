@@ -1,0 +1,1 @@
+// A chunk log.
