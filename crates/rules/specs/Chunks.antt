@@ -12,35 +12,35 @@ pub record Chunk : Type 0 where
   pub bytes : List ℕ
 
 abbrev pub chunk : ℕ → Bool → List ℕ → Chunk
-chunk k s d = record { key = k; saved = s; bytes = d }
+chunk key saved bytes = record { key = key; saved = saved; bytes = bytes }
 
 unfoldable pub held : List Chunk → ℕ → Bool
-held l k = some (λ c. eqb k (c .key)) l
+held log key = some (λ c. eqb key (c .key)) log
 
 unfoldable pub saved-in : List Chunk → ℕ → Bool
-saved-in l k = some (λ c. eqb k (c .key) and c .saved) l
+saved-in log key = some (λ c. eqb key (c .key) and c .saved) log
 
 -- the bytes of the chunk with the key
 unfoldable pub bytes-in : List Chunk → ℕ → List ℕ
-bytes-in [] k = []
-bytes-in (c ∷ l) k = cond (eqb k (c .key)) (c .bytes) (bytes-in l k)
+bytes-in [] key = []
+bytes-in (chunk ∷ rest) key = cond (eqb key (chunk .key)) (chunk .bytes) (bytes-in rest key)
 
 -- one more chunk
 abbrev pub append : List Chunk → Chunk → List Chunk
-append l c = l ++ (c ∷ [])
+append log chunk = log ++ (chunk ∷ [])
 
 -- the chunks that a test of the key picks become saved
 abbrev pub save : (ℕ → Bool) → Chunk → Chunk
-save test c = chunk (c .key) (test (c .key) or c .saved) (c .bytes)
+save test old = chunk (old .key) (test (old .key) or old .saved) (old .bytes)
 
 unfoldable pub save-all : List Chunk → List Chunk
-save-all l = map (save (λ k. true)) l
+save-all log = map (save (λ k. true)) log
 
 unfoldable pub save-key : List Chunk → ℕ → List Chunk
-save-key l k = map (save (eqb k)) l
+save-key log key = map (save (eqb key)) log
 
 unfoldable pub only-saved : List Chunk → List Chunk
-only-saved l = only (λ c. c .saved) l
+only-saved log = only (λ c. c .saved) log
 
 unfoldable pub only-named : (ℕ → Bool) → List Chunk → List Chunk
-only-named named l = only (λ c. named (c .key)) l
+only-named named log = only (λ c. named (c .key)) log

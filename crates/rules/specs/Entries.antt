@@ -12,44 +12,46 @@ pub record Entry : Type 0 where
   pub key : ℕ
 
 abbrev pub entry : ℕ → ℕ → Entry
-entry b k = record { block = b; key = k }
+entry block key = record { block = block; key = key }
 
 -- the key of a block: key 0 means no mapping
 unfoldable pub look : List Entry → ℕ → ℕ
-look [] b = 0
-look (e ∷ l) b = cond (eqb b (e .block)) (e .key) (look l b)
+look [] block = 0
+look (entry ∷ rest) block = cond (eqb block (entry .block)) (entry .key) (look rest block)
 
 -- is there an entry for the block?
 unfoldable pub has : List Entry → ℕ → Bool
-has l b = some (λ e. eqb b (e .block)) l
+has entries block = some (λ e. eqb block (e .block)) entries
 
 -- is the key that of some entry?
 unfoldable pub names : List Entry → ℕ → Bool
-names l k = some (λ e. eqb k (e .key)) l
+names entries key = some (λ e. eqb key (e .key)) entries
 
 -- blocks ascend, from a floor on
 unfoldable pub ascending : ℕ → List Entry → Bool
 ascending floor [] = true
-ascending floor (e ∷ l) = leb floor (e .block) and ascending (suc (e .block)) l
+ascending floor (entry ∷ rest) = leb floor (entry .block) and ascending (suc (entry .block)) rest
 
 -- the block gets the key, at its place in the order
 unfoldable pub insert : List Entry → ℕ → ℕ → List Entry
-insert [] b k = entry b k ∷ []
-insert (e ∷ l) b k = cond (ltb b (e .block)) (entry b k ∷ e ∷ l) (cond (eqb b (e .block)) (entry b k ∷ l) (e ∷ insert l b k))
+insert [] block key = entry block key ∷ []
+insert (first ∷ rest) block key =
+    cond (ltb block (first .block)) (entry block key ∷ first ∷ rest)
+    (cond (eqb block (first .block)) (entry block key ∷ rest) (first ∷ insert rest block key))
 
 -- the block's entry goes
 unfoldable pub remove : List Entry → ℕ → List Entry
-remove l b = only (λ e. not (eqb b (e .block))) l
+remove entries block = only (λ e. not (eqb block (e .block))) entries
 
 -- may a copy of at most so many entries take the block?
 unfoldable pub takes : ℕ → List Entry → ℕ → Bool
-takes most l b = has l b or ltb (length l) most
+takes most entries block = has entries block or ltb (length entries) most
 
 -- of a buffer, the entries of a bucket, and the others
 unfoldable pub waits-for : ℕ → ℕ → Entry → Bool
-waits-for count g e = eqb (bucket-of count (e .block)) g
+waits-for count number entry = eqb (bucket-of count (entry .block)) number
 
 -- buffer entries move into a copy in arrival order; a new block that finds it full is dropped
 unfoldable pub drain : ℕ → List Entry → List Entry → List Entry
 drain most copy [] = copy
-drain most copy (e ∷ l) = drain most (cond (takes most copy (e .block)) (insert copy (e .block) (e .key)) copy) l
+drain most copy (entry ∷ rest) = drain most (cond (takes most copy (entry .block)) (insert copy (entry .block) (entry .key)) copy) rest

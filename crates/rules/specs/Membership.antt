@@ -13,54 +13,54 @@ use Rattle.rules.specs.Question.{Question, _asks_, is-place}
 
 -- ---- crash,place: unsaved chunks, buffer and unsaved entries go; down. It ends the brick's membership. After a crash next is the ceiling
 abbrev pub crash-asks : State → ℕ → List Question
-crash-asks s i = (3 asks is-place s i) ∷ (13 asks is-up s i) ∷ []
+crash-asks s place = (3 asks is-place s place) ∷ (13 asks is-up s place) ∷ []
 
 abbrev pub crashed-bucket : ℕ → Bucket → Bucket
-crashed-bucket x k = with-copies k (upd (k .memory) x (k .disk x)) (k .disk)
+crashed-bucket id bucket = with-copies bucket (upd (bucket .memory) id (bucket .disk id)) (bucket .disk)
 
 unfoldable pub crash-effect : State → ℕ → State
-crash-effect s x =
-    let k = s .bricks in
+crash-effect s id =
+    let old = s .bricks in
     set-buckets (set-bricks s (record {
-      here = k .here;
-      up = upd (k .up) x false;
-      member = upd (k .member) x false;
-      began = k .began;
-      next = upd (k .next) x (k .ceiling x);
-      ceiling = k .ceiling;
-      log = upd (k .log) x (only-saved (k .log x));
-      buffer = upd (k .buffer) x [];
-    })) (λ g. crashed-bucket x (s .bucket g))
+      here = old .here;
+      up = upd (old .up) id false;
+      member = upd (old .member) id false;
+      began = old .began;
+      next = upd (old .next) id (old .ceiling id);
+      ceiling = old .ceiling;
+      log = upd (old .log) id (only-saved (old .log id));
+      buffer = upd (old .buffer) id [];
+    })) (λ g. crashed-bucket id (s .bucket g))
 
 -- ---- lose,place: the place is empty. It ends the brick's membership
 abbrev pub lose-asks : State → ℕ → List Question
-lose-asks s i = (3 asks is-place s i) ∷ (13 asks not (is-empty s i)) ∷ []
+lose-asks s place = (3 asks is-place s place) ∷ (13 asks not (is-empty s place)) ∷ []
 
 -- nothing is left of the brick, or nothing is there yet but whether some place holds it and whether it is up
 abbrev pub blank-brick : Bricks → ℕ → Bool → Bricks
-blank-brick k x there = record {
-  here = upd (k .here) x there;
-  up = upd (k .up) x there;
-  member = upd (k .member) x false;
-  began = upd (k .began) x false;
-  next = upd (k .next) x 0;
-  ceiling = upd (k .ceiling) x 0;
-  log = upd (k .log) x [];
-  buffer = upd (k .buffer) x [];
+blank-brick old id there = record {
+  here = upd (old .here) id there;
+  up = upd (old .up) id there;
+  member = upd (old .member) id false;
+  began = upd (old .began) id false;
+  next = upd (old .next) id 0;
+  ceiling = upd (old .ceiling) id 0;
+  log = upd (old .log) id [];
+  buffer = upd (old .buffer) id [];
 }
 
 abbrev pub blank-copies : ℕ → Bucket → Bucket
-blank-copies x k = with-copies k (upd (k .memory) x []) (upd (k .disk) x [])
+blank-copies id bucket = with-copies bucket (upd (bucket .memory) id []) (upd (bucket .disk) id [])
 
 unfoldable pub lose-effect : State → ℕ → ℕ → State
-lose-effect s i x = record {
+lose-effect s place id = record {
   settings = s .settings;
-  ids = upd (s .ids) i 0;
+  ids = upd (s .ids) place 0;
   given = s .given;
   view = s .view;
   started = s .started;
-  bricks = blank-brick (s .bricks) x false;
-  bucket = λ g. blank-copies x (s .bucket g);
+  bricks = blank-brick (s .bricks) id false;
+  bucket = λ g. blank-copies id (s .bucket g);
   bag = s .bag;
   items = s .items;
   known = s .known;
@@ -68,37 +68,37 @@ lose-effect s i x = record {
 
 -- ---- rise,place: up, no member yet
 abbrev pub rise-asks : State → ℕ → List Question
-rise-asks s i = (3 asks is-place s i) ∷ (13 asks not (is-empty s i) and not (is-up s i)) ∷ []
+rise-asks s place = (3 asks is-place s place) ∷ (13 asks not (is-empty s place) and not (is-up s place)) ∷ []
 
 unfoldable pub rise-effect : State → ℕ → State
-rise-effect s x =
-    let k = s .bricks in
+rise-effect s id =
+    let old = s .bricks in
     set-bricks s (record {
-      here = k .here;
-      up = upd (k .up) x true;
-      member = k .member;
-      began = k .began;
-      next = k .next;
-      ceiling = k .ceiling;
-      log = k .log;
-      buffer = k .buffer;
+      here = old .here;
+      up = upd (old .up) id true;
+      member = old .member;
+      began = old .began;
+      next = old .next;
+      ceiling = old .ceiling;
+      log = old .log;
+      buffer = old .buffer;
     })
 
 -- ---- join,place: a blank brick with the lowest id never given, up
 abbrev pub join-asks : State → ℕ → List Question
-join-asks s i = (3 asks is-place s i) ∷ (12 asks ltb (s .given) max-id) ∷ (13 asks is-empty s i) ∷ []
+join-asks s place = (3 asks is-place s place) ∷ (12 asks ltb (s .given) max-id) ∷ (13 asks is-empty s place) ∷ []
 
 unfoldable pub join-effect : State → ℕ → State
-join-effect s i =
-    let x = suc (s .given) in
+join-effect s place =
+    let id = suc (s .given) in
     record {
       settings = s .settings;
-      ids = upd (s .ids) i x;
-      given = x;
+      ids = upd (s .ids) place id;
+      given = id;
       view = s .view;
       started = s .started;
-      bricks = blank-brick (s .bricks) x true;
-      bucket = λ g. blank-copies x (s .bucket g);
+      bricks = blank-brick (s .bricks) id true;
+      bucket = λ g. blank-copies id (s .bucket g);
       bag = s .bag;
       items = s .items;
       known = s .known;

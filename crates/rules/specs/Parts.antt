@@ -13,7 +13,7 @@ use Rattle.rules.specs.Pairs.{ids-of}
 
 -- ---- members
 abbrev pub up-member : State → ℕ → Bool
-up-member s i = s .bricks .up i and s .bricks .member i
+up-member s id = s .bricks .up id and s .bricks .member id
 
 abbrev pub members : State → List ℕ
 members s = ids-of (s .given) (s .bricks .member)
@@ -24,62 +24,63 @@ circle s id = only (leb id) (members s) ++ only (λ i. ltb i id) (members s)
 
 -- the first of some bricks that is up and holds the key: 0 if none does
 unfoldable pub seek : Bricks → ℕ → List ℕ → ℕ
-seek b k [] = 0
-seek b k (i ∷ l) = cond (b .up i and held (b .log i) k) i (seek b k l)
+seek bricks key [] = 0
+seek bricks key (id ∷ rest) = cond (bricks .up id and held (bricks .log id) key) id (seek bricks key rest)
 
 -- the chunk is sought from the home id upward, circularly, among up members
 unfoldable pub holder : State → ℕ → ℕ
-holder s k = seek (s .bricks) k (circle s (home-of k))
+holder s key = seek (s .bricks) key (circle s (home-of key))
 
 -- the members at which the chunk is saved
 unfoldable pub saved-at : State → ℕ → List ℕ
-saved-at s k = only (λ i. saved-in (s .bricks .log i) k) (members s)
+saved-at s key = only (λ i. saved-in (s .bricks .log i) key) (members s)
 
 -- ---- places
 abbrev pub is-up : State → ℕ → Bool
-is-up s p = s .bricks .up (s .ids p)
+is-up s place = s .bricks .up (s .ids place)
 
 abbrev pub is-empty : State → ℕ → Bool
-is-empty s p = eqb (s .ids p) 0
+is-empty s place = eqb (s .ids place) 0
 
 -- ---- the bucket of a block
 abbrev pub bucket-no : State → ℕ → ℕ
-bucket-no s b = bucket-of (buckets (s .settings)) b
+bucket-no s block = bucket-of (buckets (s .settings)) block
 
 abbrev pub bucket-at : State → ℕ → Bucket
-bucket-at s b = s .bucket (bucket-no s b)
+bucket-at s block = s .bucket (bucket-no s block)
 
 -- ---- a pair's four copies
 abbrev pub primary-memory : Bucket → List Entry
-primary-memory k = k .memory (k .primary)
+primary-memory bucket = bucket .memory (bucket .primary)
 
 abbrev pub primary-disk : Bucket → List Entry
-primary-disk k = k .disk (k .primary)
+primary-disk bucket = bucket .disk (bucket .primary)
 
 abbrev pub backup-memory : Bucket → List Entry
-backup-memory k = k .memory (k .backup)
+backup-memory bucket = bucket .memory (bucket .backup)
 
 abbrev pub backup-disk : Bucket → List Entry
-backup-disk k = k .disk (k .backup)
+backup-disk bucket = bucket .disk (bucket .backup)
 
 -- all four give one key for the block; a down brick's memory is its disk, and a lost brick gives key 0
 unfoldable pub agree : Bucket → ℕ → Bool
-agree k b =
-    eqb (look (primary-disk k) b) (look (primary-memory k) b) and eqb (look (backup-memory k) b) (look (primary-memory k) b)
-    and eqb (look (backup-disk k) b) (look (primary-memory k) b)
+agree bucket block =
+    eqb (look (primary-disk bucket) block) (look (primary-memory bucket) block) and eqb (look (backup-memory bucket) block) (look (primary-memory bucket) block)
+    and eqb (look (backup-disk bucket) block) (look (primary-memory bucket) block)
 
 -- pending: in a ready bucket, the four don't all give one key for the block
 unfoldable pub pending : Bucket → ℕ → Bool
-pending k b = k .ready and not (agree k b)
+pending bucket block = bucket .ready and not (agree bucket block)
 
 -- a bucket that is ready with nothing pending: a block that none of the four names is not
 unfoldable pub none-pending : Bucket → List Entry → Bool
-none-pending k l = every (λ e. not (pending k (e .block))) l
+none-pending bucket entries = every (λ e. not (pending bucket (e .block))) entries
 
 unfoldable pub calm : Bucket → Bool
-calm k =
-    k .ready and none-pending k (primary-memory k) and none-pending k (primary-disk k) and none-pending k (backup-memory k) and none-pending k (backup-disk k)
+calm bucket =
+    bucket .ready and none-pending bucket (primary-memory bucket) and none-pending bucket (primary-disk bucket)
+    and none-pending bucket (backup-memory bucket) and none-pending bucket (backup-disk bucket)
 
 -- ---- proxies
 abbrev pub item : State → ℕ → ℕ → ℕ
-item s p b = look (s .items p) b
+item s proxy block = look (s .items proxy) block

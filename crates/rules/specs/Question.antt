@@ -16,7 +16,7 @@ pub record Question : Type 0 where
 
 infix 20 _asks_
 abbrev pub _asks_ : ℕ → Bool → Question
-_asks_ c b = record { code = c; yes = b }
+_asks_ code answer = record { code = code; yes = answer }
 
 -- the number of the first question that is answered no: 0 if none is
 unfoldable pub first-no : List Question → ℕ
@@ -30,40 +30,40 @@ AllYes (q ∷ qs) = (q .yes ≡ true) × AllYes qs
 -- ---- what several kinds ask
 -- 3: each field in range
 abbrev pub is-proxy : ℕ → Bool
-is-proxy p = ltb p proxies
+is-proxy proxy = ltb proxy proxies
 
 abbrev pub is-block : ℕ → Bool
-is-block b = ltb b blocks
+is-block block = ltb block blocks
 
 abbrev pub is-place : State → ℕ → Bool
-is-place s i = ltb i (s .settings .places)
+is-place s place = ltb place (s .settings .places)
 
 abbrev pub is-bucket : State → ℕ → Bool
-is-bucket s g = ltb g (buckets (s .settings))
+is-bucket s number = ltb number (buckets (s .settings))
 
 -- 4: does the block belong to the proxy?
 abbrev pub belongs : ℕ → ℕ → Bool
-belongs p b = eqb (proxy-of b) p
+belongs proxy block = eqb (proxy-of block) proxy
 
 -- 5: does the proxy know the present view?
 abbrev pub knows-view : State → ℕ → Bool
-knows-view s p = eqb (s .known p) (s .view)
+knows-view s proxy = eqb (s .known proxy) (s .view)
 
 -- 6: is the primary an up member?
 abbrev pub primary-up : State → ℕ → Bool
-primary-up s b = up-member s (bucket-at s b .primary)
+primary-up s block = up-member s (bucket-at s block .primary)
 
 -- 7: bucket ready?
 abbrev pub is-ready : State → ℕ → Bool
-is-ready s b = bucket-at s b .ready
+is-ready s block = bucket-at s block .ready
 
 -- 8: block not pending, nor in the buffer?
 abbrev pub not-pending : State → ℕ → Bool
-not-pending s b = not (pending (bucket-at s b) b)
+not-pending s block = not (pending (bucket-at s block) block)
 
 abbrev pub not-waiting : State → ℕ → Bool
-not-waiting s b = not (has (s .bricks .buffer (bucket-at s b .primary)) b)
+not-waiting s block = not (has (s .bricks .buffer (bucket-at s block .primary)) block)
 
 -- 9: an item?
 abbrev pub has-item : State → ℕ → ℕ → Bool
-has-item s p b = has (s .items p) b
+has-item s proxy block = has (s .items proxy) block

@@ -13,24 +13,24 @@ use Rattle.rules.specs.Question.{Question, _asks_, is-proxy, is-block, b
 
 -- the block's key in the primary's memory
 abbrev pub mapped : State → ℕ → ℕ
-mapped s b = look (primary-memory (bucket-at s b)) b
+mapped s block = look (primary-memory (bucket-at s block)) block
 
 -- ---- get,proxy,block: key and bytes; key 0 and zeros if unmapped
 abbrev pub get-asks : State → ℕ → ℕ → List Question
-get-asks s p b =
-    (3 asks is-proxy p)
-    ∷ (3 asks is-block b)
-    ∷ (4 asks belongs p b)
-    ∷ (5 asks knows-view s p)
-    ∷ (6 asks primary-up s b)
-    ∷ (7 asks is-ready s b)
-    ∷ (8 asks not-pending s b)
-    ∷ (8 asks not-waiting s b)
-    ∷ (11 asks eqb (mapped s b) 0 or ltb 0 (holder s (mapped s b)))
+get-asks s proxy block =
+    (3 asks is-proxy proxy)
+    ∷ (3 asks is-block block)
+    ∷ (4 asks belongs proxy block)
+    ∷ (5 asks knows-view s proxy)
+    ∷ (6 asks primary-up s block)
+    ∷ (7 asks is-ready s block)
+    ∷ (8 asks not-pending s block)
+    ∷ (8 asks not-waiting s block)
+    ∷ (11 asks eqb (mapped s block) 0 or ltb 0 (holder s (mapped s block)))
     ∷ []
 
 unfoldable pub zeros : ℕ → List ℕ
-zeros n = replicate n 0
+zeros size = replicate size 0
 
 unfoldable pub get-bytes : State → ℕ → List ℕ
-get-bytes s b = let k = mapped s b in cond (eqb k 0) (zeros (s .settings .size)) (bytes-in (s .bricks .log (holder s k)) k)
+get-bytes s block = let key = mapped s block in cond (eqb key 0) (zeros (s .settings .size)) (bytes-in (s .bricks .log (holder s key)) key)

@@ -31,28 +31,30 @@ abbrev quiet : List Question → State → Rule
 quiet qs t = record { questions = qs; said = only-key 0; after = t }
 
 unfoldable pub rule : State → Event → Rule
-rule s (Event.put p i b d) = record { questions = put-asks s p i b d; said = only-key (new-key s (s .ids i)); after = put-effect s p (s .ids i) b d }
-rule s (Event.copy k) = quiet (copy-asks s k) (copy-effect s k)
-rule s (Event.savelog i) = quiet (savelog-asks s i) (savelog-effect s (s .ids i))
-rule s (Event.map p b) = quiet (map-asks s p b) (map-effect s p b)
-rule s (Event.send b) = quiet (send-asks s b) (send-effect s b)
-rule s (Event.deliver n) = record { questions = deliver-asks s n; said = only-key (cond (is-taken s n) 1 0); after = deliver-effect s n }
-rule s (Event.drop n) = quiet (drop-asks s n) (drop-effect s n)
-rule s (Event.savemap i) = quiet (savemap-asks s i) (savemap-effect s (s .ids i))
-rule s (Event.done p b) = quiet (done-asks s p b) (item-goes s p b)
-rule s (Event.get p b) = record { questions = get-asks s p b; said = record { key = mapped s b; bytes = get-bytes s b }; after = s }
-rule s (Event.abandon p b) = quiet (abandon-asks s p b) (item-goes s p b)
-rule s (Event.learn p) = quiet (proxy-asks p) (learn-effect s p)
-rule s (Event.reset p) = quiet (proxy-asks p) (reset-effect s p)
-rule s (Event.crash i) = quiet (crash-asks s i) (crash-effect s (s .ids i))
-rule s (Event.lose i) = quiet (lose-asks s i) (lose-effect s i (s .ids i))
-rule s (Event.rise i) = quiet (rise-asks s i) (rise-effect s (s .ids i))
-rule s (Event.join i) = quiet (join-asks s i) (join-effect s i)
+rule s (Event.put proxy place block bytes) =
+    let id = s .ids place in
+    record { questions = put-asks s proxy place block bytes; said = only-key (new-key s id); after = put-effect s proxy id block bytes }
+rule s (Event.copy key) = quiet (copy-asks s key) (copy-effect s key)
+rule s (Event.savelog place) = quiet (savelog-asks s place) (savelog-effect s (s .ids place))
+rule s (Event.map proxy block) = quiet (map-asks s proxy block) (map-effect s proxy block)
+rule s (Event.send block) = quiet (send-asks s block) (send-effect s block)
+rule s (Event.deliver index) = record { questions = deliver-asks s index; said = only-key (cond (is-taken s index) 1 0); after = deliver-effect s index }
+rule s (Event.drop index) = quiet (drop-asks s index) (drop-effect s index)
+rule s (Event.savemap place) = quiet (savemap-asks s place) (savemap-effect s (s .ids place))
+rule s (Event.done proxy block) = quiet (done-asks s proxy block) (item-goes s proxy block)
+rule s (Event.get proxy block) = record { questions = get-asks s proxy block; said = record { key = mapped s block; bytes = get-bytes s block }; after = s }
+rule s (Event.abandon proxy block) = quiet (abandon-asks s proxy block) (item-goes s proxy block)
+rule s (Event.learn proxy) = quiet (proxy-asks proxy) (learn-effect s proxy)
+rule s (Event.reset proxy) = quiet (proxy-asks proxy) (reset-effect s proxy)
+rule s (Event.crash place) = quiet (crash-asks s place) (crash-effect s (s .ids place))
+rule s (Event.lose place) = quiet (lose-asks s place) (lose-effect s place (s .ids place))
+rule s (Event.rise place) = quiet (rise-asks s place) (rise-effect s (s .ids place))
+rule s (Event.join place) = quiet (join-asks s place) (join-effect s place)
 rule s Event.view = quiet (view-asks s) (view-effect s)
-rule s (Event.fetch g) = quiet (fetch-asks s g) (fetch-effect s g)
-rule s (Event.ready g) = quiet (ready-asks s g) (ready-effect s g)
-rule s (Event.mend i) = quiet (mend-asks s i) (mend-effect s (s .ids i))
-rule s (Event.collect i) = quiet (collect-asks s i) (collect-effect s (s .ids i))
+rule s (Event.fetch bucket) = quiet (fetch-asks s bucket) (fetch-effect s bucket)
+rule s (Event.ready bucket) = quiet (ready-asks s bucket) (ready-effect s bucket)
+rule s (Event.mend place) = quiet (mend-asks s place) (mend-effect s (s .ids place))
+rule s (Event.collect place) = quiet (collect-asks s place) (collect-effect s (s .ids place))
 rule s Event.unknown = quiet ((3 asks false) ∷ []) s
 
 -- ---- the step: code, key and data, state. A refusal has key 0 and no data, and changes nothing

@@ -16,58 +16,59 @@ use Rattle.rules.specs.Question.{Question, _asks_, is-place}
 -- ---- mend,place: the place gets saved (held ones become saved) every chunk named in memory by a primary of a ready bucket for which it is one of
 -- the first two members from the home id upward, where an up member holds it
 unfoldable pub of-first-two : ℕ → List ℕ → Bool
-of-first-two x [] = false
-of-first-two x (i ∷ []) = eqb i x
-of-first-two x (i ∷ j ∷ l) = eqb i x or eqb j x
+of-first-two id [] = false
+of-first-two id (one ∷ []) = eqb one id
+of-first-two id (one ∷ two ∷ rest) = eqb one id or eqb two id
 
 -- one key, in the log of brick x
 unfoldable pub mend-key : State → ℕ → List Chunk → ℕ → List Chunk
-mend-key s x log k =
-    let h = holder s k in
-    let new = chunk k true (bytes-in (s .bricks .log h) k) in
-    cond (of-first-two x (circle s (home-of k)) and ltb 0 h) (cond (held log k) (save-key log k) (append log new)) log
+mend-key s id log key =
+    let from = holder s key in
+    let new = chunk key true (bytes-in (s .bricks .log from) key) in
+    cond (of-first-two id (circle s (home-of key)) and ltb 0 from) (cond (held log key) (save-key log key) (append log new)) log
 
 unfoldable pub mend-keys : State → ℕ → List Chunk → List Entry → List Chunk
-mend-keys s x log [] = log
-mend-keys s x log (e ∷ l) = mend-keys s x (mend-key s x log (e .key)) l
+mend-keys s id log [] = log
+mend-keys s id log (entry ∷ rest) = mend-keys s id (mend-key s id log (entry .key)) rest
 
 -- the ready ones of the first n buckets, in order
 unfoldable pub mend-buckets : State → ℕ → ℕ → List Chunk
-mend-buckets s x zero = s .bricks .log x
-mend-buckets s x (suc g) =
-    let k = s .bucket g in
-    let log = mend-buckets s x g in
-    cond (k .ready) (mend-keys s x log (primary-memory k)) log
+mend-buckets s id zero = s .bricks .log id
+mend-buckets s id (suc g) =
+    let bucket = s .bucket g in
+    let log = mend-buckets s id g in
+    cond (bucket .ready) (mend-keys s id log (primary-memory bucket)) log
 
 abbrev pub mended : State → ℕ → List Chunk
-mended s x = mend-buckets s x (buckets (s .settings))
+mended s id = mend-buckets s id (buckets (s .settings))
 
 abbrev pub mend-asks : State → ℕ → List Question
-mend-asks s i =
-    (3 asks is-place s i)
-    ∷ (6 asks up-member s (s .ids i))
-    ∷ (10 asks leb (length (mended s (s .ids i))) (s .settings .chunks))
+mend-asks s place =
+    (3 asks is-place s place)
+    ∷ (6 asks up-member s (s .ids place))
+    ∷ (10 asks leb (length (mended s (s .ids place))) (s .settings .chunks))
     ∷ []
 
 unfoldable pub mend-effect : State → ℕ → State
-mend-effect s x = set-bricks s (with-log (s .bricks) x (mended s x))
+mend-effect s id = set-bricks s (with-log (s .bricks) id (mended s id))
 
 -- ---- collect,place: chunks that no pair's copy names go
 abbrev pub pair-names : Bucket → ℕ → Bool
-pair-names o k = names (primary-memory o) k or names (primary-disk o) k or names (backup-memory o) k or names (backup-disk o) k
+pair-names bucket key =
+    names (primary-memory bucket) key or names (primary-disk bucket) key or names (backup-memory bucket) key or names (backup-disk bucket) key
 
 unfoldable pub is-named : State → ℕ → Bool
-is-named s k = some-below (buckets (s .settings)) (λ g. pair-names (s .bucket g) k)
+is-named s key = some-below (buckets (s .settings)) (λ g. pair-names (s .bucket g) key)
 
 -- no place down, all up bricks members, all ready, nothing pending, no items
 abbrev pub collect-asks : State → ℕ → List Question
-collect-asks s i =
-    (3 asks is-place s i)
-    ∷ (6 asks up-member s (s .ids i))
+collect-asks s place =
+    (3 asks is-place s place)
+    ∷ (6 asks up-member s (s .ids place))
     ∷ (13 asks all-below (s .settings .places) (λ p. is-empty s p or up-member s (s .ids p)))
     ∷ (13 asks all-below (buckets (s .settings)) (λ g. calm (s .bucket g)))
     ∷ (13 asks all-below proxies (λ p. eqb (length (s .items p)) 0))
     ∷ []
 
 unfoldable pub collect-effect : State → ℕ → State
-collect-effect s x = set-bricks s (with-log (s .bricks) x (only-named (is-named s) (s .bricks .log x)))
+collect-effect s id = set-bricks s (with-log (s .bricks) id (only-named (is-named s) (s .bricks .log id)))

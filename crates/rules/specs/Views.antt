@@ -16,10 +16,10 @@ use Rattle.rules.specs.Question.{Question, _asks_, is-bucket}
 -- two bricks up, and more than half of the bricks that the present view began with up, risen ones counted
 abbrev pub view-asks : State → List Question
 view-asks s =
-    let n = s .settings .places in
+    let places = s .settings .places in
     (12 asks ltb (s .view) max-number)
-    ∷ (13 asks ltb 1 (count-below n (is-up s)))
-    ∷ (13 asks ltb (s .started) (2 * count-below n (λ p. is-up s p and s .bricks .began (s .ids p))))
+    ∷ (13 asks ltb 1 (count-below places (is-up s)))
+    ∷ (13 asks ltb (s .started) (2 * count-below places (λ p. is-up s p and s .bricks .began (s .ids p))))
     ∷ []
 
 unfoldable pub last-pairs : State → Slots
@@ -30,22 +30,22 @@ view-pairs s = pairs (buckets (s .settings)) (ids-of (s .given) (s .bricks .up))
 
 -- order numbers and the highest taken number begin again
 abbrev pub viewed-bucket : ℕ → ℕ → Bucket → Bucket
-viewed-bucket p b k = record {
-  primary = p;
-  backup = b;
-  last-primary = k .last-primary;
-  last-backup = k .last-backup;
+viewed-bucket primary backup bucket = record {
+  primary = primary;
+  backup = backup;
+  last-primary = bucket .last-primary;
+  last-backup = bucket .last-backup;
   ready = false;
   fetched = false;
   order = 0;
   taken = 0;
-  memory = k .memory;
-  disk = k .disk;
+  memory = bucket .memory;
+  disk = bucket .disk;
 }
 
 unfoldable pub view-effect : State → State
 view-effect s =
-    let k = s .bricks in
+    let old = s .bricks in
     let slots = view-pairs s in
     record {
       settings = s .settings;
@@ -53,7 +53,16 @@ view-effect s =
       given = s .given;
       view = suc (s .view);
       started = count-below (s .settings .places) (is-up s);
-      bricks = record { here = k .here; up = k .up; member = k .up; began = k .up; next = k .next; ceiling = k .ceiling; log = k .log; buffer = λ i. [] };
+      bricks = record {
+        here = old .here;
+        up = old .up;
+        member = old .up;
+        began = old .up;
+        next = old .next;
+        ceiling = old .ceiling;
+        log = old .log;
+        buffer = λ i. [];
+      };
       bucket = λ g. viewed-bucket (at slots (2 * g)) (at slots (2 * g + 1)) (s .bucket g);
       bag = s .bag;
       items = s .items;
@@ -64,8 +73,8 @@ view-effect s =
 -- source: the last ready primary if an up member, else the last ready backup if that is an up member, else none
 unfoldable pub source : State → ℕ → ℕ
 source s g =
-    let k = s .bucket g in
-    cond (up-member s (k .last-primary)) (k .last-primary) (cond (up-member s (k .last-backup)) (k .last-backup) 0)
+    let bucket = s .bucket g in
+    cond (up-member s (bucket .last-primary)) (bucket .last-primary) (cond (up-member s (bucket .last-backup)) (bucket .last-backup) 0)
 
 abbrev pub fetch-asks : State → ℕ → List Question
 fetch-asks s g =
@@ -76,17 +85,17 @@ fetch-asks s g =
     ∷ []
 
 abbrev pub fetched-bucket : ℕ → Bucket → Bucket
-fetched-bucket x k = record {
-  primary = k .primary;
-  backup = k .backup;
-  last-primary = k .last-primary;
-  last-backup = k .last-backup;
-  ready = k .ready;
+fetched-bucket id bucket = record {
+  primary = bucket .primary;
+  backup = bucket .backup;
+  last-primary = bucket .last-primary;
+  last-backup = bucket .last-backup;
+  ready = bucket .ready;
   fetched = true;
-  order = k .order;
-  taken = k .taken;
-  memory = upd (k .memory) (k .primary) (k .memory x);
-  disk = upd (k .disk) (k .primary) (k .memory x);
+  order = bucket .order;
+  taken = bucket .taken;
+  memory = upd (bucket .memory) (bucket .primary) (bucket .memory id);
+  disk = upd (bucket .disk) (bucket .primary) (bucket .memory id);
 }
 
 unfoldable pub fetch-effect : State → ℕ → State
@@ -96,36 +105,36 @@ fetch-effect s g = set-bucket s g (fetched-bucket (source s g) (s .bucket g))
 -- The bucket's buffer entries then move into the primary's memory in arrival order
 abbrev pub ready-asks : State → ℕ → List Question
 ready-asks s g =
-    let k = s .bucket g in
+    let bucket = s .bucket g in
     (3 asks is-bucket s g)
-    ∷ (6 asks up-member s (k .primary))
-    ∷ (6 asks up-member s (k .backup))
-    ∷ (13 asks k .fetched)
-    ∷ (13 asks not (k .ready))
+    ∷ (6 asks up-member s (bucket .primary))
+    ∷ (6 asks up-member s (bucket .backup))
+    ∷ (13 asks bucket .fetched)
+    ∷ (13 asks not (bucket .ready))
     ∷ []
 
 unfoldable pub dropped : (ℕ → Bool) → (ℕ → List Entry) → ℕ → List Entry
-dropped up copies i = cond (up i) [] (copies i)
+dropped up copies id = cond (up id) [] (copies id)
 
 abbrev pub ready-bucket : (ℕ → Bool) → List Entry → Bucket → Bucket
-ready-bucket up drained k = record {
-  primary = k .primary;
-  backup = k .backup;
-  last-primary = k .primary;
-  last-backup = k .backup;
+ready-bucket up drained bucket = record {
+  primary = bucket .primary;
+  backup = bucket .backup;
+  last-primary = bucket .primary;
+  last-backup = bucket .backup;
   ready = true;
-  fetched = k .fetched;
-  order = k .order;
-  taken = k .taken;
-  memory = upd (upd (dropped up (k .memory)) (k .backup) (k .memory (k .primary))) (k .primary) drained;
-  disk = upd (upd (dropped up (k .disk)) (k .backup) (k .memory (k .primary))) (k .primary) (k .disk (k .primary));
+  fetched = bucket .fetched;
+  order = bucket .order;
+  taken = bucket .taken;
+  memory = upd (upd (dropped up (bucket .memory)) (bucket .backup) (bucket .memory (bucket .primary))) (bucket .primary) drained;
+  disk = upd (upd (dropped up (bucket .disk)) (bucket .backup) (bucket .memory (bucket .primary))) (bucket .primary) (bucket .disk (bucket .primary));
 }
 
 unfoldable pub ready-effect : State → ℕ → State
 ready-effect s g =
-    let k = s .bucket g in
-    let x = k .primary in
-    let waits = s .bricks .buffer x in
+    let bucket = s .bucket g in
+    let id = bucket .primary in
+    let waits = s .bricks .buffer id in
     let mine = waits-for (buckets (s .settings)) g in
-    set-bucket (set-bricks s (with-buffer (s .bricks) x (only (λ e. not (mine e)) waits))) g
-    (ready-bucket (s .bricks .up) (drain (s .settings .entries) (k .memory x) (only mine waits)) k)
+    set-bucket (set-bricks s (with-buffer (s .bricks) id (only (λ e. not (mine e)) waits))) g
+    (ready-bucket (s .bricks .up) (drain (s .settings .entries) (bucket .memory id) (only mine waits)) bucket)

@@ -10,10 +10,10 @@ use Rattle.rules.specs.State.{State}
 use Rattle.rules.specs.Parts.{up-member, saved-at, primary-memory, calm}
 
 unfoldable pub saved-twice : State → ℕ → Bool
-saved-twice s k = leb 2 (length (saved-at s k))
+saved-twice s key = leb 2 (length (saved-at s key))
 
 unfoldable pub whole : State → Bool
 whole s =
-    let n = buckets (s .settings) in
-    all-below (s .settings .places) (λ p. up-member s (s .ids p)) and all-below n (λ g. calm (s .bucket g))
-    and all-below n (λ g. every (λ e. saved-twice s (e .key)) (primary-memory (s .bucket g)))
+    let count = buckets (s .settings) in
+    all-below (s .settings .places) (λ p. up-member s (s .ids p)) and all-below count (λ g. calm (s .bucket g))
+    and all-below count (λ g. every (λ e. saved-twice s (e .key)) (primary-memory (s .bucket g)))

@@ -16,71 +16,71 @@ use Rattle.rules.specs.Question.{Question, _asks_, is-proxy, is-place, i
 
 -- ---- put,proxy,place,block,data: an unsaved chunk under a new key, and an item; answers the key
 abbrev pub put-asks : State → ℕ → ℕ → ℕ → List ℕ → List Question
-put-asks s p i b d =
-    let x = s .ids i in
-    let next = s .bricks .next x in
-    let ceiling = s .bricks .ceiling x in
-    (3 asks is-proxy p)
-    ∷ (3 asks is-place s i)
-    ∷ (3 asks is-block b)
-    ∷ (3 asks is-data (s .settings .size) d)
-    ∷ (4 asks belongs p b)
-    ∷ (6 asks up-member s x)
-    ∷ (9 asks not (has-item s p b))
-    ∷ (10 asks ltb (length (s .items p)) max-items)
-    ∷ (10 asks ltb (length (s .bricks .log x)) (s .settings .chunks))
+put-asks s proxy place block bytes =
+    let id = s .ids place in
+    let next = s .bricks .next id in
+    let ceiling = s .bricks .ceiling id in
+    (3 asks is-proxy proxy)
+    ∷ (3 asks is-place s place)
+    ∷ (3 asks is-block block)
+    ∷ (3 asks is-data (s .settings .size) bytes)
+    ∷ (4 asks belongs proxy block)
+    ∷ (6 asks up-member s id)
+    ∷ (9 asks not (has-item s proxy block))
+    ∷ (10 asks ltb (length (s .items proxy)) max-items)
+    ∷ (10 asks ltb (length (s .bricks .log id)) (s .settings .chunks))
     ∷ (12 asks ltb next ceiling or leb (ceiling + ceiling-step) sequences)
     ∷ []
 
 abbrev pub new-key : State → ℕ → ℕ
-new-key s x = key-of x (s .bricks .next x)
+new-key s id = key-of id (s .bricks .next id)
 
 -- where next equals the ceiling, a put first raises the ceiling by 1,024
 unfoldable pub raised : ℕ → ℕ → ℕ
 raised next ceiling = cond (eqb next ceiling) (ceiling + ceiling-step) ceiling
 
 unfoldable pub put-effect : State → ℕ → ℕ → ℕ → List ℕ → State
-put-effect s p x b d =
-    let k = s .bricks in
+put-effect s proxy id block bytes =
+    let old = s .bricks in
     set-items (set-bricks s (record {
-      here = k .here;
-      up = k .up;
-      member = k .member;
-      began = k .began;
-      next = upd (k .next) x (suc (k .next x));
-      ceiling = upd (k .ceiling) x (raised (k .next x) (k .ceiling x));
-      log = upd (k .log) x (append (k .log x) (chunk (new-key s x) false d));
-      buffer = k .buffer;
-    })) p (insert (s .items p) b (new-key s x))
+      here = old .here;
+      up = old .up;
+      member = old .member;
+      began = old .began;
+      next = upd (old .next) id (suc (old .next id));
+      ceiling = upd (old .ceiling) id (raised (old .next id) (old .ceiling id));
+      log = upd (old .log) id (append (old .log id) (chunk (new-key s id) false bytes));
+      buffer = old .buffer;
+    })) proxy (insert (s .items proxy) block (new-key s id))
 
 -- ---- copy,key: from the home brick to the next other member by id, circularly, unsaved; no change if held or if there is none
 unfoldable pub other-than : ℕ → List ℕ → ℕ
-other-than h [] = 0
-other-than h (i ∷ l) = cond (eqb i h) (other-than h l) i
+other-than home [] = 0
+other-than home (id ∷ rest) = cond (eqb id home) (other-than home rest) id
 
 unfoldable pub target : State → ℕ → ℕ
-target s k = other-than (home-of k) (circle s (home-of k))
+target s key = other-than (home-of key) (circle s (home-of key))
 
 abbrev pub nothing-to-copy : State → ℕ → Bool
-nothing-to-copy s k = eqb (target s k) 0 or held (s .bricks .log (target s k)) k
+nothing-to-copy s key = eqb (target s key) 0 or held (s .bricks .log (target s key)) key
 
 abbrev pub copy-asks : State → ℕ → List Question
-copy-asks s k =
-    (3 asks ltb 0 (home-of k) and leb (home-of k) max-id)
-    ∷ (6 asks up-member s (home-of k))
-    ∷ (10 asks nothing-to-copy s k or ltb (length (s .bricks .log (target s k))) (s .settings .chunks))
-    ∷ (11 asks held (s .bricks .log (home-of k)) k)
+copy-asks s key =
+    (3 asks ltb 0 (home-of key) and leb (home-of key) max-id)
+    ∷ (6 asks up-member s (home-of key))
+    ∷ (10 asks nothing-to-copy s key or ltb (length (s .bricks .log (target s key))) (s .settings .chunks))
+    ∷ (11 asks held (s .bricks .log (home-of key)) key)
     ∷ []
 
 unfoldable pub copy-effect : State → ℕ → State
-copy-effect s k =
-    let t = target s k in
-    let new = chunk k false (bytes-in (s .bricks .log (home-of k)) k) in
-    set-bricks s (cond (nothing-to-copy s k) (s .bricks) (with-log (s .bricks) t (append (s .bricks .log t) new)))
+copy-effect s key =
+    let to = target s key in
+    let new = chunk key false (bytes-in (s .bricks .log (home-of key)) key) in
+    set-bricks s (cond (nothing-to-copy s key) (s .bricks) (with-log (s .bricks) to (append (s .bricks .log to) new)))
 
 -- ---- savelog,place: all its chunks become saved
 abbrev pub savelog-asks : State → ℕ → List Question
-savelog-asks s i = (3 asks is-place s i) ∷ (6 asks up-member s (s .ids i)) ∷ []
+savelog-asks s place = (3 asks is-place s place) ∷ (6 asks up-member s (s .ids place)) ∷ []
 
 unfoldable pub savelog-effect : State → ℕ → State
-savelog-effect s x = set-bricks s (with-log (s .bricks) x (save-all (s .bricks .log x)))
+savelog-effect s id = set-bricks s (with-log (s .bricks) id (save-all (s .bricks .log id)))
