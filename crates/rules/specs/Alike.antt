@@ -14,10 +14,10 @@ same-flag true b = b
 same-flag false b = not b
 
 unfoldable pub same-settings : Settings → Settings → Bool
-same-settings c d = eqb (c .places) (d .places) and eqb (c .size) (d .size) and eqb (c .entries) (d .entries) and eqb (c .chunks) (d .chunks)
+same-settings one other = eqb (one .places) (other .places) and eqb (one .size) (other .size) and eqb (one .entries) (other .entries) and eqb (one .chunks) (other .chunks)
 
 unfoldable pub alike : State → State → Bool
-alike s t =
-    same-settings (s .settings) (t .settings) and eqb (s .view) (t .view)
-    and all-below (suc max-id) (λ i. same-flag (s .bricks .member i) (t .bricks .member i))
-    and all-below (buckets (s .settings)) (λ g. same-entries (primary-memory (s .bucket g)) (primary-memory (t .bucket g)))
+alike s other =
+    same-settings (s .settings) (other .settings) and eqb (s .view) (other .view)
+    and all-below (suc max-id) (λ i. same-flag (s .bricks .member i) (other .bricks .member i))
+    and all-below (buckets (s .settings)) (λ g. same-entries (primary-memory (s .bucket g)) (primary-memory (other .bucket g)))

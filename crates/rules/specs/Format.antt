@@ -11,21 +11,21 @@ use Rattle.rules.specs.State.{State, Bucket, blank-bucket}
 use Rattle.rules.specs.Pairs.{Slots, at, ids-of, pairs}
 
 unfoldable pub first-id : ℕ → ℕ → ℕ
-first-id n p = cond (ltb p n) (suc p) 0
+first-id places place = cond (ltb place places) (suc place) 0
 
 unfoldable pub is-first : ℕ → ℕ → Bool
-is-first n i = ltb 0 i and leb i n
+is-first places id = ltb 0 id and leb id places
 
 -- no last ready pairs while format makes its pairs, which from then on are the last ready ones
 unfoldable pub first-pairs : Settings → Slots
-first-pairs c = pairs (buckets c) (ids-of (c .places) (λ i. true)) (replicate (2 * buckets c) 0)
+first-pairs settings = pairs (buckets settings) (ids-of (settings .places) (λ i. true)) (replicate (2 * buckets settings) 0)
 
 abbrev pub first-bucket : ℕ → ℕ → Bucket
-first-bucket p b = record {
-  primary = p;
-  backup = b;
-  last-primary = p;
-  last-backup = b;
+first-bucket primary backup = record {
+  primary = primary;
+  backup = backup;
+  last-primary = primary;
+  last-backup = backup;
   ready = true;
   fetched = false;
   order = 0;
@@ -35,26 +35,26 @@ first-bucket p b = record {
 }
 
 unfoldable pub format : Settings → State
-format c =
-    let n = c .places in
-    let slots = first-pairs c in
+format settings =
+    let places = settings .places in
+    let slots = first-pairs settings in
     record {
-      settings = c;
-      ids = first-id n;
-      given = n;
+      settings = settings;
+      ids = first-id places;
+      given = places;
       view = 1;
-      started = n;
+      started = places;
       bricks = record {
-        here = is-first n;
-        up = is-first n;
-        member = is-first n;
-        began = is-first n;
+        here = is-first places;
+        up = is-first places;
+        member = is-first places;
+        began = is-first places;
         next = λ i. 0;
         ceiling = λ i. 0;
         log = λ i. [];
         buffer = λ i. [];
       };
-      bucket = λ g. cond (ltb g (buckets c)) (first-bucket (at slots (2 * g)) (at slots (2 * g + 1))) blank-bucket;
+      bucket = λ g. cond (ltb g (buckets settings)) (first-bucket (at slots (2 * g)) (at slots (2 * g + 1))) blank-bucket;
       bag = [];
       items = λ p. [];
       known = λ p. 0;

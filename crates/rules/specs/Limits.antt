@@ -43,20 +43,22 @@ in-range low high n = leb low n and leb n high
 
 -- question 1, of the settings
 unfoldable pub in-limits : Settings → Bool
-in-limits c =
-    in-range min-places max-places (c .places) and in-range min-size max-size (c .size) and eqb (c .size % size-step) 0
-    and in-range min-entries max-entries (c .entries) and in-range min-chunks max-chunks (c .chunks)
+in-limits settings =
+    in-range min-places max-places (settings .places) and in-range min-size max-size (settings .size) and eqb (settings .size % size-step) 0
+    and in-range min-entries max-entries (settings .entries) and in-range min-chunks max-chunks (settings .chunks)
 
 -- what the constructor of settings answers
 unfoldable pub checked : ℕ → ℕ → ℕ → ℕ → Checked
-checked n s m l = let c : Settings = record { places = n; size = s; entries = m; chunks = l } in cond (in-limits c) (Good c) Bad
+checked places size entries chunks =
+    let settings : Settings = record { places = places; size = size; entries = entries; chunks = chunks } in
+    cond (in-limits settings) (Good settings) Bad
 
 -- there are 4 proxies and 16 buckets; whatever speaks of buckets takes their number from the settings
 abbrev pub proxies : ℕ
 proxies = 4
 
 unfoldable pub buckets : Settings → ℕ
-buckets c = 16
+buckets settings = 16
 
 -- the bag holds at most 64 relays, a proxy at most 32 items, an append buffer at most 32 entries
 abbrev pub max-relays : ℕ

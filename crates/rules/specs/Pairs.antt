@@ -12,16 +12,16 @@ Slots = List ℕ
 
 -- the brick in slot k
 abbrev pub at : Slots → ℕ → ℕ
-at s k = getD s k 0
+at slots slot = getD slots slot 0
 
 unfoldable pub among : List ℕ → ℕ → Bool
-among [] i = false
-among (m ∷ ms) i = eqb m i or among ms i
+among [] id = false
+among (member ∷ members) id = eqb member id or among members id
 
 -- a brick's assignments, in both roles
 unfoldable pub load : Slots → ℕ → ℕ
-load [] i = 0
-load (x ∷ s) i = cond (eqb x i) 1 0 + load s i
+load [] id = 0
+load (holder ∷ rest) id = cond (eqb holder id) 1 0 + load rest id
 
 -- the ids from 1 to n of which a test holds, ascending
 unfoldable pub ids-of : ℕ → (ℕ → Bool) → List ℕ
@@ -30,73 +30,73 @@ ids-of (suc n) test = ids-of n test ++ cond (test (suc n)) (suc n ∷ []) []
 
 -- ---- the least loaded member
 
--- brick m is preferred to r: r is none, or m has fewer assignments, or as many and the lower id
+-- fewest assignments, lowest id on a tie: a brick is preferred to another where that is none, has more, or has as many and the higher id
 unfoldable pub preferred : Slots → ℕ → ℕ → Bool
-preferred s m r = eqb r 0 or (ltb (load s m) (load s r) or (eqb (load s m) (load s r) and ltb m r))
+preferred slots id other = eqb other 0 or (ltb (load slots id) (load slots other) or (eqb (load slots id) (load slots other) and ltb id other))
 
--- m, unless it is a or b, where it is preferred to r
+-- a member, unless it is one of two bricks, where it is preferred to the other one
 unfoldable pub choose : Slots → ℕ → ℕ → ℕ → ℕ → ℕ
-choose s a b m r = cond (eqb m a or eqb m b) r (cond (preferred s m r) m r)
+choose slots one two id other = cond (eqb id one or eqb id two) other (cond (preferred slots id other) id other)
 
--- the least loaded member that is neither a nor b, the lowest id on a tie: 0 if there is none
+-- the least loaded member that is neither of two bricks: 0 if there is none
 unfoldable pub least-loaded : Slots → List ℕ → ℕ → ℕ → ℕ
-least-loaded s [] a b = 0
-least-loaded s (m ∷ ms) a b = choose s a b m (least-loaded s ms a b)
+least-loaded slots [] one two = 0
+least-loaded slots (member ∷ members) one two = choose slots one two member (least-loaded slots members one two)
 
 -- ---- what is done at one bucket
 
--- x, if it is a member and not the other brick of its pair
+-- a brick, if it is a member and not the other one of its pair
 unfoldable pub kept : List ℕ → ℕ → ℕ → ℕ
-kept ms x other = cond (among ms x and not (eqb x other)) x 0
+kept members id other = cond (among members id and not (eqb id other)) id 0
 
--- bucket g keeps its members; a lone backup becomes primary
+-- keep those that are members; a lone backup becomes primary
 unfoldable pub keep-at : List ℕ → ℕ → Slots → Slots
-keep-at ms g s =
-    let a = kept ms (at s (2 * g)) 0 in
-    let b = kept ms (at s (2 * g + 1)) a in
-    set (set s (2 * g) (cond (eqb a 0) b a)) (2 * g + 1) (cond (eqb a 0) 0 b)
+keep-at members bucket slots =
+    let primary = kept members (at slots (2 * bucket)) 0 in
+    let backup = kept members (at slots (2 * bucket + 1)) primary in
+    set (set slots (2 * bucket) (cond (eqb primary 0) backup primary)) (2 * bucket + 1) (cond (eqb primary 0) 0 backup)
 
--- slot k, if empty, gets the least loaded member that is not in slot j, the other of its pair
+-- an empty slot gets the least loaded member that is not in the other slot of its pair
 unfoldable pub fill-slot : List ℕ → ℕ → ℕ → Slots → Slots
-fill-slot ms k j s = cond (eqb (at s k) 0) (set s k (least-loaded s ms 0 (at s j))) s
+fill-slot members slot other slots = cond (eqb (at slots slot) 0) (set slots slot (least-loaded slots members 0 (at slots other))) slots
 
--- the holder of slot k gives way if it has more than c and the least loaded member outside the pair has fewer
+-- a holder with more than its share gives way to the least loaded member outside the pair, if that has fewer
 unfoldable pub give-way : List ℕ → ℕ → ℕ → ℕ → Slots → Slots
-give-way ms c k j s =
-    let x = least-loaded s ms (at s k) (at s j) in
-    cond (ltb c (load s (at s k)) and (ltb 0 x and ltb (load s x) c)) (set s k x) s
+give-way members share slot other slots =
+    let id = least-loaded slots members (at slots slot) (at slots other) in
+    cond (ltb share (load slots (at slots slot)) and (ltb 0 id and ltb (load slots id) share)) (set slots slot id) slots
 
 -- ---- the buckets in order
 
 unfoldable pub in-order : ℕ → (ℕ → Slots → Slots) → Slots → Slots
-in-order zero f s = s
-in-order (suc n) f s = f n (in-order n f s)
+in-order zero f slots = slots
+in-order (suc n) f slots = f n (in-order n f slots)
 
--- bucket g is filled, its primary before its backup
+-- then fill, by bucket, primary before backup
 abbrev pub fill-at : List ℕ → ℕ → Slots → Slots
-fill-at ms g s = fill-slot ms (2 * g + 1) (2 * g) (fill-slot ms (2 * g) (2 * g + 1) s)
+fill-at members bucket slots = fill-slot members (2 * bucket + 1) (2 * bucket) (fill-slot members (2 * bucket) (2 * bucket + 1) slots)
 
--- one role at bucket g: 0 is the primary, 1 the backup
+-- one role at a bucket: 0 is the primary, 1 the backup
 abbrev pub walk-at : List ℕ → ℕ → ℕ → ℕ → Slots → Slots
-walk-at ms c role g = give-way ms c (2 * g + role) (2 * g + (1 - role))
+walk-at members share role bucket = give-way members share (2 * bucket + role) (2 * bucket + (1 - role))
 
 unfoldable pub filled : ℕ → List ℕ → Slots → Slots
-filled n ms last = in-order n (fill-at ms) (in-order n (keep-at ms) last)
+filled n members last = in-order n (fill-at members) (in-order n (keep-at members) last)
 
--- backups first, then primaries
+-- walk the buckets twice, backups first, then primaries
 unfoldable pub walked : ℕ → List ℕ → ℕ → Slots → Slots
-walked n ms c s = in-order n (walk-at ms c 0) (in-order n (walk-at ms c 1) s)
+walked n members share slots = in-order n (walk-at members share 0) (in-order n (walk-at members share 1) slots)
 
--- the assignments of n buckets by the members, rounded up
+-- c = 32 / members rounded up: twice the number of buckets
 unfoldable pub share : ℕ → ℕ → ℕ
 share n zero = 0
-share n (suc m) = (2 * n + m) / suc m
+share n (suc rest) = (2 * n + rest) / suc rest
 
--- the pairs of n buckets in a view with members ms, from the last ready pairs
+-- the pairs of n buckets in a view with these members, from the last ready pairs
 unfoldable pub pairs : ℕ → List ℕ → Slots → Slots
-pairs n ms last = walked n ms (share n (length ms)) (filled n ms last)
+pairs n members last = walked n members (share n (length members)) (filled n members last)
 
 -- slots from a column of primaries and one of backups
 unfoldable pub slots-of : ℕ → (ℕ → ℕ) → (ℕ → ℕ) → Slots
-slots-of zero p b = []
-slots-of (suc n) p b = slots-of n p b ++ p n ∷ b n ∷ []
+slots-of zero primary backup = []
+slots-of (suc n) primary backup = slots-of n primary backup ++ primary n ∷ backup n ∷ []

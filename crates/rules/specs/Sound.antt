@@ -14,29 +14,29 @@ use Rattle.rules.specs.State.{Bucket, Relay, State, blank-bucket}
 
 -- ---- a key: its id was given already, and of a brick present it is below its next
 unfoldable pub sound-key : State → ℕ → Bool
-sound-key s k = ltb 0 (home-of k) and leb (home-of k) (s .given) and (not (s .bricks .here (home-of k)) or ltb (sequence-of k) (s .bricks .next (home-of k)))
+sound-key s key = ltb 0 (home-of key) and leb (home-of key) (s .given) and (not (s .bricks .here (home-of key)) or ltb (sequence-of key) (s .bricks .next (home-of key)))
 
 -- ---- entries: block numbers and keys in range, each block where it belongs
 unfoldable pub sound-entry : State → (ℕ → Bool) → Entry → Bool
-sound-entry s mine e = mine (e .block) and ltb (e .block) blocks and sound-key s (e .key)
+sound-entry s mine entry = mine (entry .block) and ltb (entry .block) blocks and sound-key s (entry .key)
 
 -- a copy or items: counts in range, no block twice (blocks ascend)
 unfoldable pub sound-table : State → (ℕ → Bool) → ℕ → List Entry → Bool
-sound-table s mine most l = ascending 0 l and leb (length l) most and every (sound-entry s mine) l
+sound-table s mine most entries = ascending 0 entries and leb (length entries) most and every (sound-entry s mine) entries
 
 unfoldable pub sound-buffer : State → List Entry → Bool
-sound-buffer s l = leb (length l) max-waiting and every (sound-entry s (λ b. true)) l
+sound-buffer s entries = leb (length entries) max-waiting and every (sound-entry s (λ b. true)) entries
 
 -- ---- a log: counts and keys in range, no key twice
 unfoldable pub keys-apart : List Chunk → Bool
 keys-apart [] = true
-keys-apart (c ∷ l) = not (held l (c .key)) and keys-apart l
+keys-apart (chunk ∷ rest) = not (held rest (chunk .key)) and keys-apart rest
 
 unfoldable pub sound-chunk : State → Chunk → Bool
-sound-chunk s c = sound-key s (c .key) and is-data (s .settings .size) (c .bytes)
+sound-chunk s chunk = sound-key s (chunk .key) and is-data (s .settings .size) (chunk .bytes)
 
 unfoldable pub sound-log : State → List Chunk → Bool
-sound-log s l = keys-apart l and leb (length l) (s .settings .chunks) and every (sound-chunk s) l
+sound-log s log = keys-apart log and leb (length log) (s .settings .chunks) and every (sound-chunk s) log
 
 -- ---- a brick: next at most the ceiling; a member is up; a down brick's memory is its disk, and its buffer is empty
 unfoldable pub same-entries : List Entry → List Entry → Bool
@@ -46,46 +46,46 @@ same-entries (e ∷ l) [] = false
 same-entries (e ∷ l) (f ∷ m) = eqb (e .block) (f .block) and eqb (e .key) (f .key) and same-entries l m
 
 unfoldable pub in-bucket : State → ℕ → ℕ → Bool
-in-bucket s g b = eqb (bucket-of (buckets (s .settings)) b) g
+in-bucket s number block = eqb (bucket-of (buckets (s .settings)) block) number
 
 unfoldable pub sound-copies : State → ℕ → ℕ → Bool
-sound-copies s i g =
-    let memory = s .bucket g .memory i in
-    let disk = s .bucket g .disk i in
-    sound-table s (in-bucket s g) (s .settings .entries) memory and sound-table s (in-bucket s g) (s .settings .entries) disk
-    and (s .bricks .up i or same-entries memory disk)
+sound-copies s id number =
+    let memory = s .bucket number .memory id in
+    let disk = s .bucket number .disk id in
+    sound-table s (in-bucket s number) (s .settings .entries) memory and sound-table s (in-bucket s number) (s .settings .entries) disk
+    and (s .bricks .up id or same-entries memory disk)
 
 unfoldable pub sound-brick : State → ℕ → Bool
-sound-brick s i =
-    let k = s .bricks in
-    (not (k .member i) or k .up i) and leb (k .next i) (k .ceiling i) and leb (k .ceiling i) sequences and sound-log s (k .log i)
-    and sound-buffer s (k .buffer i) and (k .up i or eqb (length (k .buffer i)) 0) and all-below (buckets (s .settings)) (sound-copies s i)
+sound-brick s id =
+    let bricks = s .bricks in
+    (not (bricks .member id) or bricks .up id) and leb (bricks .next id) (bricks .ceiling id) and leb (bricks .ceiling id) sequences and sound-log s (bricks .log id)
+    and sound-buffer s (bricks .buffer id) and (bricks .up id or eqb (length (bricks .buffer id)) 0) and all-below (buckets (s .settings)) (sound-copies s id)
 
 -- ---- places: ids given already, no id at two places
 unfoldable pub alone : State → ℕ → Bool
-alone s p = all-below p (λ q. not (eqb (s .ids q) (s .ids p)))
+alone s place = all-below place (λ q. not (eqb (s .ids q) (s .ids place)))
 
 unfoldable pub sound-place : State → ℕ → Bool
-sound-place s p = eqb (s .ids p) 0 or (leb (s .ids p) (s .given) and alone s p and sound-brick s (s .ids p))
+sound-place s place = eqb (s .ids place) 0 or (leb (s .ids place) (s .given) and alone s place and sound-brick s (s .ids place))
 
 -- ---- buckets: every id given already, no pair with one brick twice
 unfoldable pub sound-pair : ℕ → ℕ → ℕ → Bool
-sound-pair given a b = ltb 0 a and leb a given and ltb 0 b and leb b given and not (eqb a b)
+sound-pair given one two = ltb 0 one and leb one given and ltb 0 two and leb two given and not (eqb one two)
 
 unfoldable pub sound-bucket : State → Bucket → Bool
-sound-bucket s k =
-    sound-pair (s .given) (k .primary) (k .backup) and sound-pair (s .given) (k .last-primary) (k .last-backup) and leb (k .order) max-number
-    and leb (k .taken) max-number
+sound-bucket s bucket =
+    sound-pair (s .given) (bucket .primary) (bucket .backup) and sound-pair (s .given) (bucket .last-primary) (bucket .last-backup) and leb (bucket .order) max-number
+    and leb (bucket .taken) max-number
 
 -- ---- relays: a relay's bucket is its block's
 unfoldable pub sound-relay : State → Relay → Bool
-sound-relay s r =
-    leb (r .view) max-number and in-bucket s (r .bucket) (r .block) and leb (r .order) max-number and ltb (r .block) blocks
-    and sound-key s (r .key)
+sound-relay s relay =
+    leb (relay .view) max-number and in-bucket s (relay .bucket) (relay .block) and leb (relay .order) max-number and ltb (relay .block) blocks
+    and sound-key s (relay .key)
 
 -- ---- proxies
 unfoldable pub sound-proxy : State → ℕ → Bool
-sound-proxy s p = leb (s .known p) max-number and sound-table s (λ b. eqb (proxy-of b) p) max-items (s .items p)
+sound-proxy s proxy = leb (s .known proxy) max-number and sound-table s (λ b. eqb (proxy-of b) proxy) max-items (s .items proxy)
 
 unfoldable pub sound : State → Bool
 sound s =
