@@ -14,7 +14,8 @@ same-flag true b = b
 same-flag false b = not b
 
 unfoldable pub same-settings : Settings → Settings → Bool
-same-settings one other = eqb (one .places) (other .places) and eqb (one .size) (other .size) and eqb (one .entries) (other .entries) and eqb (one .chunks) (other .chunks)
+same-settings one other =
+    eqb (one .places) (other .places) and eqb (one .size) (other .size) and eqb (one .entries) (other .entries) and eqb (one .chunks) (other .chunks)
 
 unfoldable pub alike : State → State → Bool
 alike s other =

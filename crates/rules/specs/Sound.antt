@@ -14,7 +14,8 @@ use Rattle.rules.specs.State.{Bucket, Relay, State, blank-bucket}
 
 -- ---- a key: its id was given already, and of a brick present it is below its next
 unfoldable pub sound-key : State → ℕ → Bool
-sound-key s key = ltb 0 (home-of key) and leb (home-of key) (s .given) and (not (s .bricks .here (home-of key)) or ltb (sequence-of key) (s .bricks .next (home-of key)))
+sound-key s key =
+    ltb 0 (home-of key) and leb (home-of key) (s .given) and (not (s .bricks .here (home-of key)) or ltb (sequence-of key) (s .bricks .next (home-of key)))
 
 -- ---- entries: block numbers and keys in range, each block where it belongs
 unfoldable pub sound-entry : State → (ℕ → Bool) → Entry → Bool
@@ -58,8 +59,9 @@ sound-copies s id number =
 unfoldable pub sound-brick : State → ℕ → Bool
 sound-brick s id =
     let bricks = s .bricks in
-    (not (bricks .member id) or bricks .up id) and leb (bricks .next id) (bricks .ceiling id) and leb (bricks .ceiling id) sequences and sound-log s (bricks .log id)
-    and sound-buffer s (bricks .buffer id) and (bricks .up id or eqb (length (bricks .buffer id)) 0) and all-below (buckets (s .settings)) (sound-copies s id)
+    (not (bricks .member id) or bricks .up id) and leb (bricks .next id) (bricks .ceiling id) and leb (bricks .ceiling id) sequences
+    and sound-log s (bricks .log id) and sound-buffer s (bricks .buffer id) and (bricks .up id or eqb (length (bricks .buffer id)) 0)
+    and all-below (buckets (s .settings)) (sound-copies s id)
 
 -- ---- places: ids given already, no id at two places
 unfoldable pub alone : State → ℕ → Bool
@@ -74,8 +76,8 @@ sound-pair given one two = ltb 0 one and leb one given and ltb 0 two and leb two
 
 unfoldable pub sound-bucket : State → Bucket → Bool
 sound-bucket s bucket =
-    sound-pair (s .given) (bucket .primary) (bucket .backup) and sound-pair (s .given) (bucket .last-primary) (bucket .last-backup) and leb (bucket .order) max-number
-    and leb (bucket .taken) max-number
+    sound-pair (s .given) (bucket .primary) (bucket .backup)
+    and sound-pair (s .given) (bucket .last-primary) (bucket .last-backup) and leb (bucket .order) max-number and leb (bucket .taken) max-number
 
 -- ---- relays: a relay's bucket is its block's
 unfoldable pub sound-relay : State → Relay → Bool
