@@ -11,16 +11,14 @@ use Rattle.rules.specs.State.{State}
 use Rattle.rules.specs.Format.{format}
 use Rattle.rules.specs.Parts.{bucket-at}
 use Rattle.rules.specs.Question.{first-no}
-use Rattle.rules.specs.Writes.{put-effect, copy-effect, savelog-effect}
-use Rattle.rules.specs.Maps.{map-effect, send-effect, is-taken, deliver-effect, drop-effect, savemap-effect, item-goes, learn-effect, reset-effect}
-use Rattle.rules.specs.Membership.{crash-effect, lose-effect, rise-effect, join-effect}
-use Rattle.rules.specs.Views.{view-effect, fetch-effect, ready-effect}
-use Rattle.rules.specs.Upkeep.{mend-effect, collect-effect}
+use Rattle.rules.specs.Maps.{is-taken}
 use Rattle.rules.specs.Whole.{whole}
 use Rattle.rules.specs.Step.{Outcome, rule, step}
 use Rattle.rules.proofs.Step.{Yes, Stepped, refused, accepted, stepped, code-is}
 use Rattle.rules.proofs.Sound.{Sound}
-use Rattle.history.specs.Claim.{Told, told, History, no-history, number, hear, Shown, Obeys, Ageing, Strikes, StruckWhole, open-after, Sated, NoWant, Claim}
+use Rattle.rules.proofs.Examples.{rules-open}
+use Rattle.history.specs.Claim.{Told, told, History, no-history, number, hear, Shown, Obeys, Ageing}
+use Rattle.history.specs.Claim.{Strikes, StruckWhole, open-after, Sated, NoWant, Claim}
 use Rattle.history.proofs.Sound.All.{format-sound, sound-kept, step-sound}
 use Rattle.history.proofs.Invariant.{Aged}
 use Rattle.history.proofs.Wanting.{Stocked}
@@ -33,7 +31,7 @@ use Rattle.history.proofs.Want.All.{stocked-kept, format-stocked}
 
 -- ---- the settings stay
 same-settings : (s : State) (e : Event) → rule s e .after .settings ≡ s .settings
-unfolding rule put-effect copy-effect savelog-effect map-effect send-effect deliver-effect drop-effect savemap-effect item-goes learn-effect reset-effect crash-effect lose-effect rise-effect join-effect view-effect fetch-effect ready-effect mend-effect collect-effect
+unfolding rules-open
 same-settings s (Event.put p i b d) = refl
 same-settings s (Event.copy k) = refl
 same-settings s (Event.savelog i) = refl
@@ -65,7 +63,9 @@ as-told s e u = record { event = e; code = u .code; said = u .said; found-whole 
 module _ (s : State) (h : History) (v : Aged s h) (z : Sound s) where
   new-key : (e : Event) → Yes s e → (p i b : ℕ) (d : List ℕ) → e ≡ Event.put p i b d → (c : ℕ) → number (h .writes c) (rule s e .said .key) ≡ 0
   unfolding rule
-  new-key e y p i b d q = subst (λ (a : Event). Yes s a → (c : ℕ) → number (h .writes c) (rule s a .said .key) ≡ 0) (sym q) (λ y. put-fresh s h v z p i b d y (sound-kept s (Event.put p i b d) z y)) y
+  new-key e y p i b d q =
+      subst (λ (a : Event). Yes s a → (c : ℕ) → number (h .writes c) (rule s a .said .key) ≡ 0) (sym q)
+      (λ a. put-fresh s h v z p i b d a (sound-kept s (Event.put p i b d) z a)) y
 
   shows : (e : Event) → Yes s e → (p b : ℕ) → e ≡ Event.get p b → Shown (s .settings .size) (h .writes b) (h .mark b) (rule s e .said)
   shows e y p b q = subst (λ (a : Event). Yes s a → Shown (s .settings .size) (h .writes b) (h .mark b) (rule s a .said)) (sym q) (get-shown s h v z p b) y
@@ -117,7 +117,8 @@ no-want (e ∷ es) s h o v z w f =
 pub claim : Claim
 claim c y es =
     let z = format-sound c y in
-    (ageing (c .size) es (format c) no-history (format-aged c) z (same-size c), no-want es (format c) no-history (λ g. false) (format-aged c) z (format-stocked c z))
+    let v = format-aged c in
+    (ageing (c .size) es (format c) no-history v z (same-size c), no-want es (format c) no-history (λ g. false) v z (format-stocked c z))
   where
     same-size : (c : Settings) → format c .settings .size ≡ c .size
     same-size c = unfold format in refl

@@ -14,9 +14,12 @@ use Rattle.rules.specs.Parts.{primary-memory, agree}
 use Rattle.rules.proofs.Entries.{look-insert, drain-from}
 use Rattle.rules.proofs.Parts.{agree-all}
 
+abbrev pub Role : ℕ → ℕ → ℕ → Bool → ℕ → Type 0
+Role primary last-primary last-backup fetched i = (i ≡ last-primary) ⊎ ((i ≡ last-backup) ⊎ ((fetched ≡ true) × (i ≡ primary)))
+
 pub record Relied (here : ℕ → Bool) (primary last-primary last-backup : ℕ) (fetched : Bool) (i : ℕ) : Type 0 where
   pub present : here i ≡ true
-  pub role : (i ≡ last-primary) ⊎ ((i ≡ last-backup) ⊎ ((fetched ≡ true) × (i ≡ primary)))
+  pub role : Role primary last-primary last-backup fetched i
 
 -- in a new view no primary has fetched; and fetching adds the primary alone
 module _ {here : ℕ → Bool} {last-primary last-backup i : ℕ} where
@@ -35,10 +38,11 @@ module _ {here : ℕ → Bool} {last-primary last-backup i : ℕ} where
 abbrev pub ReliedOn : (ℕ → Bool) → Bucket → ℕ → Type 0
 ReliedOn here k = Relied here (k .primary) (k .last-primary) (k .last-backup) (k .fetched)
 
+-- `P` of what a copy gives each block
 abbrev pub In : (ℕ → ℕ → Type 0) → List Entry → Type 0
 In P l = (b : ℕ) → P b (look l b)
 
--- in the copies of the bricks that `R` picks
+-- and that in memory and on disk, of the bricks that `R` picks
 pub record Copies (P : ℕ → ℕ → Type 0) (R : ℕ → Type 0) (m d : ℕ → List Entry) : Type 0 where
   pub memory : (i : ℕ) → R i → In P (m i)
   pub disk : (i : ℕ) → R i → In P (d i)
@@ -97,7 +101,7 @@ module _ (P : ℕ → ℕ → Type 0) where
     disk = λ i r. at d saved on-disk i (r .role);
   }
     where
-      at : (o : ℕ → List Entry) (t : List Entry) → In P t → (i : ℕ) → (i ≡ p) ⊎ ((i ≡ c) ⊎ ((f ≡ true) × (i ≡ p))) → In P (upd (upd o c l) p t i)
+      at : (o : ℕ → List Entry) (t : List Entry) → In P t → (i : ℕ) → Role p p c f i → In P (upd (upd o c l) p t i)
       at o t q i (inl e) = rw (e, upd-same (upd o c l) p t) q
       at o t q i (inr (inl e)) = rw (e, upd-other (upd o c l) p c t apart, upd-same o c l) at-backup
       at o t q i (inr (inr e)) = rw (e .1, upd-same (upd o c l) p t) q
@@ -111,6 +115,12 @@ abbrev pub Same : Bucket → Type 0
 Same k = SamePair (k .primary) (k .backup) (k .last-primary) (k .last-backup)
 
 module _ (k : Bucket) (same : Same k) where
+  pub primary-relied : {here : ℕ → Bool} → here (k .primary) ≡ true → ReliedOn here k (k .primary)
+  primary-relied y = record { present = y; role = inl (same .one) }
+
+  pub backup-relied : {here : ℕ → Bool} → here (k .backup) ≡ true → ReliedOn here k (k .backup)
+  backup-relied y = record { present = y; role = inr (inl (same .two)) }
+
   of-pair : {here : ℕ → Bool} {i : ℕ} → ReliedOn here k i → (i ≡ k .primary) ⊎ (i ≡ k .backup)
   of-pair r = elim (r .role) [ inl e ↦ inl (e ∙ sym (same .one)) | inr t ↦ elim t [ inl e ↦ inr (e ∙ sym (same .two)) | inr e ↦ inl (e .1) ] ]
 

@@ -12,13 +12,13 @@ use Rattle.lists.proofs.Columns.{upd-other, upd-all, unflag}
 use Rattle.rules.specs.Limits.{buckets}
 use Rattle.rules.specs.Numbers.{home-of}
 use Rattle.rules.specs.Entries.{Entry, look, has}
-use Rattle.rules.specs.State.{Bucket, State}
+use Rattle.rules.specs.State.{Bucket, Relay, State, set-parts, set-lists}
 use Rattle.rules.specs.Parts.{item}
 use Rattle.rules.proofs.Entries.{has-entry, no-entry}
 use Rattle.rules.proofs.Sound.{KeyOk, TableOk, Sound}
 use Rattle.history.specs.Claim.{History, number}
-use Rattle.history.proofs.Copies.{ReliedOn}
-use Rattle.history.proofs.Invariant.{Writes, Newest, Readable, Aged}
+use Rattle.history.proofs.Copies.{Role, ReliedOn}
+use Rattle.history.proofs.Invariant.{Writes, Newest, Sent, Readable, BucketAge, Aged}
 
 -- ---- keys
 pub key-first : {given : ℕ} {here : ℕ → Bool} {next : ℕ → ℕ} (k : ℕ) → KeyOk given here next k → 0 < k
@@ -34,9 +34,9 @@ key-stays k l f o = record {
 }
 
 -- what is read in a table is 0 or a key of an entry
-pub look-key : {K P : ℕ → Type 0} {most : ℕ} (l : List Entry) (b : ℕ) → TableOk K P most l → (look l b ≡ 0) ⊎ ((has l b ≡ true) × K (look l b))
-look-key {K} l b o =
-    by (has l b) (λ y. let t = has-entry l b y in inr (y, rw (t .3) (o .each (t .0) (t .1) .key))) (λ n. inl (no-entry l b n))
+pub look-key : {K P : ℕ → Type 0} {most : ℕ} (l : List Entry) (b : ℕ) → TableOk K P most l → (look l b ≡ 0) ⊎ K (look l b)
+look-key l b o =
+    by (has l b) (λ y. let t = has-entry l b y in inr (rw (t .3) (o .each (t .0) (t .1) .key))) (λ n. inl (no-entry l b n))
 
 -- ---- bricks
 module _ (s : State) (o : Sound s) where
@@ -58,7 +58,7 @@ module _ (s : State) where
       → ReliedOn (s .bricks .here) (s .bucket g) i × (i ≡ suc (s .given) → ⊥)
   joined-relied o g z i r = let l = born (r .role) in (record { present = joined-here i l (r .present); role = r .role }, not-joined i l)
     where
-      born : (i ≡ s .bucket g .last-primary) ⊎ ((i ≡ s .bucket g .last-backup) ⊎ ((s .bucket g .fetched ≡ true) × (i ≡ s .bucket g .primary))) → i ≤ s .given
+      born : let k = s .bucket g in Role (k .primary) (k .last-primary) (k .last-backup) (k .fetched) i → i ≤ s .given
       born (inl e) = omega (arith, e, o .buckets-ok g z .last .one-born)
       born (inr (inl e)) = omega (arith, e, o .buckets-ok g z .last .two-born)
       born (inr (inr e)) = omega (arith, e .1, o .buckets-ok g z .pair .one-born)
@@ -78,9 +78,18 @@ module _ (s : State) (h : History) (v : Aged s h) where
       let t = has-entry (s .items p) b y in
       rw (t .3) (subst (λ (c : ℕ). Newest (h .writes) c (t .0 .key)) (t .2) (v .items p (t .0) (t .1)))
 
+-- an event that leaves the history, keys, items and logs alone
+pub moves-aged : {s : State} {h : History} {buffer : ℕ → List Entry} {bucket : ℕ → Bucket} {bag : List Relay} → Aged s h
+    → ((r : Relay) → List·Memᴰ r bag → Sent (h .writes) (s .view) r)
+    → ((g : ℕ) → g < buckets (s .settings)
+    → BucketAge (h .writes) (h .mark) (buckets (s .settings)) (s .view) bag buffer (s .bricks .here) (s .bricks .member) g (bucket g))
+    → Aged (set-parts s (set-lists (s .bricks) (s .bricks .log) buffer) bucket bag (s .items) (s .known)) h
+moves-aged v relays each = record { keys = v .keys; marked = v .marked; items = v .items; logs = v .logs; relays = relays; buckets = each }
+
 -- ---- a smaller buffer
 pub readable-fewer : {w : Writes} {mark : ℕ → ℕ} {count : ℕ} {buffer buffer′ : ℕ → List Entry} {g : ℕ}
-    → ((i : ℕ) (e : Entry) → List·Memᴰ e (buffer′ i) → List·Memᴰ e (buffer i)) → (b k : ℕ) → Readable w mark count buffer g b k → Readable w mark count buffer′ g b k
+    → ((i : ℕ) (e : Entry) → List·Memᴰ e (buffer′ i) → List·Memᴰ e (buffer i))
+    → (b k : ℕ) → Readable w mark count buffer g b k → Readable w mark count buffer′ g b k
 readable-fewer f b k t = record { known = t .known; floor = t .floor; waits = λ i e m. t .waits i e (f i e m) }
 
 pub emptied : (buffer : ℕ → List Entry) (x i : ℕ) (e : Entry) → List·Memᴰ e (upd buffer x [] i) → List·Memᴰ e (buffer i)

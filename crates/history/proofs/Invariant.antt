@@ -56,16 +56,18 @@ pub record Waiting (w : Writes) (mark : ℕ → ℕ) (primary : ℕ) (ready : Bo
 
 -- a relay of this bucket and view
 pub record Flies (g view : ℕ) (bag : List Relay) (r : Relay) : Type 0 where
-  pub here : List·Memᴰ r bag
+  pub in-bag : List·Memᴰ r bag
   pub mine : r .bucket ≡ g
   pub now : r .view ≡ view
 
+-- they are numbered up to the last order number sent, fly only while the bucket is ready, and of two of one block the one sent later is no older write
 pub record Queue (w : Writes) (g : ℕ) (bag : List Relay) (view order : ℕ) (ready : Bool) : Type 0 where
   pub ordered : (r : Relay) → Flies g view bag r → r .order ≤ order
   pub while-ready : (r : Relay) → Flies g view bag r → ready ≡ true
   pub sorted : (r t : Relay) → Flies g view bag r → Flies g view bag t → r .order < t .order → r .block ≡ t .block → Older w (r .block) (r .key) (t .key)
 
--- the backup is behind every relay not yet taken, its disk behind its memory, and both they and the relays behind a primary that is a member
+-- the backup's memory has no later write than a relay not yet taken, and its disk none later than its memory; where the primary is a member, its memory has
+-- none older than the relays, nor than the backup's memory
 pub record Flight (w : Writes) (g : ℕ) (memory disk : ℕ → List Entry) (member : ℕ → Bool) (bag : List Relay) (view taken primary backup : ℕ)
     (ready : Bool) : Type 0 where
   pub behind : (r : Relay) → Flies g view bag r → taken < r .order → Older w (r .block) (look (memory backup) (r .block)) (r .key)
@@ -75,6 +77,7 @@ pub record Flight (w : Writes) (g : ℕ) (memory disk : ℕ → List Entry) (mem
 
 pub record BucketAge (w : Writes) (mark : ℕ → ℕ) (count view : ℕ) (bag : List Relay) (buffer : ℕ → List Entry) (here member : ℕ → Bool) (g : ℕ)
     (k : Bucket) : Type 0 where
+  -- a ready bucket's last ready pair is its pair
   pub same : k .ready ≡ true → Same k
   pub copies : Copies (Readable w mark count buffer g) (ReliedOn here k) (k .memory) (k .disk)
   pub waiting : (i : ℕ) (e : Entry) → List·Memᴰ e (buffer i) → bucket-of count (e .block) ≡ g → Waiting w mark (k .primary) (k .ready) i e

@@ -1,9 +1,11 @@
 pub mod Sound
 pub mod History
 pub mod Copies
+pub mod Mend
 pub mod Facts
 pub mod Invariant
 pub mod Ageing
 pub mod Wanting
 pub mod Want
 pub mod Claim
+pub mod Witness

@@ -1,5 +1,5 @@
--- The invariant of the claim on want, beside `Sound` and `Aged`, for lists in which every accepted crash and loss finds a whole store. What is asked of the keys in
--- use is a parameter of the groups: `K`.
+-- The invariant of the claim on want, beside `Sound` and `Aged`, for lists in which every accepted crash and loss finds a whole store. What is asked of
+-- the keys in use is a parameter of the groups: `K`.
 use mathlib.Core.Path.{_≡_}
 use mathlib.Core.List.{List, List·Memᴰ}
 use mathlib.Core.Bool.{Bool, true, false}

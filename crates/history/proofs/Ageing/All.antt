@@ -11,23 +11,24 @@ use Rattle.rules.specs.declared.settings.Settings.{Settings}
 use Rattle.rules.specs.Limits.{buckets}
 use Rattle.rules.specs.Entries.{look}
 use Rattle.rules.specs.Event.{Event}
-use Rattle.rules.specs.State.{State}
+use Rattle.rules.specs.State.{State, Relay}
 use Rattle.rules.specs.Format.{first-bucket, format}
 use Rattle.rules.specs.Step.{rule}
 use Rattle.rules.proofs.Step.{Yes}
 use Rattle.rules.proofs.Sound.{Sound}
 use Rattle.history.specs.Claim.{History, no-history, number, meaning, hears}
-use Rattle.history.proofs.Invariant.{BucketAge, AgeOf, Aged}
+use Rattle.history.proofs.Invariant.{Flies, BucketAge, AgeOf, Aged}
 use Rattle.history.proofs.Ageing.Writes.{copy-aged, savelog-aged}
 use Rattle.history.proofs.Ageing.Put.{put-aged}
-use Rattle.history.proofs.Ageing.Maps.{map-aged, savemap-aged, abandon-aged, learn-aged, reset-aged}
+use Rattle.history.proofs.Ageing.Maps.{map-aged, savemap-aged, item-goes-aged, learn-aged, reset-aged}
 use Rattle.history.proofs.Ageing.Relays.{send-aged, deliver-aged, drop-aged}
 use Rattle.history.proofs.Ageing.Reads.{done-aged, get-aged}
 use Rattle.history.proofs.Ageing.Membership.{crash-aged, lose-aged, rise-aged, join-aged}
 use Rattle.history.proofs.Ageing.Views.{view-aged, fetch-aged, ready-aged}
 use Rattle.history.proofs.Ageing.Upkeep.{mend-aged, collect-aged}
 
-pub aged-kept : (s : State) (h : History) (e : Event) → Aged s h → Sound s → Yes s e → Sound (rule s e .after) → Aged (rule s e .after) (hears h (meaning e) (rule s e .said))
+pub aged-kept : (s : State) (h : History) (e : Event) → Aged s h → Sound s → Yes s e → Sound (rule s e .after)
+    → Aged (rule s e .after) (hears h (meaning e) (rule s e .said))
 unfolding meaning
 aged-kept s h (Event.put p i b d) v o y o′ = put-aged s h v o p i b d y o′
 aged-kept s h (Event.copy k) v o y o′ = copy-aged s h v k y
@@ -39,7 +40,7 @@ aged-kept s h (Event.drop n) v o y o′ = drop-aged s h v n
 aged-kept s h (Event.savemap i) v o y o′ = savemap-aged s h v i
 aged-kept s h (Event.done p b) v o y o′ = done-aged s h v p b (rule s (Event.done p b) .said) y
 aged-kept s h (Event.get p b) v o y o′ = get-aged s h v p b y
-aged-kept s h (Event.abandon p b) v o y o′ = abandon-aged s h v p b
+aged-kept s h (Event.abandon p b) v o y o′ = unfold rule in item-goes-aged s h v p b
 aged-kept s h (Event.learn p) v o y o′ = learn-aged s h v p
 aged-kept s h (Event.reset p) v o y o′ = reset-aged s h v p
 aged-kept s h (Event.crash i) v o y o′ = crash-aged s h v o i
@@ -65,6 +66,9 @@ format-aged c = record {
   buckets = λ g z. either (λ k. AgeOf (format c) no-history g k) (ltb g (buckets c)) (λ _ _. first g _ _) (λ n. clash n (lt-ltb _ _ z)) z;
 }
   where
+    none : {g view : ℕ} (r : Relay) → Flies g view [] r → ⊥
+    none r m = List·Memᴰ·not-nil (m .in-bag)
+
     first : (g p b : ℕ) → BucketAge (λ b. []) (λ b. 0) (buckets c) 1 [] (λ i. []) (format c .bricks .here) (format c .bricks .member) g (first-bucket p b)
     first g p b = record {
       same = λ _. record { one = refl; two = refl };
@@ -73,11 +77,11 @@ format-aged c = record {
         disk = λ i r b. record { known = inl refl; floor = λ _. omega arith; waits = λ i e m. absurd (List·Memᴰ·not-nil m) };
       };
       waiting = λ i e m. absurd (List·Memᴰ·not-nil m);
-      queue = record { ordered = λ r m. absurd (List·Memᴰ·not-nil (m .here)); while-ready = λ r m. refl; sorted = λ r t m. absurd (List·Memᴰ·not-nil (m .here)) };
+      queue = record { ordered = λ r m. absurd (none r m); while-ready = λ r m. refl; sorted = λ r t m. absurd (none r m) };
       flight = record {
-        behind = λ r m. absurd (List·Memᴰ·not-nil (m .here));
+        behind = λ r m. absurd (none r m);
         disk-behind = λ _ b. omega arith;
-        leads = λ z r m. absurd (List·Memᴰ·not-nil (m .here));
+        leads = λ z r m. absurd (none r m);
         ahead = λ _ _ b. omega arith;
       };
     }

@@ -26,7 +26,7 @@ use Rattle.history.specs.Claim.{History, number}
 use Rattle.history.proofs.History.{number-most}
 use Rattle.history.proofs.Copies.{copies-map, copies-insert, copies-saved}
 use Rattle.history.proofs.Sound.Lists.{one-more}
-use Rattle.history.proofs.Facts.{item-newest}
+use Rattle.history.proofs.Facts.{item-newest, moves-aged}
 use Rattle.history.proofs.Invariant.{Older, Newest, BucketAge, AgeOf, Aged}
 
 -- ---- items
@@ -34,13 +34,14 @@ module _ (s : State) (h : History) (v : Aged s h) where
   abbrev NewestIn : List Entry → Type 0
   NewestIn l = (e : Entry) → List·Memᴰ e l → Newest (h .writes) (e .block) (e .key)
 
-  pub items-go : (p b q : ℕ) → NewestIn (upd (s .items) p (remove (s .items p) b) q)
+  items-go : (p b q : ℕ) → NewestIn (upd (s .items) p (remove (s .items p) b) q)
   unfolding remove
   items-go p b = upd-all (λ _. NewestIn) (s .items) p _ (v .items) (λ e m. v .items p e (only-in _ _ m .0))
 
-  pub abandon-aged : (p b : ℕ) → Aged (rule s (Event.abandon p b) .after) h
-  unfolding rule item-goes
-  abandon-aged p b = search (items-go p b)
+  -- done and abandon
+  pub item-goes-aged : (p b : ℕ) → Aged (item-goes s p b) h
+  unfolding item-goes
+  item-goes-aged p b = search (items-go p b)
 
   pub learn-aged : (p : ℕ) → Aged (rule s (Event.learn p) .after) h
   unfolding rule learn-effect
@@ -90,7 +91,7 @@ module _ (s : State) (h : History) (v : Aged s h) (o : Sound s) (p b : ℕ) (y :
       let l = insert (own .memory home) b key in
       let at-backup : upd (own .memory) home l (own .backup) ≡ own .memory (own .backup) = upd-other (own .memory) home (own .backup) l apart in
       let at-primary : (c : ℕ) → look (upd (own .memory) home l home) c ≡ upd (look (own .memory home)) b key c
-      = λ c. ap (λ (m : List Entry). look m c) (upd-same (own .memory) home l) ∙ look-insert (own .memory home) b key c in
+      = λ c. rw (upd-same (own .memory) home l) (look-insert (own .memory home) b key c) in
       record {
         same = u .same;
         copies = copies-insert _ (u .copies) home b key (record {
@@ -148,15 +149,8 @@ module _ (s : State) (h : History) (v : Aged s h) (o : Sound s) (p b : ℕ) (y :
   pub map-aged : Aged (rule s (Event.map p b) .after) h
   unfolding rule map-effect
   map-aged = either (λ (t : State). Aged t h) (own .ready)
-      (λ ready. record {
-        keys = v .keys;
-        marked = v .marked;
-        items = v .items;
-        logs = v .logs;
-        relays = v .relays;
-        buckets = upd-all (AgeOf s h) (s .bucket) which _ (v .buckets) (in-memory ready);
-      })
-      (λ unready. record { keys = v .keys; marked = v .marked; items = v .items; logs = v .logs; relays = v .relays; buckets = in-buffer unready })
+      (λ ready. moves-aged v (v .relays) (upd-all (AgeOf s h) (s .bucket) which _ (v .buckets) (in-memory ready)))
+      (λ unready. moves-aged v (v .relays) (in-buffer unready))
 
 -- ---- savemap
 module _ (s : State) (h : History) (v : Aged s h) where
@@ -180,4 +174,4 @@ module _ (s : State) (h : History) (v : Aged s h) where
 
   pub savemap-aged : (i : ℕ) → Aged (rule s (Event.savemap i) .after) h
   unfolding rule savemap-effect
-  savemap-aged i = record { keys = v .keys; marked = v .marked; items = v .items; logs = v .logs; relays = v .relays; buckets = saved (s .ids i) }
+  savemap-aged i = moves-aged v (v .relays) (saved (s .ids i))

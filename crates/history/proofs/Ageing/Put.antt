@@ -68,7 +68,7 @@ module _ (s : State) (h : History) (v : Aged s h) (o : Sound s) (p i b : ℕ) (d
   not-known c j (inr z) e = not-new j (v .keys c j z) e
 
   not-read : {P : ℕ → Type 0} {most : ℕ} (l : List Entry) (c : ℕ) → TableOk (KeyOf s) P most l → look l c ≡ key → ⊥
-  not-read l c t e = elim (look-key l c t) [ inl z ↦ omega (arith, first) | inr z ↦ not-new _ (z .1) e ]
+  not-read l c t e = elim (look-key l c t) [ inl z ↦ omega (arith, first) | inr z ↦ not-new _ z e ]
 
   -- no two accepted puts answer one key
   pub put-fresh : (c : ℕ) → number (h .writes c) key ≡ 0
@@ -78,7 +78,10 @@ module _ (s : State) (h : History) (v : Aged s h) (o : Sound s) (p i b : ℕ) (d
   put-keys : (c j : ℕ) → 0 < number (now c) j → KeyOf (rule s (Event.put p i b d) .after) j
   unfolding rule put-effect
   put-keys c j z =
-      by-eq j key (λ _ e. rw e (o′ .logs brick .each (chunk key false d) (rw (upd-same (s .bricks .log) brick (append (s .bricks .log brick) (chunk key false d))) (Memᴰ·append-right (s .bricks .log brick) (List·Memᴰ·head refl))) .key))
+      let log = append (s .bricks .log brick) (chunk key false d) in
+      let last : List·Memᴰ (chunk key false d) (upd (s .bricks .log) brick log brick)
+      = rw (upd-same (s .bricks .log) brick log) (Memᴰ·append-right (s .bricks .log brick) (List·Memᴰ·head refl)) in
+      by-eq j key (λ _ e. rw e (o′ .logs brick .each (chunk key false d) last .key))
       (λ _ n. next-grows brick _ (omega arith) (v .keys c j (rw (number-stays (h .writes) b new j n c) at z)))
 
   -- an item of another proxy is of another block, and this proxy has none of the block
@@ -137,7 +140,7 @@ module _ (s : State) (h : History) (v : Aged s h) (o : Sound s) (p i b : ℕ) (d
       let f = u .flight in
       let t = o .buckets-ok g z in
       let c = s .bucket g .backup in
-      let not-relay : (r : Relay) → Flies g (s .view) (s .bag) r → r .key ≡ key → ⊥ = λ r m. not-new _ (o .relays r (m .here) .key) in
+      let not-relay : (r : Relay) → Flies g (s .view) (s .bag) r → r .key ≡ key → ⊥ = λ r m. not-new _ (o .relays r (m .in-bag) .key) in
       record {
         same = u .same;
         copies = copies-map _ _ (λ a j q. record {

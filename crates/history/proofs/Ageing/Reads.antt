@@ -8,7 +8,8 @@ use Prim.Native.Nat.{ℕ, _≤_, _<_}
 use native.Mathlib.Omega.{arith}
 use lib.ListN.{length}
 use borrow.Author.Tests.{eqb-true, ltb-true}
-use Rattle.lists.specs.Tests.{_and_, _or_}
+use lib.Dec.{ltb, eqb}
+use Rattle.lists.specs.Tests.{_or_}
 use Rattle.lists.specs.Columns.{upd}
 use Rattle.lists.proofs.Tests.{by-eq, clash, or-second}
 use Rattle.lists.proofs.Columns.{upd-other, upd-all}
@@ -18,7 +19,7 @@ use Rattle.rules.specs.Entries.{Entry}
 use Rattle.rules.specs.Event.{Event}
 use Rattle.rules.specs.State.{State}
 use Rattle.rules.specs.Parts.{holder, bucket-no, bucket-at, agree, item}
-use Rattle.rules.specs.Maps.{item-goes}
+use Rattle.rules.specs.Question.{not-pending}
 use Rattle.rules.specs.Reads.{mapped, get-bytes}
 use Rattle.rules.specs.Step.{Answer, rule}
 use Rattle.rules.proofs.Step.{Yes}
@@ -26,12 +27,12 @@ use Rattle.rules.proofs.Parts.{bucket-below, agrees, seek-held}
 use Rattle.rules.proofs.Sound.{Sound}
 use Rattle.history.specs.Claim.{History, number, meaning, hears, Shown}
 use Rattle.history.proofs.History.{number-most}
-use Rattle.history.proofs.Copies.{ReliedOn, Copies, copies-map, copies-agreed}
+use Rattle.history.proofs.Copies.{ReliedOn, Copies, copies-map, primary-relied, copies-agreed}
 use Rattle.history.proofs.Sound.Groups.{member-here}
 use Rattle.history.proofs.Facts.{zero-number, item-newest}
 use Rattle.history.proofs.Invariant.{Readable, AgeOf, Aged}
 use Rattle.history.proofs.Ageing.Writes.{honest-held}
-use Rattle.history.proofs.Ageing.Maps.{items-go}
+use Rattle.history.proofs.Ageing.Maps.{item-goes-aged}
 
 module _ (s : State) (h : History) (v : Aged s h) where
   module _ (b m : ℕ) (ready : bucket-at s b .ready ≡ true) (one-key : agree (bucket-at s b) b ≡ true) (top : m ≤ number (h .writes b) (mapped s b)) where
@@ -89,17 +90,18 @@ module _ (s : State) (h : History) (v : Aged s h) where
   pub get-aged : (p b : ℕ) → Yes s (Event.get p b) → Aged (rule s (Event.get p b) .after) (hears h (meaning (Event.get p b)) (rule s (Event.get p b) .said))
   unfolding rule meaning
   get-aged p b y =
-      let ready : bucket-at s b .ready ≡ true = y .1 .1 .1 .1 .1 .0 in
-      marked-aged b _ ready (agrees (bucket-at s b) b ready (y .1 .1 .1 .1 .1 .1 .0)) (omega arith)
+      let ready : bucket-at s b .ready ≡ true = search in
+      let settled : not-pending s b ≡ true = search in
+      marked-aged b _ ready (agrees (bucket-at s b) b ready settled) (omega arith)
 
   pub done-aged : (p b : ℕ) (a : Answer) → Yes s (Event.done p b) → Aged (rule s (Event.done p b) .after) (hears h (meaning (Event.done p b)) a)
-  unfolding rule meaning item-goes
+  unfolding rule meaning
   done-aged p b a y =
-      let ready : bucket-at s b .ready ≡ true = y .1 .1 .1 .1 .1 .0 in
-      let its : mapped s b ≡ item s p b = eqb-true _ _ (y .1 .1 .1 .1 .1 .1 .1 .1 .1 .0) in
-      let last = item-newest s h v p b (y .1 .1 .1 .1 .1 .1 .1 .1 .0) .last in
-      let t = marked-aged b (length (h .writes b)) ready (agrees (bucket-at s b) b ready (y .1 .1 .1 .1 .1 .1 .0)) (rw its (omega arith)) in
-      record { keys = t .keys; marked = t .marked; items = items-go s h v p b; logs = t .logs; relays = t .relays; buckets = t .buckets }
+      let ready : bucket-at s b .ready ≡ true = search in
+      let settled : not-pending s b ≡ true = search in
+      let its : mapped s b ≡ item s p b = search eqb-true in
+      let last = item-newest s h v p b (search) .last in
+      item-goes-aged s _ (marked-aged b _ ready (agrees (bucket-at s b) b ready settled) (omega (arith, last, ap (number (h .writes b)) its))) p b
 
   -- what a get answers
   pub get-shown : Sound s → (p b : ℕ) → Yes s (Event.get p b) → Shown (s .settings .size) (h .writes b) (h .mark b) (rule s (Event.get p b) .said)
@@ -107,10 +109,11 @@ module _ (s : State) (h : History) (v : Aged s h) where
   get-shown o p b y =
       let k = bucket-at s b in
       let u = v .buckets (bucket-no s b) (bucket-below (s .settings) b) in
-      let here = member-here o (k .primary) (y .1 .1 .1 .1 .0) in
-      let t = u .copies .memory (k .primary) (record { present = here; role = inl (u .same (y .1 .1 .1 .1 .1 .0) .one) }) b in
+      let ready : k .ready ≡ true = search in
+      let held : (eqb (mapped s b) 0 or ltb 0 (holder s (mapped s b))) ≡ true = search in
+      let t = u .copies .memory (k .primary) (primary-relied k (u .same ready) (member-here o (k .primary) (search))) b in
       by-eq (mapped s b) 0 (λ q e. inl (e, rw q refl, omega (arith, zero-number s h v b, rw e at (t .floor refl))))
       (λ q n.
       let is-write : 0 < number (h .writes b) (mapped s b) = elim (t .known) [ inl z ↦ absurd (n z) | inr z ↦ z ] in
-      let found = ltb-true _ _ (or-second _ _ (y .1 .1 .1 .1 .1 .1 .1 .1 .0) q) in
+      let found = ltb-true _ _ (or-second _ _ held q) in
       inr (is-write, rw q (honest-held s h v (holder s (mapped s b)) (mapped s b) (seek-held (s .bricks) (mapped s b) _ found) b is-write), t .floor refl))

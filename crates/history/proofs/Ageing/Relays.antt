@@ -23,15 +23,15 @@ use Rattle.rules.proofs.Parts.{bucket-below}
 use Rattle.rules.proofs.Entries.{has-entry, look-insert}
 use Rattle.rules.proofs.Sound.{Sound}
 use Rattle.history.specs.Claim.{History, number}
-use Rattle.history.proofs.Copies.{copies-insert}
+use Rattle.history.proofs.Copies.{copies-insert, primary-relied, backup-relied}
 use Rattle.history.proofs.Sound.Lists.{one-more, getD-in, remove-at-in}
 use Rattle.history.proofs.Sound.Groups.{member-here}
-use Rattle.history.proofs.Facts.{key-first}
+use Rattle.history.proofs.Facts.{key-first, moves-aged}
 use Rattle.history.proofs.Invariant.{Writes, Older, Flies, Queue, Flight, BucketAge, AgeOf, Aged}
 
 -- ---- the bag: a relay leaves it
 pub still-flies : {g view : ℕ} (bag : List Relay) (n : ℕ) {r : Relay} → Flies g view (remove-at bag n) r → Flies g view bag r
-still-flies bag n m = record { here = remove-at-in bag n (m .here); mine = m .mine; now = m .now }
+still-flies bag n m = record { in-bag = remove-at-in bag n (m .in-bag); mine = m .mine; now = m .now }
 
 -- fewer relays of a bucket
 module _ {w : Writes} {g view view′ : ℕ} {bag bag′ : List Relay} (was : (r : Relay) → Flies g view′ bag′ r → Flies g view bag r) where
@@ -57,14 +57,7 @@ module _ {w : Writes} {g view view′ : ℕ} {bag bag′ : List Relay} (was : (r
 
 module _ (s : State) (h : History) (v : Aged s h) where
   pub fewer-aged : (n : ℕ) → Aged (set-bag s (remove-at (s .bag) n)) h
-  fewer-aged n = record {
-    keys = v .keys;
-    marked = v .marked;
-    items = v .items;
-    logs = v .logs;
-    relays = λ r m. v .relays r (remove-at-in (s .bag) n m);
-    buckets = λ g z. bucket-fewer (λ r. still-flies (s .bag) n) (v .buckets g z);
-  }
+  fewer-aged n = moves-aged v (λ r m. v .relays r (remove-at-in (s .bag) n m)) (λ g z. bucket-fewer (λ r. still-flies (s .bag) n) (v .buckets g z))
 
   pub drop-aged : (n : ℕ) → Aged (rule s (Event.drop n) .after) h
   unfolding rule drop-effect
@@ -81,8 +74,8 @@ module _ (s : State) (h : History) (v : Aged s h) (o : Sound s) (b : ℕ) (y : Y
   abbrev bag′ : List Relay
   bag′ = s .bag ++ (new-relay s b ∷ [])
 
-  u : BucketAge (h .writes) (h .mark) (buckets (s .settings)) (s .view) (s .bag) (s .bricks .buffer) (s .bricks .here) (s .bricks .member) which own
-  u = v .buckets which (bucket-below (s .settings) b)
+  age : BucketAge (h .writes) (h .mark) (buckets (s .settings)) (s .view) (s .bag) (s .bricks .buffer) (s .bricks .here) (s .bricks .member) which own
+  age = v .buckets which (bucket-below (s .settings) b)
 
   pub send-member : s .bricks .member (own .primary) ≡ true
   unfolding rule
@@ -99,8 +92,8 @@ module _ (s : State) (h : History) (v : Aged s h) (o : Sound s) (b : ℕ) (y : Y
       let inside = bucket-below (s .settings) b in
       let t = has-entry (primary-memory own) b (search) in
       let key = o .buckets-ok which inside .memory (own .primary) .each (t .0) (t .1) .key in
-      let here = member-here o (own .primary) (search) in
-      elim (u .copies .memory (own .primary) (record { present = here; role = inl (u .same send-ready .one) }) b .known) [
+      let relied = primary-relied own (age .same send-ready) (member-here o (own .primary) (search)) in
+      elim (age .copies .memory (own .primary) relied b .known) [
         | inl z ↦ absurd (omega (arith, key-first _ key, t .3))
         | inr z ↦ z
       ]
@@ -110,8 +103,8 @@ module _ (s : State) (h : History) (v : Aged s h) (o : Sound s) (b : ℕ) (y : Y
 
   pub sent-flies : (j : ℕ) (r : Relay) → Flies j (s .view) bag′ r → (Flies j (s .view) (s .bag) r) ⊎ ((r ≡ new-relay s b) × (which ≡ j))
   sent-flies j r m =
-      elim (sent-in r (m .here)) [
-        | inl z ↦ inl (record { here = z; mine = m .mine; now = m .now })
+      elim (sent-in r (m .in-bag)) [
+        | inl z ↦ inl (record { in-bag = z; mine = m .mine; now = m .now })
         | inr z ↦ inr (z, sym (ap (λ (q : Relay). q .bucket) z) ∙ m .mine)
       ]
 
@@ -119,12 +112,12 @@ module _ (s : State) (h : History) (v : Aged s h) (o : Sound s) (b : ℕ) (y : Y
   Either r = (Flies which (s .view) (s .bag) r) ⊎ ((r ≡ new-relay s b) × (which ≡ which))
 
   sorted : (r t : Relay) → Either r → Either t → r .order < t .order → r .block ≡ t .block → Older (h .writes) (r .block) (r .key) (t .key)
-  sorted r t (inl m) (inl n) a e = u .queue .sorted r t m n a e
+  sorted r t (inl m) (inl n) a e = age .queue .sorted r t m n a e
   sorted r t (inl m) (inr n) a e =
       let block : r .block ≡ b = e ∙ ap (λ (q : Relay). q .block) (n .0) in
       let key : t .key ≡ look (primary-memory own) (r .block) = rw (n .0, block) in
-      rw key (u .flight .leads send-member r m)
-  sorted r t (inr m) (inl n) a e = absurd (omega (arith, u .queue .ordered t n, ap (λ (q : Relay). q .order) (m .0)))
+      rw key (age .flight .leads send-member r m)
+  sorted r t (inr m) (inl n) a e = absurd (omega (arith, age .queue .ordered t n, ap (λ (q : Relay). q .order) (m .0)))
   sorted r t (inr m) (inr n) a e = absurd (omega (arith, ap (λ (q : Relay). q .order) (m .0), ap (λ (q : Relay). q .order) (n .0)))
 
   abbrev SentOf : ℕ → Bucket → Type 0
@@ -132,19 +125,19 @@ module _ (s : State) (h : History) (v : Aged s h) (o : Sound s) (b : ℕ) (y : Y
 
   mine : SentOf which (with-order own (suc (own .order)))
   mine = record {
-    same = u .same;
-    copies = u .copies;
-    waiting = u .waiting;
+    same = age .same;
+    copies = age .copies;
+    waiting = age .waiting;
     queue = record {
-      ordered = λ r m. elim (sent-flies which r m) [ inl n ↦ omega (arith, u .queue .ordered r n) | inr z ↦ rw (z .0) (omega arith) ];
+      ordered = λ r m. elim (sent-flies which r m) [ inl n ↦ omega (arith, age .queue .ordered r n) | inr z ↦ rw (z .0) (omega arith) ];
       while-ready = λ r m. send-ready;
       sorted = λ r t m n. sorted r t (sent-flies which r m) (sent-flies which t n);
     };
     flight = record {
-      behind = λ r m t. elim (sent-flies which r m) [ inl n ↦ u .flight .behind r n t | inr z ↦ rw (z .0) (u .flight .ahead send-ready send-member b) ];
-      disk-behind = u .flight .disk-behind;
-      leads = λ n r m. elim (sent-flies which r m) [ inl l ↦ u .flight .leads n r l | inr z ↦ rw (z .0) (omega arith) ];
-      ahead = u .flight .ahead;
+      behind = λ r m t. elim (sent-flies which r m) [ inl n ↦ age .flight .behind r n t | inr z ↦ rw (z .0) (age .flight .ahead send-ready send-member b) ];
+      disk-behind = age .flight .disk-behind;
+      leads = λ n r m. elim (sent-flies which r m) [ inl l ↦ age .flight .leads n r l | inr z ↦ rw (z .0) (omega arith) ];
+      ahead = age .flight .ahead;
     };
   }
 
@@ -153,14 +146,9 @@ module _ (s : State) (h : History) (v : Aged s h) (o : Sound s) (b : ℕ) (y : Y
 
   pub send-aged : Aged (rule s (Event.send b) .after) h
   unfolding rule send-effect upd
-  send-aged = record {
-    keys = v .keys;
-    marked = v .marked;
-    items = v .items;
-    logs = v .logs;
-    relays = λ r m. elim (sent-in r m) [ inl n ↦ v .relays r n | inr z ↦ rw z (record { is-write = sends-write; past = omega arith }) ];
-    buckets = λ j. by-eq j which (λ q e. rw (q, e) (λ _. mine)) (λ q e. rw q (others j e));
-  }
+  send-aged =
+      moves-aged v (one-more (s .bag) (v .relays) (record { is-write = sends-write; past = omega arith }))
+      (λ j. by-eq j which (λ q e. rw (q, e) (λ _. mine)) (λ q e. rw q (others j e)))
 
 -- ---- deliver
 module _ (s : State) (h : History) (v : Aged s h) (o : Sound s) (n : ℕ) (y : Yes s (Event.deliver n)) where
@@ -183,14 +171,14 @@ module _ (s : State) (h : History) (v : Aged s h) (o : Sound s) (n : ℕ) (y : Y
   inside : relay .bucket < buckets (s .settings)
   inside = rw home at (bucket-below (s .settings) (relay .block))
 
-  module _ (yes : is-taken s n ≡ true) where
+  module _ (due : is-taken s n ≡ true) where
     pub it-flies : Flies (relay .bucket) (s .view) (s .bag) relay
     unfolding is-taken
-    it-flies = record { here = in-bag; mine = refl; now = eqb-true _ _ (and-l _ _ yes) }
+    it-flies = record { in-bag = in-bag; mine = refl; now = eqb-true _ _ (and-l _ _ due) }
 
     pub it-is-new : its .taken < relay .order
     unfolding is-taken
-    it-is-new = ltb-true _ _ (and-r _ _ yes)
+    it-is-new = ltb-true _ _ (and-r _ _ due)
 
     taken : AgeOf (set-bag s (remove-at (s .bag) n)) h (relay .bucket) (with-taken its (relay .order) memory′)
     unfolding rule upd
@@ -198,15 +186,15 @@ module _ (s : State) (h : History) (v : Aged s h) (o : Sound s) (n : ℕ) (y : Y
         let u = v .buckets (relay .bucket) inside in
         let f = u .flight in
         let ready : its .ready ≡ true = u .queue .while-ready relay it-flies in
-        let here = member-here o (its .backup) (if-so _ _ (y .1 .0) yes) in
+        let here = member-here o (its .backup) (if-so (is-taken s n) _ (y .1 .0) due) in
         let apart : its .primary ≡ its .backup → ⊥ = o .buckets-ok (relay .bucket) inside .pair .apart in
-        let floor = u .copies .memory (its .backup) (record { present = here; role = inr (inl (u .same ready .two)) }) (relay .block) .floor home in
+        let floor = u .copies .memory (its .backup) (backup-relied its (u .same ready) here) (relay .block) .floor home in
         let l = insert (its .memory (its .backup)) (relay .block) (relay .key) in
         let was : (r : Relay) → Flies (relay .bucket) (s .view) (remove-at (s .bag) n) r → Flies (relay .bucket) (s .view) (s .bag) r
         = λ r. still-flies (s .bag) n in
         let at-primary : memory′ (its .primary) ≡ its .memory (its .primary) = upd-other (its .memory) (its .backup) (its .primary) l apart in
         let at-backup : (c : ℕ) → look (memory′ (its .backup)) c ≡ upd (look (its .memory (its .backup))) (relay .block) (relay .key) c
-        = λ c. ap (λ (m : List Entry). look m c) (upd-same (its .memory) (its .backup) l) ∙ look-insert (its .memory (its .backup)) (relay .block) (relay .key) c in
+        = λ c. rw (upd-same (its .memory) (its .backup) l) (look-insert (its .memory (its .backup)) (relay .block) (relay .key) c) in
         record {
           same = u .same;
           copies = copies-insert _ (u .copies) (its .backup) (relay .block) (relay .key) (record {
@@ -234,12 +222,5 @@ module _ (s : State) (h : History) (v : Aged s h) (o : Sound s) (n : ℕ) (y : Y
   deliver-aged =
       let u = fewer-aged s h v n in
       either (λ (t : State). Aged t h) (is-taken s n)
-      (λ yes. record {
-        keys = v .keys;
-        marked = v .marked;
-        items = v .items;
-        logs = v .logs;
-        relays = u .relays;
-        buckets = upd-all (AgeOf (set-bag s (remove-at (s .bag) n)) h) (s .bucket) (relay .bucket) _ (u .buckets) (taken yes);
-      })
+      (λ due. moves-aged v (u .relays) (upd-all (AgeOf (set-bag s (remove-at (s .bag) n)) h) (s .bucket) (relay .bucket) _ (u .buckets) (taken due)))
       (λ _. u)

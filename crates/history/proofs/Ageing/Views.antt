@@ -24,7 +24,7 @@ use Rattle.rules.proofs.Sound.{Sound}
 use Rattle.history.specs.Claim.{History}
 use Rattle.history.proofs.Copies.{relied-anew, relied-before, ReliedOn, In, in-drain, copies-map, copies-fetched, copies-ready}
 use Rattle.history.proofs.Sound.Groups.{member-here}
-use Rattle.history.proofs.Facts.{readable-fewer}
+use Rattle.history.proofs.Facts.{moves-aged, readable-fewer}
 use Rattle.history.proofs.Invariant.{Older, Readable, Flies, BucketAge, AgeOf, Aged}
 
 -- the source of a fetch is relied on
@@ -36,10 +36,16 @@ source-relied s o g =
     either P (up-member s (k .last-primary)) (λ y _. record { present = member-here o _ y; role = inl refl })
     (λ _. either P (up-member s (k .last-backup)) (λ y _. record { present = member-here o _ y; role = inr (inl refl) }) (λ _. impossible))
 
+-- so is a primary that has fetched
+pub ready-relied : (s : State) → Sound s → (g : ℕ) → Yes s (Event.ready g) → ReliedOn (s .bricks .here) (s .bucket g) (s .bucket g .primary)
+unfolding rule
+ready-relied s o g y =
+    let fetched : s .bucket g .fetched ≡ true = search in record { present = member-here o _ (y .1 .0); role = inr (inr (fetched, refl)) }
+
 module _ (s : State) (h : History) (v : Aged s h) where
   -- ---- view: no relay is of the new one
   pub old-relay : (g : ℕ) (r : Relay) → Flies g (suc (s .view)) (s .bag) r → ⊥
-  old-relay g r m = omega (arith, v .relays r (m .here) .past, m .now)
+  old-relay g r m = omega (arith, v .relays r (m .in-bag) .past, m .now)
 
   viewed : (g p b : ℕ) → g < buckets (s .settings)
       → BucketAge (h .writes) (h .mark) (buckets (s .settings)) (suc (s .view)) (s .bag) (λ i. []) (s .bricks .here) (s .bricks .up) g
@@ -51,7 +57,12 @@ module _ (s : State) (h : History) (v : Aged s h) where
         copies = copies-map _ _ (readable-fewer (λ i e m. absurd (List·Memᴰ·not-nil m))) (λ i. relied-anew p _ _) (u .copies);
         waiting = λ i e m. absurd (List·Memᴰ·not-nil m);
         queue = record { ordered = λ r m. absurd (old-relay g r m); while-ready = λ r m. absurd (old-relay g r m); sorted = λ r t m. absurd (old-relay g r m) };
-        flight = record { behind = λ r m. absurd (old-relay g r m); disk-behind = λ y. impossible y; leads = λ y r m. absurd (old-relay g r m); ahead = λ y. impossible y };
+        flight = record {
+          behind = λ r m. absurd (old-relay g r m);
+          disk-behind = λ y. impossible y;
+          leads = λ y r m. absurd (old-relay g r m);
+          ahead = λ y. impossible y;
+        };
       }
 
   pub view-aged : Aged (rule s Event.view .after) h
@@ -78,11 +89,10 @@ module _ (s : State) (h : History) (v : Aged s h) where
     unfolding rule
     fetched y z =
         let u = v .buckets g z in
-        let unready : own .ready ≡ false = not-true _ (y .1 .1 .0) in
+        let unready : own .ready ≡ false = search not-true in
         record {
           same = u .same;
-          copies = copies-fetched _ (u .copies) (own .primary) (own .memory (source s g))
-              (u .copies .memory _ (source-relied s o g (y .1 .1 .1 .0))) (λ i. relied-before (own .primary) _);
+          copies = copies-fetched _ (u .copies) (own .primary) _ (u .copies .memory _ (source-relied s o g (search))) (λ i. relied-before (own .primary) _);
           waiting = u .waiting;
           queue = u .queue;
           flight = record {
@@ -95,14 +105,7 @@ module _ (s : State) (h : History) (v : Aged s h) where
 
     pub fetch-aged : Yes s (Event.fetch g) → Aged (rule s (Event.fetch g) .after) h
     unfolding rule fetch-effect
-    fetch-aged y = record {
-      keys = v .keys;
-      marked = v .marked;
-      items = v .items;
-      logs = v .logs;
-      relays = v .relays;
-      buckets = upd-all (AgeOf s h) (s .bucket) g _ (v .buckets) (fetched y);
-    }
+    fetch-aged y = moves-aged v (v .relays) (upd-all (AgeOf s h) (s .bucket) g _ (v .buckets) (fetched y))
 
     -- ---- ready
     abbrev mine : Entry → Bool
@@ -138,8 +141,7 @@ module _ (s : State) (h : History) (v : Aged s h) where
 
       module _ (y : Yes s (Event.ready g)) where
         is-relied : ReliedOn (s .bricks .here) own (own .primary)
-        unfolding rule
-        is-relied = record { present = member-here o (own .primary) (y .1 .0); role = inr (inr (y .1 .1 .1 .0, refl)) }
+        is-relied = ready-relied s o g y
 
         top : In (Now g) (own .memory (own .primary))
         top b = fewer g b _ (v .buckets g z .copies .memory (own .primary) is-relied b)
@@ -167,15 +169,16 @@ module _ (s : State) (h : History) (v : Aged s h) where
             let p = own .primary in
             let c = own .backup in
             let l = own .memory p in
-            let unready : own .ready ≡ false = not-true _ (y .1 .1 .1 .1 .0) in
+            let unready : own .ready ≡ false = search not-true in
             let apart : c ≡ p → ⊥ = λ e. o .buckets-ok g z .pair .apart (sym e) in
+            let disk-top : In (Now g) (own .disk p) = λ b. fewer g b _ (u .copies .disk p is-relied b) in
             let memories = dropped (s .bricks .up) (own .memory) in
             let disks = dropped (s .bricks .up) (own .disk) in
             let at-backup : (m : ℕ → List Entry) (d : List Entry) → upd (upd m c l) p d c ≡ l
             = λ m d. upd-other (upd m c l) p c d apart ∙ upd-same m c l in
             record {
               same = λ _. record { one = refl; two = refl };
-              copies = copies-ready (Now g) _ p c _ memories disks l drained (own .disk p) apart top drained-top (λ b. fewer g b _ (u .copies .disk p is-relied b));
+              copies = copies-ready (Now g) _ p c _ memories disks l drained (own .disk p) apart top drained-top disk-top;
               waiting = λ i e m n. absurd (waits-yet i e m .1 n);
               queue = record { ordered = u .queue .ordered; while-ready = λ r m. refl; sorted = u .queue .sorted };
               flight = record {
@@ -202,11 +205,4 @@ module _ (s : State) (h : History) (v : Aged s h) where
     unfolding rule ready-effect
     ready-aged y =
         let z = ltb-true _ _ (y .0) in
-        record {
-          keys = v .keys;
-          marked = v .marked;
-          items = v .items;
-          logs = v .logs;
-          relays = v .relays;
-          buckets = upd-all (AgeOf (rule s (Event.ready g) .after) h) (s .bucket) g _ (rested z) (λ _. readied z y);
-        }
+        moves-aged v (v .relays) (upd-all (AgeOf (rule s (Event.ready g) .after) h) (s .bucket) g _ (rested z) (λ _. readied z y))

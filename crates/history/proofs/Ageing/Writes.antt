@@ -50,4 +50,4 @@ module _ (s : State) (h : History) (v : Aged s h) where
   unfolding rule copy-effect
   copy-aged k y =
       either (λ (c : Bricks). Aged (set-bricks s c) h) (nothing-to-copy s k) (λ _. v)
-      (λ _. log-aged (target s k) _ (one-more _ (v .logs _) (honest-held (home-of k) k (y .1 .1 .1 .0))))
+      (λ _. log-aged (target s k) _ (one-more _ (v .logs _) (honest-held (home-of k) k (search))))

@@ -65,8 +65,8 @@ unfolding format
 format-stocked c z = record {
   waiting = λ i e m. absurd (List·Memᴰ·not-nil m);
   buckets = λ g l.
-      either (λ k. PairOk (c .places) (k .primary) (k .backup) → WantOf (KeptBy (format c)) (format c) Nothing g k) (ltb g (buckets c)) (λ _ t. first g _ _ t) (λ n. clash n (lt-ltb _ _ l))
-      (z .buckets-ok g l .pair) l;
+      either (λ k. PairOk (c .places) (k .primary) (k .backup) → WantOf (KeptBy (format c)) (format c) Nothing g k) (ltb g (buckets c))
+      (λ _ t. first g _ _ t) (λ n. clash n (lt-ltb _ _ l)) (z .buckets-ok g l .pair) l;
 }
   where
     is-brick : (i : ℕ) → 0 < i → i ≤ c .places → is-first (c .places) i ≡ true
@@ -79,6 +79,6 @@ format-stocked c z = record {
         record {
           pair = record { tracked = λ y. impossible y; one = inl one; all = λ _ _. (one, two) };
           copies = record { memory = λ i r b. inl (unfold look in refl); disk = λ i r b. inl (unfold look in refl) };
-          flown = λ r m. absurd (List·Memᴰ·not-nil (m .here));
-          even = λ _ _ r m. absurd (List·Memᴰ·not-nil (m .here));
+          flown = λ r m. absurd (List·Memᴰ·not-nil (m .in-bag));
+          even = λ _ _ r m. absurd (List·Memᴰ·not-nil (m .in-bag));
         }

@@ -14,7 +14,7 @@ use Rattle.rules.proofs.Parts.{bucket-below, agree-all, calm-agrees}
 use Rattle.rules.proofs.Sound.{Sound}
 use Rattle.history.specs.Claim.{History}
 use Rattle.history.proofs.History.{one-number}
-use Rattle.history.proofs.Copies.{ReliedOn, Same, Copies, copies-agreed}
+use Rattle.history.proofs.Copies.{ReliedOn, Same, Copies, copies-agreed, primary-relied}
 use Rattle.history.proofs.Invariant.{Aged}
 use Rattle.history.proofs.Wanting.{KeptBy, EachLive, Stocked}
 
@@ -34,7 +34,8 @@ module _ {s : State} {g : ℕ} {k : Bucket} (c : Settled s g k) (P : ℕ → Typ
   pub flown-mapped : EachLive g (s .bag) (s .view) (k .taken) (λ r. P (r .key))
   flown-mapped r m t = subst P (sym (c .flown r m t)) (f (r .block))
 
-module _ (s : State) (h : History) (v : Aged s h) (o : ℕ → Bool) (w : Stocked s o) (calms : (g : ℕ) → g < buckets (s .settings) → calm (s .bucket g) ≡ true) where
+module _ (s : State) (h : History) (v : Aged s h) (o : ℕ → Bool) (w : Stocked s o)
+    (calms : (g : ℕ) → g < buckets (s .settings) → calm (s .bucket g) ≡ true) where
   pub settled : (g : ℕ) → g < buckets (s .settings) → Settled s g (s .bucket g)
   settled g l =
       let k = s .bucket g in
@@ -50,7 +51,7 @@ module _ (s : State) (h : History) (v : Aged s h) (o : ℕ → Bool) (w : Stocke
             (λ y.
             let ahead = u .leads y r m in
             let behind = rw e at (u .behind r m n) in
-            one-number (h .writes (r .block)) (r .key) _ (omega arith) (v .relays r (m .here) .is-write))
+            one-number (h .writes (r .block)) (r .key) _ (omega arith) (v .relays r (m .in-bag) .is-write))
             (λ y. w .buckets g l .even (t .0) y r m n ∙ e);
       }
 
@@ -64,5 +65,5 @@ module _ (s : State) (h : History) (v : Aged s h) (o : ℕ → Bool) (w : Stocke
   mapped-kept z g l b =
       let k = s .bucket g in
       by (s .bricks .here (k .primary))
-      (λ y. w .buckets g l .copies .memory (k .primary) (record { present = y; role = inl (settled g l .same .one) }) b)
+      (λ y. w .buckets g l .copies .memory (k .primary) (primary-relied k (settled g l .same) y) b)
       (λ n. inl (ap (λ (m : List Entry). look m b) (z .buckets-ok g l .blank-memory (k .primary) n)))

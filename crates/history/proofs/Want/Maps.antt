@@ -1,7 +1,7 @@
 -- map and savemap keep the invariant of the claim on want. (done, abandon, learn, reset and get change nothing that it reads.)
-use mathlib.Core.Path.{refl}
+use mathlib.Core.Path.{_≡_, refl}
 use mathlib.Core.List.{List, [], _∷_, List·Memᴰ, List·Memᴰ·head}
-use mathlib.Core.Bool.{Bool}
+use mathlib.Core.Bool.{Bool, true}
 use mathlib.Core.Logic.{inl, inr}
 use Prim.Native.Nat.{ℕ, _<_}
 use native.Mathlib.Omega.{arith}
@@ -39,7 +39,8 @@ module _ (s : State) (o : ℕ → Bool) (w : Stocked s o) where
   unfolding rule map-effect
   map-stocked h v z p b y =
       let k = bucket-at s b in
-      let kept = saved-kept (item s p b) (ltb-true _ _ (y .1 .1 .1 .1 .1 .1 .1 .1 .1 .1 .0)) in
+      let member : s .bricks .member (k .primary) ≡ true = search and-r in
+      let kept = saved-kept (item s p b) (search ltb-true) in
       either (λ (t : State). Stocked t o) (k .ready)
       (λ _. record {
         waiting = w .waiting;
@@ -49,7 +50,7 @@ module _ (s : State) (o : ℕ → Bool) (w : Stocked s o) where
               pair = u .pair;
               copies = copies-insert _ (u .copies) (k .primary) b (item s p b) kept;
               flown = u .flown;
-              even = λ _ n. clash n (and-r _ _ (y .1 .1 .1 .1 .0));
+              even = λ _ n. clash n member;
             });
       })
       (λ _. record {

@@ -15,7 +15,7 @@ use Rattle.rules.specs.Limits.{buckets}
 use Rattle.rules.specs.Entries.{Entry, look, has}
 use Rattle.rules.specs.Chunks.{Chunk, saved-in}
 use Rattle.rules.specs.Event.{Event}
-use Rattle.rules.specs.State.{State}
+use Rattle.rules.specs.State.{State, Bucket, with-copies}
 use Rattle.rules.specs.Parts.{up-member, saved-at, primary-memory, calm}
 use Rattle.rules.specs.Membership.{crash-effect, lose-effect, rise-effect, join-effect}
 use Rattle.rules.specs.Whole.{saved-twice, whole}
@@ -25,10 +25,10 @@ use Rattle.rules.proofs.Parts.{ids-in, two-ids, saved-at-in, agree-all}
 use Rattle.rules.proofs.Entries.{has-entry, no-entry}
 use Rattle.rules.proofs.Sound.{Sound}
 use Rattle.history.specs.Claim.{History}
-use Rattle.history.proofs.Copies.{copies-map, copies-crashed, copies-blank}
+use Rattle.history.proofs.Copies.{ReliedOn, Copies, copies-map, copies-crashed, copies-blank}
 use Rattle.history.proofs.Facts.{here-born, brick-here, not-joined, joined-relied, lost-relied, emptied}
 use Rattle.history.proofs.Invariant.{Aged}
-use Rattle.history.proofs.Wanting.{Kept, KeptBy, Full, PairWant, Stocked}
+use Rattle.history.proofs.Wanting.{Kept, KeptBy, Full, PairWant, BucketWant, Stocked}
 use Rattle.history.proofs.Want.Calm.{Settled, copies-mapped, flown-mapped, settled, none-waits}
 
 pub rise-stocked : (s : State) (o : ℕ → Bool) → Stocked s o → (i : ℕ) → Stocked (rule s (Event.rise i) .after) o
@@ -59,7 +59,8 @@ module _ (s : State) (h : History) (v : Aged s h) (z : Sound s) (o : ℕ → Boo
     member′ = upd (s .bricks .member) x false
 
     -- without brick x every mapped key is kept
-    kept-elsewhere : (l : List Chunk) (g : ℕ) → g < buckets (s .settings) → (b : ℕ) → Kept member′ (upd (s .bricks .log) x l) (look (primary-memory (s .bucket g)) b)
+    kept-elsewhere : (l : List Chunk) (g : ℕ) → g < buckets (s .settings) → (b : ℕ)
+        → Kept member′ (upd (s .bricks .log) x l) (look (primary-memory (s .bucket g)) b)
     unfolding saved-at
     kept-elsewhere l g n b =
         by (has (primary-memory (s .bucket g)) b)
@@ -75,20 +76,42 @@ module _ (s : State) (h : History) (v : Aged s h) (z : Sound s) (o : ℕ → Boo
         })))
         (λ n. inl (no-entry _ b n))
 
-    -- the last ready pair keeps a member, and one place holds none
-    struck-pair : (ids′ : ℕ → ℕ) (i : ℕ) → i < s .settings .places → (member′ (ids′ i) ≡ true → ⊥) → (g : ℕ) → g < buckets (s .settings)
-        → let k = s .bucket g in PairWant (s .settings .places) ids′ member′ (k .last-primary) (k .last-backup) (k .ready) (o g)
-    struck-pair ids′ i inside gone g l =
-        let k = s .bucket g in
-        let u = w .buckets g l .pair in
-        let t = u .all (calmed g l .ready) full in
-        record {
-          tracked = u .tracked;
-          one = by-eq (k .last-primary) x
-              (λ _ e. inr (still-flagged (s .bricks .member) x _ (λ f. z .buckets-ok g l .last .apart (e ∙ sym f)) (t .1)))
-              (λ _ n. inl (still-flagged (s .bricks .member) x _ n (t .0)));
-          all = λ _ f. absurd (gone (f i inside));
-        }
+    -- the last ready pair keeps a member, and place i holds none
+    module _ (ids′ : ℕ → ℕ) (i : ℕ) (inside : i < s .settings .places) (gone : member′ (ids′ i) ≡ true → ⊥) (g : ℕ) (l : g < buckets (s .settings)) where
+      abbrev own : Bucket
+      own = s .bucket g
+
+      struck-pair : PairWant (s .settings .places) ids′ member′ (own .last-primary) (own .last-backup) (own .ready) (o g)
+      struck-pair =
+          let u = w .buckets g l .pair in
+          let t = u .all (calmed g l .ready) full in
+          record {
+            tracked = u .tracked;
+            one = by-eq (own .last-primary) x
+                (λ _ e. inr (still-flagged (s .bricks .member) x _ (λ f. z .buckets-ok g l .last .apart (e ∙ sym f)) (t .1)))
+                (λ _ n. inl (still-flagged (s .bricks .member) x _ n (t .0)));
+            all = λ _ f. absurd (gone (f i inside));
+          }
+
+      -- what is left of the bucket: where the primary is struck, the backup shows every mapped key
+      struck-bucket : (log : List Chunk) (here′ : ℕ → Bool) (memory′ disk′ : ℕ → List Entry)
+          → Copies (λ _. Kept member′ (upd (s .bricks .log) x log)) (ReliedOn here′ own) memory′ disk′
+          → ((b : ℕ) → member′ (own .primary) ≡ false → look (memory′ (own .backup)) b ≡ look (primary-memory own) b)
+          → BucketWant (Kept member′ (upd (s .bricks .log) x log)) (s .settings .places) ids′ here′ member′ (s .bag) (s .view) (o g) g
+          (with-copies own memory′ disk′)
+      struck-bucket log here′ memory′ disk′ kept shows = record {
+        pair = struck-pair;
+        copies = kept;
+        flown = flown-mapped (calmed g l) _ (kept-elsewhere log g l);
+        even = λ _ n r m t. calmed g l .flown r m t ∙ sym (shows (r .block) n);
+      }
+
+    copies-elsewhere : (log : List Chunk) (g : ℕ) → g < buckets (s .settings)
+        → let k = s .bucket g in Copies (λ _. Kept member′ (upd (s .bricks .log) x log)) (ReliedOn (s .bricks .here) k) (k .memory) (k .disk)
+    copies-elsewhere log g l = copies-mapped (calmed g l) _ (kept-elsewhere log g l) (w .buckets g l .copies)
+
+    none-waiting : (j : ℕ) (e : Entry) → List·Memᴰ e (upd (s .bricks .buffer) x [] j) → ⊥
+    none-waiting j e m = none-waits s h v o w calms j e (emptied (s .bricks .buffer) x j e m)
 
   pub crash-stocked : (i : ℕ) → Yes s (Event.crash i) → Stocked (rule s (Event.crash i) .after) o
   unfolding rule crash-effect upd
@@ -96,20 +119,12 @@ module _ (s : State) (h : History) (v : Aged s h) (z : Sound s) (o : ℕ → Boo
       let x = s .ids i in
       let gone : member′ x x ≡ true → ⊥ = λ m. unflag (s .bricks .member) x x m .1 refl in
       record {
-        waiting = λ j e m. absurd (none-waits s h v o w calms j e (emptied (s .bricks .buffer) x j e m));
+        waiting = λ j e m. absurd (none-waiting x j e m);
         buckets = λ g l.
             let k = s .bucket g in
-            let u = w .buckets g l in
-            let c = calmed g l in
-            let kept = kept-elsewhere x _ g l in
-            record {
-              pair = struck-pair x (s .ids) i (ltb-true _ _ (y .0)) gone g l;
-              copies = copies-crashed _ (copies-mapped c _ kept (u .copies)) x;
-              flown = flown-mapped c _ kept;
-              even = λ _ _ r m t.
-                  let agreed = agree-all k (r .block) (c .one-key (r .block)) in
-                  by-eq (k .backup) x (λ q e. rw (q, ← e) (c .flown r m t ∙ sym (agreed .2))) (λ q _. rw q (c .flown r m t ∙ sym (agreed .1)));
-            };
+            struck-bucket x (s .ids) i (ltb-true _ _ (y .0)) gone g l _ _ _ _ (copies-crashed _ (copies-elsewhere x _ g l) x) (λ b _.
+            let agreed = agree-all k b (calmed g l .one-key b) in
+            by-eq (k .backup) x (λ q e. rw (q, ← e) (agreed .2)) (λ q _. rw q (agreed .1)));
       }
 
   pub lose-stocked : (i : ℕ) → Yes s (Event.lose i) → Stocked (rule s (Event.lose i) .after) o
@@ -117,28 +132,20 @@ module _ (s : State) (h : History) (v : Aged s h) (z : Sound s) (o : ℕ → Boo
   lose-stocked i y =
       let x = s .ids i in
       record {
-        waiting = λ j e m. absurd (none-waits s h v o w calms j e (emptied (s .bricks .buffer) x j e m));
+        waiting = λ j e m. absurd (none-waiting x j e m);
         buckets = λ g l.
             let k = s .bucket g in
-            let u = w .buckets g l in
             let c = calmed g l in
-            let kept = kept-elsewhere x _ g l in
-            record {
-              pair = struck-pair x _ i (ltb-true _ _ (y .0)) (no-member x i) g l;
-              copies = copies-blank _ (copies-mapped c _ kept (u .copies)) x (lost-relied s x k);
-              flown = flown-mapped c _ kept;
-              even = λ ready n r m t.
-                  let primary = rw (← c .same .one) at (u .pair .all ready full .0) in
-                  let struck : k .primary ≡ x = by-eq (k .primary) x (λ _ e. e) (λ _ d. clash n (still-flagged (s .bricks .member) x _ d primary)) in
-                  let apart : k .backup ≡ x → ⊥ = λ e. z .buckets-ok g l .pair .apart (struck ∙ sym e) in
-                  rw (upd-other (k .memory) x (k .backup) [] apart)
-                  (c .flown r m t ∙ sym (agree-all k (r .block) (c .one-key (r .block)) .1));
-            };
+            struck-bucket x _ i (ltb-true _ _ (y .0)) (no-member x i) g l _ _ _ _ (copies-blank _ (copies-elsewhere x _ g l) x (lost-relied s x k)) (λ b n.
+            let primary = rw (← c .same .one) at (w .buckets g l .pair .all (c .ready) full .0) in
+            let struck : k .primary ≡ x = by-eq (k .primary) x (λ _ e. e) (λ _ d. clash n (still-flagged (s .bricks .member) x _ d primary)) in
+            let apart : k .backup ≡ x → ⊥ = λ e. z .buckets-ok g l .pair .apart (struck ∙ sym e) in
+            rw (upd-other (k .memory) x (k .backup) [] apart) (agree-all k b (c .one-key b) .1));
       }
     where
       no-member : (x i : ℕ) → member′ x (upd (s .ids) i 0 i) ≡ true → ⊥
       no-member x i m =
-          let t = unflag (s .bricks .member) x 0 (rw (upd-same (s .ids) i 0) at m) .0 in absurd (omega (arith, z .bricks .first 0 (brick-here s z 0 t)))
+          let t = unflag (s .bricks .member) x 0 (rw (upd-same (s .ids) i 0) at m) .0 in omega (arith, z .bricks .first 0 (brick-here s z 0 t))
 
 -- ---- join: its id is no one's yet
 module _ (s : State) (z : Sound s) (o : ℕ → Bool) (w : Stocked s o) where
@@ -178,6 +185,7 @@ module _ (s : State) (z : Sound s) (o : ℕ → Bool) (w : Stocked s o) where
           even = λ ready n r m t.
               let backup : k .backup ≡ new → ⊥ = not-joined s _ (pair .two-born) in
               let primary : k .primary ≡ new → ⊥ = not-joined s _ (pair .one-born) in
-              rw (upd-other (k .memory) new (k .backup) [] backup) (u .even ready (rw (upd-other (s .bricks .member) new (k .primary) false primary) at n) r m t);
+              let out = rw (upd-other (s .bricks .member) new (k .primary) false primary) at n in
+              rw (upd-other (k .memory) new (k .backup) [] backup) (u .even ready out r m t);
         };
   }

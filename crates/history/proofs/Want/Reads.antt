@@ -21,6 +21,7 @@ use Rattle.rules.proofs.Chunks.{saved-held}
 use Rattle.rules.proofs.Sound.{Sound}
 use Rattle.history.specs.Claim.{History}
 use Rattle.history.proofs.Sound.Groups.{member-here}
+use Rattle.history.proofs.Copies.{primary-relied}
 use Rattle.history.proofs.Facts.{here-born, brick-here}
 use Rattle.history.proofs.Invariant.{Aged}
 use Rattle.history.proofs.Wanting.{KeptBy, Stocked}
@@ -48,7 +49,8 @@ module _ (s : State) (z : Sound s) where
       let s₈ = past (s₇ .1) (omega arith) in
       let k = bucket-at s b in
       let l = bucket-below (s .settings) b in
-      let role = inl (v .buckets (bucket-no s b) l .same (s₆ .0) .one) in
-      let kept = w .buckets (bucket-no s b) l .copies .memory (k .primary) (record { present = member-here z _ (s₅ .0); role = role }) b in
-      let found : (eqb (mapped s b) 0 or ltb 0 (holder s (mapped s b))) ≡ true = by-eq (mapped s b) 0 (λ q _. or-l _ _ q) (λ _ n. or-r _ _ (kept-found _ kept n)) in
+      let relied = primary-relied k (v .buckets (bucket-no s b) l .same (s₆ .0)) (member-here z (k .primary) (s₅ .0)) in
+      let kept = w .buckets (bucket-no s b) l .copies .memory (k .primary) relied b in
+      let found : (eqb (mapped s b) 0 or ltb 0 (holder s (mapped s b))) ≡ true
+      = by-eq (mapped s b) 0 (λ q _. or-l _ _ q) (λ _ n. or-r _ _ (kept-found _ kept n)) in
       elim (s₈ .1) [ inl t ↦ clash (t .0) found | inr t ↦ t .1 ]

@@ -19,7 +19,7 @@ use Rattle.rules.proofs.Parts.{bucket-below}
 use Rattle.rules.proofs.Entries.{look-insert}
 use Rattle.rules.proofs.Sound.{Sound}
 use Rattle.history.specs.Claim.{History}
-use Rattle.history.proofs.Copies.{copies-insert}
+use Rattle.history.proofs.Copies.{copies-insert, primary-relied}
 use Rattle.history.proofs.Facts.{brick-here}
 use Rattle.history.proofs.Invariant.{Flies, Aged}
 use Rattle.history.proofs.Wanting.{KeptBy, BucketWant, WantOf, Stocked}
@@ -57,7 +57,7 @@ module _ (s : State) (o : ℕ → Bool) (w : Stocked s o) where
                 copies = u .copies;
                 flown = λ r m t. elim (sent-flies s h v z b y g r m) [
                   | inl n ↦ u .flown r n t
-                  | inr n ↦ rw (n .0) (u .copies .memory (k .primary) (record { present = brick-here s z _ member; role = inl (same .one) }) b)
+                  | inr n ↦ rw (n .0) (u .copies .memory (k .primary) (primary-relied k same (brick-here s z _ member)) b)
                 ];
                 even = λ _ n. clash n member;
               }))

@@ -23,7 +23,7 @@ use Rattle.rules.proofs.Sound.{Sound}
 use Rattle.history.specs.Claim.{History}
 use Rattle.history.proofs.Invariant.{Aged}
 use Rattle.history.proofs.Wanting.{Kept, KeptBy, Stocked}
-use Rattle.history.proofs.Ageing.Upkeep.{mend-keeps}
+use Rattle.history.proofs.Mend.{mend-keeps}
 use Rattle.history.proofs.Want.Writes.{log-stocked}
 use Rattle.history.proofs.Want.Calm.{copies-mapped, flown-mapped, settled, none-waits, mapped-kept}
 
@@ -58,14 +58,13 @@ module _ (s : State) (h : History) (v : Aged s h) (z : Sound s) (o : ℕ → Boo
   unfolding is-named
   mapped-left x calms g l b =
       let k = look (primary-memory (s .bucket g)) b in
-      let test : ℕ → Bool = λ j. pair-names (s .bucket j) k in
-      by-eq k 0 (λ _ e. inl e)
-      (λ _ n. named-left x k (some-at (buckets (s .settings)) test g l (or-l _ _ (or-l _ _ (or-l _ _ (look-names _ b n))))) (mapped-kept s h v o w calms z g l b))
+      let named : (k ≡ 0 → ⊥) → pair-names (s .bucket g) k ≡ true = λ n. or-l _ _ (or-l _ _ (or-l _ _ (look-names _ b n))) in
+      by-eq k 0 (λ _ e. inl e) (λ _ n. named-left x k (some-at (buckets (s .settings)) _ g l (named n)) (mapped-kept s h v o w calms z g l b))
 
   pub collect-stocked : (i : ℕ) → Yes s (Event.collect i) → Stocked (rule s (Event.collect i) .after) o
   unfolding rule collect-effect
   collect-stocked i y =
-      let calms : (g : ℕ) → g < buckets (s .settings) → calm (s .bucket g) ≡ true = all-at _ _ (y .1 .1 .1 .0) in
+      let calms : (g : ℕ) → g < buckets (s .settings) → calm (s .bucket g) ≡ true = all-at _ _ (search) in
       let left = mapped-left (s .ids i) calms in
       record {
         waiting = λ j e m. absurd (none-waits s h v o w calms j e m);

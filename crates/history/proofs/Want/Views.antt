@@ -8,7 +8,6 @@ use native.Mathlib.Omega.{arith}
 use lib.Dec.{ltb}
 use borrow.Author.Tests.{ltb-true, lt-ltb, not-true}
 use Rattle.lists.specs.Tests.{_and_, only}
-use Rattle.lists.specs.Columns.{upd}
 use Rattle.lists.proofs.Tests.{either, impossible, clash, and-r, both, only-in}
 use Rattle.lists.proofs.Columns.{upd-same, upd-all, unflag}
 use Rattle.rules.specs.Limits.{buckets}
@@ -21,12 +20,11 @@ use Rattle.rules.specs.Views.{view-effect, source, fetch-effect, ready-bucket, 
 use Rattle.rules.specs.Step.{rule}
 use Rattle.rules.proofs.Step.{Yes, first-stops, past}
 use Rattle.rules.proofs.Sound.{Sound}
-use Rattle.history.specs.Claim.{History}
-use Rattle.history.proofs.Copies.{relied-anew, relied-before, ReliedOn, in-drain, copies-map, copies-fetched, copies-ready}
-use Rattle.history.proofs.Sound.Groups.{member-here}
+use Rattle.history.specs.Claim.{History, views, readies, opens}
+use Rattle.history.proofs.Copies.{relied-anew, relied-before, in-drain, copies-map, copies-fetched, copies-ready}
 use Rattle.history.proofs.Invariant.{Aged}
-use Rattle.history.proofs.Wanting.{Kept, KeptBy, BucketWant, WantOf, Stocked}
-use Rattle.history.proofs.Ageing.Views.{source-relied, old-relay, still, waits-yet}
+use Rattle.history.proofs.Wanting.{Kept, KeptBy, WantOf, Stocked}
+use Rattle.history.proofs.Ageing.Views.{source-relied, ready-relied, old-relay, still, waits-yet}
 
 module _ (s : State) (h : History) (v : Aged s h) (z : Sound s) (o : ℕ → Bool) (w : Stocked s o) where
   -- ---- view: members are all up bricks, and every member was one
@@ -34,7 +32,7 @@ module _ (s : State) (h : History) (v : Aged s h) (z : Sound s) (o : ℕ → Boo
   kept-anew k (inl e) = inl e
   kept-anew k (inr t) = inr (record { who = t .who; is-member = z .bricks .member-up _ (t .is-member); saved = t .saved })
 
-  pub view-stocked : Stocked (rule s Event.view .after) (λ g. true)
+  pub view-stocked : Stocked (rule s Event.view .after) (opens o views)
   unfolding rule view-effect
   view-stocked = record {
     waiting = λ i e m. absurd (List·Memᴰ·not-nil m);
@@ -57,15 +55,16 @@ module _ (s : State) (h : History) (v : Aged s h) (z : Sound s) (o : ℕ → Boo
   unfolding rule fetch-effect
   fetch-stocked g y =
       let k = s .bucket g in
+      let unready : k .ready ≡ false = search not-true in
       record {
         waiting = w .waiting;
         buckets = upd-all (WantOf (KeptBy s) s o) (s .bucket) g _ (w .buckets) (λ l.
             let u = w .buckets g l in
             record {
               pair = u .pair;
-              copies = copies-fetched _ (u .copies) (k .primary) (k .memory (source s g)) (u .copies .memory _ (source-relied s z g (y .1 .1 .1 .0))) (λ i. relied-before (k .primary) _);
+              copies = copies-fetched _ (u .copies) (k .primary) _ (u .copies .memory _ (source-relied s z g (search))) (λ i. relied-before (k .primary) _);
               flown = u .flown;
-              even = λ t. clash (not-true _ (y .1 .1 .0)) t;
+              even = λ t. clash unready t;
             });
       }
 
@@ -74,44 +73,47 @@ module _ (s : State) (h : History) (v : Aged s h) (z : Sound s) (o : ℕ → Boo
       → let k = s .bucket g in
       let waits = s .bricks .buffer (k .primary) in
       let drained = drain (s .settings .entries) (k .memory (k .primary)) (only (waits-for (buckets (s .settings)) g) waits) in
-      WantOf (KeptBy s) s (upd o g false) g (ready-bucket (s .bricks .up) drained k)
+      WantOf (KeptBy s) s (opens o (readies g)) g (ready-bucket (s .bricks .up) drained k)
   unfolding rule
   readied g y l =
       let k = s .bucket g in
       let u = w .buckets g l in
-      let unready : k .ready ≡ false = not-true _ (y .1 .1 .1 .1 .0) in
+      let unready : k .ready ≡ false = search not-true in
+      let one : s .bricks .member (k .primary) ≡ true = and-r _ _ (y .1 .0) in
+      let two : s .bricks .member (k .backup) ≡ true = and-r _ _ (y .1 .1 .0) in
       let apart : k .backup ≡ k .primary → ⊥ = λ e. z .buckets-ok g l .pair .apart (sym e) in
-      let relied : ReliedOn (s .bricks .here) k (k .primary) = record { present = member-here z _ (y .1 .0); role = inr (inr (y .1 .1 .1 .0, refl)) } in
+      let relied = ready-relied s z g y in
       let top = u .copies .memory (k .primary) relied in
       let drained = in-drain (λ _. KeptBy s) (s .settings .entries) _ (k .memory (k .primary)) top (λ e m. w .waiting (k .primary) e (only-in _ _ m .0)) in
       record {
         pair = record {
           tracked = λ t. impossible (sym (upd-same o g false) ∙ t);
-          one = inl (and-r _ _ (y .1 .0));
-          all = λ _ _. (and-r _ _ (y .1 .0), and-r _ _ (y .1 .1 .0));
+          one = inl one;
+          all = λ _ _. (one, two);
         };
-        copies = copies-ready (λ _. KeptBy s) _ (k .primary) (k .backup) _ _ _ (k .memory (k .primary)) _ (k .disk (k .primary)) apart top drained (u .copies .disk _ relied);
+        copies = copies-ready _ _ (k .primary) (k .backup) _ _ _ _ _ _ apart top drained (u .copies .disk _ relied);
         flown = λ r m. absurd (still s h v z g l unready r m);
         even = λ _ _ r m. absurd (still s h v z g l unready r m);
       }
 
-  pub ready-stocked : (g : ℕ) → Yes s (Event.ready g) → Stocked (rule s (Event.ready g) .after) (upd o g false)
+  pub ready-stocked : (g : ℕ) → Yes s (Event.ready g) → Stocked (rule s (Event.ready g) .after) (opens o (readies g))
   unfolding rule ready-effect
   ready-stocked g y =
       let l = ltb-true _ _ (y .0) in
       record {
         waiting = λ i e m. w .waiting i e (waits-yet s h v z g l i e m .0);
-        buckets = upd-all (WantOf (KeptBy s) s (upd o g false)) (s .bucket) g _ (λ j l. others j l (w .buckets j l)) (readied g y);
+        buckets = upd-all (WantOf (KeptBy s) s (opens o (readies g))) (s .bucket) g _ others (readied g y);
       }
     where
-      others : (j : ℕ) → j < buckets (s .settings) → BucketWant (KeptBy s) (s .settings .places) (s .ids) (s .bricks .here) (s .bricks .member) (s .bag) (s .view) (o j) j (s .bucket j)
-          → BucketWant (KeptBy s) (s .settings .places) (s .ids) (s .bricks .here) (s .bricks .member) (s .bag) (s .view) (upd o g false j) j (s .bucket j)
-      others j l u = record {
-        pair = record { tracked = λ t. u .pair .tracked (unflag o g j t .0); one = u .pair .one; all = u .pair .all };
-        copies = u .copies;
-        flown = u .flown;
-        even = u .even;
-      }
+      others : (j : ℕ) → WantOf (KeptBy s) s (opens o (readies g)) j (s .bucket j)
+      others j l =
+          let u = w .buckets j l in
+          record {
+            pair = record { tracked = λ t. u .pair .tracked (unflag o g j t .0); one = u .pair .one; all = u .pair .all };
+            copies = u .copies;
+            flown = u .flown;
+            even = u .even;
+          }
 
   -- ---- no fetch answers 13 where the bucket is open
   source-found : (g : ℕ) → g < buckets (s .settings) → ltb 0 (source s g) ≡ true
