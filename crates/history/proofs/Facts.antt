@@ -24,15 +24,6 @@ use Rattle.history.proofs.Invariant.{Writes, Newest, Sent, Readable, Bu
 pub key-first : {given : ℕ} {here : ℕ → Bool} {next : ℕ → ℕ} (k : ℕ) → KeyOk given here next k → 0 < k
 key-first k o = omega (arith, o .home)
 
--- no brick given already comes back, and none counts downward
-pub key-stays : {given given′ : ℕ} {here here′ : ℕ → Bool} {next next′ : ℕ → ℕ} (k : ℕ) → given ≤ given′
-    → ((i : ℕ) → i ≤ given → here′ i ≡ true → (here i ≡ true) × (next i ≤ next′ i)) → KeyOk given here next k → KeyOk given′ here′ next′ k
-key-stays k l f o = record {
-  home = o .home;
-  born = omega (arith, o .born);
-  used = λ y. let t = f (home-of k) (o .born) y in omega (arith, t .1, o .used (t .0));
-}
-
 -- what is read in a table is 0 or a key of an entry
 pub look-key : {K P : ℕ → Type 0} {most : ℕ} (l : List Entry) (b : ℕ) → TableOk K P most l → (look l b ≡ 0) ⊎ K (look l b)
 look-key l b o =

@@ -1,14 +1,15 @@
 -- Laws of tests.
 use mathlib.Core.Path.{_≡_, refl, sym, ap, _∙_}
 use mathlib.Core.List.{List, [], _∷_, _++_, List·Memᴰ, List·Memᴰ·head, List·Memᴰ·tail, List·Memᴰ·cases-cons, List·Memᴰ·not-nil}
+use mathlib.Core.List.{List·Memᴰ·append-cases, List·Memᴰ·eq-of-singleton}
 use mathlib.Core.Bool.{Bool, true, false, not, cond}
 use mathlib.Core.Logic.{_⊎_, inl, inr}
 use Prim.Native.Nat.{ℕ, zero, suc, _+_, _≤_, _<_}
 use native.Mathlib.Omega.{arith}
 use lib.Dec.{ltb, leb, eqb}
-use lib.ListN.{length}
+use lib.ListN.{length, getD}
 use borrow.Author.Tests.{eqb-true, eqb-false, eq-eqb, ltb-true, ltb-false, leb-true, leb-false}
-use Rattle.lists.specs.Tests.{_and_, _or_, all-below, count-below, every, some, only}
+use Rattle.lists.specs.Tests.{_and_, _or_, all-below, some-below, count-below, every, some, only}
 
 -- ---- cases on a test, keeping the equation
 pub by {ℓ} : {P : Type ℓ} (b : Bool) → (b ≡ true → P) → (b ≡ false → P) → P
@@ -103,6 +104,12 @@ all-at (suc n) test y k l = by-eq k n (λ _ e. rw e (and-r _ _ y)) (λ _ e. all-
 pub all-false : (n : ℕ) (test : ℕ → Bool) (k : ℕ) → k < n → test k ≡ false → all-below n test ≡ false
 all-false n test k l e = by (all-below n test) (λ y. clash e (all-at n test y k l)) (λ z. z)
 
+-- ---- some index below a bound
+pub some-at : (n : ℕ) (test : ℕ → Bool) (k : ℕ) → k < n → test k ≡ true → some-below n test ≡ true
+unfolding some-below
+some-at zero test k l y = absurd (omega arith)
+some-at (suc n) test k l y = by-eq k n (λ _ e. or-r _ _ (rw (← e) y)) (λ _ e. or-l _ _ (some-at n test k (omega arith) y))
+
 -- ---- counting below a bound
 pub count-at-most : (n : ℕ) (test : ℕ → Bool) → count-below n test ≤ n
 unfolding count-below
@@ -147,6 +154,21 @@ pub some-of : {A : Type 0} (test : A → Bool) (l : List A) (x : A) → List·Me
 unfolding some
 some-of test [] x m y = absurd (List·Memᴰ·not-nil m)
 some-of test (z ∷ l) x m y = elim (List·Memᴰ·cases-cons m) [ inl e ↦ or-l _ _ (rw (← e) y) | inr t ↦ or-r _ _ (some-of test l x t y) ]
+
+-- a list with elements has a first
+pub an-element : {A : Type 0} (l : List A) → 0 < length l → (x : A) × List·Memᴰ x l
+an-element [] n = absurd (omega arith)
+an-element (x ∷ l) n = (x, List·Memᴰ·head refl)
+
+-- what holds of each element, with one more
+pub one-more : {A : Type 0} {P : A → Type 0} (l : List A) {x : A} → ((y : A) → List·Memᴰ y l → P y) → P x → (y : A) → List·Memᴰ y (l ++ (x ∷ [])) → P y
+one-more l h p y m = elim (List·Memᴰ·append-cases l m) [ inl o ↦ h y o | inr o ↦ rw (List·Memᴰ·eq-of-singleton o) p ]
+
+-- an element by its index
+pub getD-in : {A : Type 0} (l : List A) (n : ℕ) (d : A) → n < length l → List·Memᴰ (getD l n d) l
+getD-in [] n d h = absurd (omega arith)
+getD-in (x ∷ l) zero d h = List·Memᴰ·head refl
+getD-in (x ∷ l) (suc n) d h = List·Memᴰ·tail (getD-in l n d (omega arith))
 
 -- ---- the elements that a test keeps
 pub only-in : {A : Type 0} (test : A → Bool) (l : List A) {x : A} → List·Memᴰ x (only test l) → List·Memᴰ x l × (test x ≡ true)

@@ -11,7 +11,7 @@ use lib.Dec.{ltb, leb, eqb}
 use lib.ListN.{length, length-append}
 use borrow.Author.Tests.{eqb-true, eq-eqb, ltb-true, lt-ltb, le-leb, leb-true, not-true}
 use Rattle.lists.specs.Tests.{_and_, _or_, count-below, every, only}
-use Rattle.lists.proofs.Tests.{by, by-eq, by-lt, either, impossible, clash, no, is-no, and-l, and-r, both, or-cases, or-l, or-r, count-two, every-in, only-in, in-only}
+use Rattle.lists.proofs.Tests.{by, by-eq, by-lt, either, impossible, clash, no, is-no, and-l, and-r, both, or-cases, or-l, or-r, count-two, every-in, only-in, in-only, an-element}
 use Rattle.rules.specs.declared.settings.Settings.{Settings}
 use Rattle.rules.specs.Limits.{buckets}
 use Rattle.rules.specs.Numbers.{bucket-of, sequences, key-of, home-of, sequence-of}
@@ -70,10 +70,6 @@ last-id n f test =
     (λ q. by (test (suc n)) (λ t. inr (e ∙ rw (q, t) refl)) (λ t. inl (e ∙ rw (q, t) (append-nil (only test (ids-of n f))))))
     (λ q. inl (e ∙ rw q (append-nil (only test (ids-of n f)))))
 
-first-of : (l : List ℕ) → 0 < length l → (i : ℕ) × List·Memᴰ i l
-first-of [] h = absurd (omega arith)
-first-of (i ∷ l) h = (i, List·Memᴰ·head refl)
-
 -- of two picked ids, one is not x
 pub two-ids : (n : ℕ) (f test : ℕ → Bool) (x : ℕ) → 1 < length (only test (ids-of n f)) → (i : ℕ) × List·Memᴰ i (only test (ids-of n f)) × (i ≡ x → ⊥)
 two-ids zero f test x l = absurd (empty l)
@@ -84,7 +80,7 @@ two-ids (suc n) f test x l =
     elim (last-id n f test) [
       | inl e ↦ let z = two-ids n f test x (omega (arith, ap length e)) in (z .0, subst (λ (m : List ℕ). List·Memᴰ (z .0) m) (sym e) (z .1), z .2)
       | inr e ↦
-          let z = first-of (only test (ids-of n f)) (omega (arith, length-append (only test (ids-of n f)) (suc n ∷ []), ap length e)) in
+          let z = an-element (only test (ids-of n f)) (omega (arith, length-append (only test (ids-of n f)) (suc n ∷ []), ap length e)) in
           by-eq (suc n) x
           (λ _ u. (z .0, subst (λ (m : List ℕ). List·Memᴰ (z .0) m) (sym e) (Memᴰ·append-left _ (z .1)), λ v. omega (arith, ids-in n f (z .0) (only-in test _ (z .1) .0) .1)))
           (λ _ u. (suc n, subst (λ (m : List ℕ). List·Memᴰ (suc n) m) (sym e) (Memᴰ·append-right (only test (ids-of n f)) (List·Memᴰ·head refl)), u))

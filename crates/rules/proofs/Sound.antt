@@ -4,6 +4,7 @@ use mathlib.Core.Path.{_≡_}
 use mathlib.Core.List.{List, [], List·Memᴰ}
 use mathlib.Core.Bool.{Bool, true, false}
 use Prim.Native.Nat.{ℕ, _≤_, _<_}
+use native.Mathlib.Omega.{arith}
 use lib.ListN.{length}
 use Rattle.rules.specs.Limits.{in-limits, proxies, buckets, max-relays, max-items, max-waiting, max-id, max-number}
 use Rattle.rules.specs.Numbers.{blocks, proxy-of, bucket-of, sequences, home-of, sequence-of, is-data}
@@ -16,6 +17,15 @@ pub record KeyOk (given : ℕ) (here : ℕ → Bool) (next : ℕ → ℕ) (k : �
   pub home : 0 < home-of k
   pub born : home-of k ≤ given
   pub used : here (home-of k) ≡ true → sequence-of k < next (home-of k)
+
+-- a key stays sound: no brick given already comes back, and none counts downward
+pub key-stays : {given given′ : ℕ} {here here′ : ℕ → Bool} {next next′ : ℕ → ℕ} (k : ℕ) → given ≤ given′
+    → ((i : ℕ) → i ≤ given → here′ i ≡ true → (here i ≡ true) × (next i ≤ next′ i)) → KeyOk given here next k → KeyOk given′ here′ next′ k
+key-stays k l f o = record {
+  home = o .home;
+  born = omega (arith, o .born);
+  used = λ y. let t = f (home-of k) (o .born) y in omega (arith, t .1, o .used (t .0));
+}
 
 -- ---- lists
 pub record EntryOk (K P : ℕ → Type 0) (e : Entry) : Type 0 where

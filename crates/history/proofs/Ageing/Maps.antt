@@ -7,7 +7,7 @@ use Prim.Native.Nat.{ℕ, _+_, _≤_, _<_}
 use native.Mathlib.Omega.{arith}
 use Rattle.lists.specs.Tests.{_and_, _or_}
 use Rattle.lists.specs.Columns.{upd}
-use Rattle.lists.proofs.Tests.{by-eq, either, clash, only-in}
+use Rattle.lists.proofs.Tests.{by-eq, either, clash, only-in, one-more}
 use Rattle.lists.proofs.Columns.{upd-same, upd-other, upd-all}
 use Rattle.rules.specs.Limits.{buckets}
 use Rattle.rules.specs.Numbers.{bucket-of}
@@ -25,7 +25,6 @@ use Rattle.rules.proofs.Sound.{Sound}
 use Rattle.history.specs.Claim.{History, number}
 use Rattle.history.proofs.History.{number-most}
 use Rattle.history.proofs.Copies.{copies-map, copies-insert, copies-saved}
-use Rattle.history.proofs.Sound.Lists.{one-more}
 use Rattle.history.proofs.Facts.{item-newest, moves-aged}
 use Rattle.history.proofs.Invariant.{Older, Newest, BucketAge, AgeOf, Aged}
 

@@ -15,11 +15,11 @@ use Rattle.rules.specs.Event.{Event}
 use Rattle.rules.specs.State.{State, Relay}
 use Rattle.rules.specs.Membership.{crashed-bucket, crash-effect, blank-copies, lose-effect, rise-effect, join-effect}
 use Rattle.rules.specs.Step.{rule}
-use Rattle.rules.proofs.Sound.{Sound}
+use Rattle.rules.proofs.Sound.{Sound, key-stays}
 use Rattle.history.specs.Claim.{History}
 use Rattle.history.proofs.Copies.{ReliedOn, copies-map, copies-crashed, copies-blank}
 use Rattle.history.proofs.Sound.Groups.{next-grows}
-use Rattle.history.proofs.Facts.{key-stays, not-joined, joined-here, joined-relied, lost-relied, zero-number, readable-fewer, emptied}
+use Rattle.history.proofs.Facts.{not-joined, joined-here, joined-relied, lost-relied, zero-number, readable-fewer, emptied}
 use Rattle.history.proofs.Invariant.{Writes, Older, Honest, Queue, Flight, BucketAge, Aged}
 
 -- a brick that is no member any more, and whose memory shows no later writes

@@ -8,7 +8,7 @@ use native.Mathlib.Omega.{arith}
 use lib.Dec.{eqb}
 use borrow.Author.Tests.{eqb-true, eq-eqb}
 use Rattle.lists.specs.Columns.{upd}
-use Rattle.lists.proofs.Tests.{by-eq, by-lt, is-no, some-of}
+use Rattle.lists.proofs.Tests.{by-eq, by-lt, is-no, some-of, one-more}
 use Rattle.lists.proofs.Columns.{upd-same, upd-other, upd-all}
 use Rattle.rules.specs.Limits.{buckets}
 use Rattle.rules.specs.Numbers.{sequences, home-of, sequence-of, proxy-of}
@@ -23,7 +23,6 @@ use Rattle.rules.proofs.Parts.{home-key, sequence-key}
 use Rattle.rules.proofs.Entries.{insert-in}
 use Rattle.rules.proofs.Sound.{KeyOf, TableOk, Sound}
 use Rattle.history.specs.Claim.{Write, History, number, meaning, hears}
-use Rattle.history.proofs.Sound.Lists.{one-more}
 use Rattle.history.proofs.Sound.Groups.{next-grows, member-here}
 use Rattle.history.proofs.History.{number-new, written-new, one-more-write, number-rises, length-rises, number-stays, written-stays}
 use Rattle.history.proofs.Copies.{copies-map}

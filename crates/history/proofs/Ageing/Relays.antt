@@ -8,7 +8,7 @@ use native.Mathlib.Omega.{arith}
 use borrow.Author.Tests.{eqb-true, ltb-true}
 use Rattle.lists.specs.Tests.{_and_}
 use Rattle.lists.specs.Columns.{upd}
-use Rattle.lists.proofs.Tests.{by-eq, either, clash, and-l, and-r, if-so}
+use Rattle.lists.proofs.Tests.{by-eq, either, clash, and-l, and-r, if-so, one-more, getD-in}
 use Rattle.lists.proofs.Columns.{upd-same, upd-other, upd-all}
 use Rattle.rules.specs.Limits.{buckets}
 use Rattle.rules.specs.Numbers.{bucket-of}
@@ -24,7 +24,7 @@ use Rattle.rules.proofs.Entries.{has-entry, look-insert}
 use Rattle.rules.proofs.Sound.{Sound}
 use Rattle.history.specs.Claim.{History, number}
 use Rattle.history.proofs.Copies.{copies-insert, primary-relied, backup-relied}
-use Rattle.history.proofs.Sound.Lists.{one-more, getD-in, remove-at-in}
+use Rattle.history.proofs.Sound.Lists.{remove-at-in}
 use Rattle.history.proofs.Sound.Groups.{member-here}
 use Rattle.history.proofs.Facts.{key-first, moves-aged}
 use Rattle.history.proofs.Invariant.{Writes, Older, Flies, Queue, Flight, BucketAge, AgeOf, Aged}

@@ -1,7 +1,7 @@
 -- mend and collect keep the invariant of the ageing rule.
 use Prim.Native.Nat.{ℕ}
 use Rattle.lists.specs.Tests.{_and_}
-use Rattle.lists.proofs.Tests.{only-in}
+use Rattle.lists.proofs.Tests.{only-in, one-more}
 use Rattle.rules.specs.Chunks.{save-key, only-named}
 use Rattle.rules.specs.Event.{Event}
 use Rattle.rules.specs.State.{State}
@@ -9,7 +9,6 @@ use Rattle.rules.specs.Parts.{holder}
 use Rattle.rules.specs.Upkeep.{mend-effect, collect-effect}
 use Rattle.rules.specs.Step.{rule}
 use Rattle.history.specs.Claim.{History}
-use Rattle.history.proofs.Sound.Lists.{one-more}
 use Rattle.history.proofs.Mend.{mend-keeps}
 use Rattle.history.proofs.Invariant.{Aged}
 use Rattle.history.proofs.Ageing.Writes.{log-aged, honest-held, honest-save}

@@ -3,7 +3,7 @@ use mathlib.Core.Path.{_≡_, sym}
 use mathlib.Core.List.{List, map, List·Memᴰ}
 use mathlib.Core.Bool.{Bool, true}
 use Prim.Native.Nat.{ℕ}
-use Rattle.lists.proofs.Tests.{either}
+use Rattle.lists.proofs.Tests.{either, one-more}
 use Rattle.lists.proofs.Columns.{upd-all}
 use Rattle.rules.specs.Numbers.{home-of}
 use Rattle.rules.specs.Chunks.{Chunk, held, bytes-in, save, save-all}
@@ -14,7 +14,6 @@ use Rattle.rules.specs.Step.{rule}
 use Rattle.rules.proofs.Step.{Yes}
 use Rattle.rules.proofs.Chunks.{held-in, save-from}
 use Rattle.history.specs.Claim.{History}
-use Rattle.history.proofs.Sound.Lists.{one-more}
 use Rattle.history.proofs.Invariant.{Writes, Honest, Aged}
 
 honest-same : (w : Writes) {j k : ℕ} {c d : List ℕ} → j ≡ k → c ≡ d → Honest w j c → Honest w k d

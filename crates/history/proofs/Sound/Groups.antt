@@ -8,7 +8,7 @@ use lib.ListN.{length}
 use lib.Dec.{eqb}
 use Rattle.lists.specs.Columns.{upd}
 use Rattle.lists.proofs.Tests.{by, by-eq, clash, and-l}
-use Rattle.lists.proofs.Columns.{upd-other, upd-all}
+use Rattle.lists.proofs.Columns.{upd-other, upd-all, upd-up, upd-both, upd-blank}
 use Rattle.rules.specs.declared.settings.Settings.{Settings}
 use Rattle.rules.specs.Limits.{in-limits, proxies, buckets, max-relays, max-items, max-number}
 use Rattle.rules.specs.Numbers.{proxy-of, bucket-of, home-of}
@@ -16,34 +16,12 @@ use Rattle.rules.specs.Entries.{Entry}
 use Rattle.rules.specs.Chunks.{Chunk}
 use Rattle.rules.specs.State.{Bucket, Relay, State, blank-bucket, set-parts, set-lists, set-bricks, with-log, with-copies}
 use Rattle.rules.specs.Parts.{up-member}
-use Rattle.rules.proofs.Sound.{KeyOk, TableOk, BufferOk, LogOk, RelayOk, BricksOk, NumbersOk, PairOk, BucketOk, KeyOf, Sound}
+use Rattle.rules.proofs.Sound.{KeyOk, TableOk, BufferOk, LogOk, RelayOk, BricksOk, NumbersOk, PairOk, BucketOk, KeyOf, Sound, key-stays}
 use Rattle.history.proofs.Sound.Lists.{table-map, buffer-map, log-map, relay-map}
-
--- ---- columns: what holds wherever a flag is down
--- is kept where the value changes at a number whose flag is up
-pub upd-up : {A : Type 0} (flag : ℕ → Bool) (P : ℕ → A → Type 0) (f : ℕ → A) (x : ℕ) (a : A)
-    → flag x ≡ true → ((i : ℕ) → flag i ≡ false → P i (f i)) → (i : ℕ) → flag i ≡ false → P i (upd f x a i)
-upd-up flag P f x a y h = upd-all (λ i b. flag i ≡ false → P i b) f x a h (λ n. clash n y)
-
--- is kept where the flag changes at one number and the value there has it
-pub upd-both : {A : Type 0} (flag : ℕ → Bool) (b : Bool) (P : ℕ → A → Type 0) (f : ℕ → A) (x : ℕ) (a : A)
-    → P x a → ((i : ℕ) → (i ≡ x → ⊥) → flag i ≡ false → P i (f i)) → (i : ℕ) → upd flag x b i ≡ false → P i (upd f x a i)
-unfolding upd
-upd-both flag b P f x a p h i = by-eq i x (λ q e. rw (q, e) (λ _. p)) (λ q n. rw q (h i n))
-
--- a blank column with a blank value
-pub upd-blank : {A : Type 0} (d : A) (x : ℕ) → upd (λ i. d) x d ≡ (λ i. d)
-unfolding upd
-upd-blank d x = fun-ext (λ i. by (eqb i x) (λ q. rw q refl) (λ q. rw q refl))
 
 -- ---- keys: where a brick's next number grows, they are still below it
 pub next-grows : {given : ℕ} {here : ℕ → Bool} {next : ℕ → ℕ} {k : ℕ} (x m : ℕ) → next x ≤ m → KeyOk given here next k → KeyOk given here (upd next x m) k
-unfolding upd
-next-grows {next = next} {k = k} x m u v = record {
-  home = v .home;
-  born = v .born;
-  used = λ z. by-eq (home-of k) x (λ q e. rw q (omega (arith, v .used z, ap next e))) (λ q _. rw q (v .used z));
-}
+next-grows {next = next} {k = k} x m u = key-stays k (omega arith) (λ i _ y. (y, upd-all (λ i v. next i ≤ v) next x m (λ i. omega arith) u i))
 
 -- ---- logs
 pub record LogsOk (K : ℕ → Type 0) (size chunks : ℕ) (here : ℕ → Bool) (log : ℕ → List Chunk) : Type 0 where

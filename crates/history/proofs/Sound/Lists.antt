@@ -8,7 +8,7 @@ use Prim.Native.Nat.{ℕ, zero, suc, _≤_, _<_}
 use native.Mathlib.Omega.{arith}
 use lib.ListN.{length, getD, length-append}
 use Rattle.lists.specs.Tests.{only}
-use Rattle.lists.proofs.Tests.{either, only-in, length-only}
+use Rattle.lists.proofs.Tests.{either, only-in, length-only, one-more}
 use Rattle.rules.specs.Limits.{max-waiting}
 use Rattle.rules.specs.Entries.{Entry, entry, insert, takes, drain}
 use Rattle.rules.specs.Chunks.{Chunk, held, append, save}
@@ -17,10 +17,6 @@ use Rattle.rules.specs.Maps.{remove-at}
 use Rattle.rules.proofs.Entries.{insert-in, ascending-insert, length-insert, ascending-only}
 use Rattle.rules.proofs.Chunks.{append-apart, save-from, apart-save, apart-only}
 use Rattle.rules.proofs.Sound.{EntryOk, TableOk, BufferOk, ChunkOk, LogOk, RelayOk}
-
--- ---- what holds of each element, with one more
-pub one-more : {A : Type 0} {P : A → Type 0} (l : List A) {x : A} → ((y : A) → List·Memᴰ y l → P y) → P x → (y : A) → List·Memᴰ y (l ++ (x ∷ [])) → P y
-one-more l h p y m = elim (List·Memᴰ·append-cases l m) [ inl o ↦ h y o | inr o ↦ rw (List·Memᴰ·eq-of-singleton o) p ]
 
 -- ---- what is asked of keys may be weakened
 module _ {K L : ℕ → Type 0} (f : (k : ℕ) → K k → L k) where
@@ -88,11 +84,6 @@ module _ {K : ℕ → Type 0} {size : ℕ} {l : List Chunk} (v : LogOk K size l)
   log-only test = record { apart = apart-only test l (v .apart); each = λ c m. v .each c (only-in test l m .0) }
 
 -- ---- relays
-pub getD-in : {A : Type 0} (l : List A) (n : ℕ) (d : A) → n < length l → List·Memᴰ (getD l n d) l
-getD-in [] n d h = absurd (omega arith)
-getD-in (x ∷ l) zero d h = List·Memᴰ·head refl
-getD-in (x ∷ l) (suc n) d h = List·Memᴰ·tail (getD-in l n d (omega arith))
-
 pub remove-at-in : (l : List Relay) (n : ℕ) {r : Relay} → List·Memᴰ r (remove-at l n) → List·Memᴰ r l
 unfolding remove-at
 remove-at-in [] n m = m

@@ -6,7 +6,8 @@ use Prim.Native.Nat.{ℕ, _<_}
 use native.Mathlib.Omega.{arith}
 use lib.ListN.{length, length-append}
 use borrow.Author.Tests.{ltb-true}
-use Rattle.lists.proofs.Tests.{either, and-l, or-second, if-so}
+use Rattle.lists.proofs.Columns.{upd-blank}
+use Rattle.lists.proofs.Tests.{either, and-l, or-second, if-so, one-more, getD-in}
 use Rattle.rules.specs.Limits.{buckets, max-relays, max-number}
 use Rattle.rules.specs.Entries.{Entry, entry, has, remove}
 use Rattle.rules.specs.State.{State, blank-relay, blank-bucket, with-copies}
@@ -18,8 +19,8 @@ use Rattle.rules.proofs.Entries.{has-entry}
 use Rattle.rules.proofs.Parts.{bucket-below}
 use Rattle.rules.proofs.Sound.{EntryOk, RelayOk, KeyOf, Sound}
 use Rattle.rules.proofs.SoundTest.{table-none}
-use Rattle.history.proofs.Sound.Lists.{one-more, table-insert, table-only, buffer-append, getD-in, remove-at-in, length-remove-at}
-use Rattle.history.proofs.Sound.Groups.{upd-blank, one-buffer, one-memory, one-disk, copies, bucket-ok, new-copies, one-bucket, all-buckets, BagOk}
+use Rattle.history.proofs.Sound.Lists.{table-insert, table-only, buffer-append, remove-at-in, length-remove-at}
+use Rattle.history.proofs.Sound.Groups.{one-buffer, one-memory, one-disk, copies, bucket-ok, new-copies, one-bucket, all-buckets, BagOk}
 use Rattle.history.proofs.Sound.Groups.{one-items, one-known, groups, new-parts, member-here}
 
 module _ {s : State} (v : Sound s) where

@@ -9,7 +9,7 @@ use lib.ListN.{length}
 use borrow.Author.Tests.{eqb-true, eq-eqb, ltb-true}
 use Rattle.lists.specs.Columns.{upd}
 use Rattle.lists.proofs.Tests.{by, by-eq, by-lt, impossible, and-l, is-no, length-only}
-use Rattle.lists.proofs.Columns.{upd-same, upd-other, upd-all, unflag, still-flagged}
+use Rattle.lists.proofs.Columns.{upd-same, upd-other, upd-all, unflag, still-flagged, upd-up, upd-both, upd-blank}
 use Rattle.rules.specs.declared.settings.Settings.{Settings}
 use Rattle.rules.specs.Limits.{max-id}
 use Rattle.rules.specs.Numbers.{sequences, home-of}
@@ -20,10 +20,10 @@ use Rattle.rules.specs.Parts.{is-empty}
 use Rattle.rules.specs.Question.{AllYes}
 use Rattle.rules.specs.Membership.{crash-asks, crashed-bucket, crash-effect, lose-asks, blank-copies, lose-effect}
 use Rattle.rules.specs.Membership.{rise-asks, rise-effect, join-asks, join-effect}
-use Rattle.rules.proofs.Sound.{KeyOk, BufferOk, LogOk, NumbersOk, PairOk, KeyOf, Sound}
+use Rattle.rules.proofs.Sound.{KeyOk, BufferOk, LogOk, NumbersOk, PairOk, KeyOf, Sound, key-stays}
 use Rattle.rules.proofs.SoundTest.{table-none, buffer-none, log-none}
 use Rattle.history.proofs.Sound.Lists.{log-only}
-use Rattle.history.proofs.Sound.Groups.{upd-up, upd-both, upd-blank, next-grows, LogsOk, logs-map, one-log, BuffersOk, buffers-map, CopyOk, CopiesOk}
+use Rattle.history.proofs.Sound.Groups.{next-grows, LogsOk, logs-map, one-log, BuffersOk, buffers-map, CopyOk, CopiesOk}
 use Rattle.history.proofs.Sound.Groups.{copies, bucket-ok, new-copies, BucketsOk, all-buckets, buckets-map, bag-map, items-map, groups, from-groups}
 
 -- ---- a brick of which nothing is left, or that is new: it may be there, and up, or not
@@ -161,11 +161,8 @@ module _ {s : State} (v : Sound s) where
       let g = groups v in
       let first = occupied i (y .1 .0) in
       let more : (j : ℕ) → KeyOf s j → KeyOk (s .given) (upd (k .here) x false) (upd (k .next) x 0) j
-      = λ j u. record {
-        home = u .home;
-        born = u .born;
-        used = λ z. let n = unflag (k .here) x (home-of j) z in rw (upd-other (k .next) x (home-of j) 0 (n .1)) (u .used (n .0));
-      } in
+      = λ j. key-stays j (omega arith)
+      (λ i _ z. let n = unflag (k .here) x i z in (n .0, omega (arith, upd-other (k .next) x i 0 (n .1)))) in
       from-groups (record {
         limits = v .limits;
         bricks = record {
@@ -276,13 +273,10 @@ module _ {s : State} (v : Sound s) where
       let few : s .given < max-id = ltb-true _ _ (y .1 .0) in
       let inside : i < s .settings .places = ltb-true _ _ (y .0) in
       let more : (j : ℕ) → KeyOf s j → KeyOk x (upd (k .here) x true) (upd (k .next) x 0) j
-      = λ j u.
-      let old : home-of j ≡ x → ⊥ = λ e. omega (arith, u .born) in
-      record {
-        home = u .home;
-        born = omega (arith, u .born);
-        used = λ z. rw (upd-other (k .next) x (home-of j) 0 old) (u .used (rw (upd-other (k .here) x (home-of j) true old) at z));
-      } in
+      = λ j. key-stays j (omega arith)
+      (λ i l z.
+      let old : i ≡ x → ⊥ = λ e. omega (arith, l) in
+      (rw (upd-other (k .here) x i true old) at z, omega (arith, upd-other (k .next) x i 0 old))) in
       from-groups (record {
         limits = v .limits;
         bricks = record {

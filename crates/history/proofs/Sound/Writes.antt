@@ -10,7 +10,7 @@ use lib.ListN.{length, length-append}
 use borrow.Author.Tests.{eqb-true, eq-eqb, ltb-true, leb-true}
 use Rattle.lists.specs.Columns.{upd}
 use Rattle.lists.proofs.Tests.{by, by-eq, either, clash, both, or-cases, or-l, or-r, or-second}
-use Rattle.lists.proofs.Columns.{upd-same, upd-all}
+use Rattle.lists.proofs.Columns.{upd-same, upd-all, upd-up}
 use Rattle.rules.specs.Numbers.{sequences, home-of}
 use Rattle.rules.specs.Entries.{takes}
 use Rattle.rules.specs.Chunks.{chunk, held, bytes-in, save-all}
@@ -22,7 +22,7 @@ use Rattle.rules.proofs.Chunks.{held-in, length-save}
 use Rattle.rules.proofs.Parts.{ids-in, home-key, sequence-key, circle-in}
 use Rattle.rules.proofs.Sound.{KeyOk, ChunkOk, KeyOf, Sound}
 use Rattle.history.proofs.Sound.Lists.{table-insert, log-append, log-save}
-use Rattle.history.proofs.Sound.Groups.{upd-up, next-grows, logs-map, one-log, buffers-map, buckets-map, bag-map, items-map, one-items}
+use Rattle.history.proofs.Sound.Groups.{next-grows, logs-map, one-log, buffers-map, buckets-map, bag-map, items-map, one-items}
 use Rattle.history.proofs.Sound.Groups.{groups, from-groups, member-here, log-sound}
 
 -- ---- put

@@ -7,7 +7,7 @@ use Prim.Native.Nat.{ℕ, _<_}
 use native.Mathlib.Omega.{arith}
 use lib.ListN.{length}
 use borrow.Author.Tests.{ltb-true}
-use Rattle.lists.proofs.Tests.{either, clash, and-r}
+use Rattle.lists.proofs.Tests.{either, clash, and-r, an-element}
 use Rattle.lists.proofs.Columns.{upd-all}
 use Rattle.rules.specs.Event.{Event}
 use Rattle.rules.specs.State.{State}
@@ -22,10 +22,6 @@ use Rattle.history.proofs.Copies.{copies-insert, copies-saved}
 use Rattle.history.proofs.Invariant.{Aged}
 use Rattle.history.proofs.Wanting.{KeptBy, WantOf, Stocked}
 use Rattle.history.proofs.Ageing.Maps.{waits-now}
-
-an-element : {A : Type 0} (l : List A) → 0 < length l → (x : A) × List·Memᴰ x l
-an-element [] n = absurd (omega arith)
-an-element (x ∷ l) n = (x, List·Memᴰ·head refl)
 
 module _ (s : State) (o : ℕ → Bool) (w : Stocked s o) where
   -- what map asks of the chunk

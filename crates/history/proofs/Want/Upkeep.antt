@@ -6,7 +6,7 @@ use Prim.Native.Nat.{ℕ, zero, suc, _<_}
 use native.Mathlib.Omega.{arith}
 use Rattle.lists.specs.Tests.{_and_, _or_, some-below}
 use Rattle.lists.specs.Columns.{upd}
-use Rattle.lists.proofs.Tests.{by-eq, or-l, or-r, all-at}
+use Rattle.lists.proofs.Tests.{by-eq, or-l, or-r, all-at, some-at}
 use Rattle.lists.proofs.Columns.{upd-all}
 use Rattle.rules.specs.Limits.{buckets}
 use Rattle.rules.specs.Entries.{look}
@@ -28,11 +28,6 @@ use Rattle.history.proofs.Want.Writes.{log-stocked}
 use Rattle.history.proofs.Want.Calm.{copies-mapped, flown-mapped, settled, none-waits, mapped-kept}
 
 -- the test holds of one index below a bound
-some-at : (n : ℕ) (test : ℕ → Bool) (k : ℕ) → k < n → test k ≡ true → some-below n test ≡ true
-unfolding some-below
-some-at zero test k l y = absurd (omega arith)
-some-at (suc n) test k l y = by-eq k n (λ _ e. or-r _ _ (rw (← e) y)) (λ _ e. or-l _ _ (some-at n test k (omega arith) y))
-
 -- ---- mend
 pub mend-stocked : (s : State) (o : ℕ → Bool) → Stocked s o → (i : ℕ) → Stocked (rule s (Event.mend i) .after) o
 unfolding rule mend-effect save-key
