@@ -4,12 +4,13 @@ use mathlib.Core.List.{List, [], _∷_, _++_, append-assoc, append-nil}
 use Prim.Native.Nat.{ℕ, zero, suc, _+_, _*_, _≤_, _<_}
 use native.Mathlib.Nat.{suc-mul, zero-mul, add-comm, add-zero, not-suc-le-zero, le-of-suc-le-suc, mul-le-mul-right}
 use native.Mathlib.Omega.{arith}
-use lib.ListN.{length, take, drop, getD, length-drop}
+use lib.ListN.{length, take, drop, getD, set, length-drop}
 use lib.Seq.{take-at, drop-at, drop-drop, drop-length, take-length, take-add, length-take-le}
-use Rattle.lists.specs.Runs.{on-run, part, enc-all}
-use Rattle.lists.proofs.Runs.{fits-in, on-right}
-use Rattle.codec.specs.Codec.{Codec, Clean, enc-many, rows, over, table}
-use Rattle.codec.proofs.Laws.{Lawful, many-none, many-last, many-keeps, over-left, over-right, rest-length}
+use Rattle.lists.specs.Runs.{run, on-run, part, enc-all}
+use Rattle.lists.proofs.Runs.{fits-in, run-length, on-right, on-length, on-by, on-twice, on-within}
+use Rattle.codec.specs.Codec.{Codec, Clean, Two, enc-two, enc-many, rows, over, table}
+use Rattle.codec.proofs.Laws.{Lawful, two-is, two-left, two-right, many-none, many-last, many-keeps, over-left, over-right, rest-length}
+use Rattle.codec.proofs.Focus.{on-whole}
 use Rattle.codec.proofs.Round.{length-rows}
 
 -- ---- what a loop over n values has written after i turns: the first i values, and past them what was there
@@ -58,6 +59,48 @@ module _ {A : Type 0} (c : Codec A) (law : Lawful c) (n : ℕ) (f : ℕ → A) (
         ∙ on-right 0 (c .size) g k x (drop k w) front
         ∙ ap (λ (l : List ℕ). x ++ l) (on-front (c .size) g (drop k w) ∙ ap (λ (l : List ℕ). l ++ drop (c .size) (drop k w)) q)
         ∙ rw (up, last, drop-drop (c .size) k w) (sym (append-assoc x (c .enc (f i) (part (c .size) i w)) (drop (k + c .size) w)))
+
+-- ---- two values written one after the other
+module _ {A B : Type 0} (c : Codec A) (d : Codec B) (l : Lawful c) (x : Two A B) where
+  first-long : (v : List ℕ) → length v ≡ c .size + d .size → length (on-run 0 (c .size) (c .enc (x .fst)) v) ≡ c .size + d .size
+  first-long v h =
+      on-length 0 (c .size) (c .enc (x .fst)) v (omega arith) (l .keeps (x .fst) (take (c .size) v) (two-left c d v h)) ∙ h
+
+  both-written : (v : List ℕ) → length v ≡ c .size + d .size
+      → enc-two c d x v ≡ on-run (c .size) (d .size) (d .enc (x .snd)) (on-run 0 (c .size) (c .enc (x .fst)) v)
+  both-written v h =
+      let k : ℕ = c .size in
+      let y : List ℕ = drop k v in
+      let new : List ℕ = c .enc (x .fst) (take k v) in
+      two-is c d x v
+      ∙ ap (λ (z : List ℕ). new ++ z) (sym (on-whole (d .size) (d .enc (x .snd)) y (two-right c d v h)))
+      ∙ sym (on-right 0 (d .size) (d .enc (x .snd)) k new y (l .keeps (x .fst) (take k v) (two-left c d v h)))
+      ∙ rw (add-zero k) (ap (on-run k (d .size) (d .enc (x .snd))) (sym (on-front k (c .enc (x .fst)) v)))
+
+  pub then-written : (a : ℕ) (w : List ℕ) → a + (c .size + d .size) ≤ length w
+      → on-run a (c .size + d .size) (enc-two c d x) w ≡ on-run (a + c .size) (d .size) (d .enc (x .snd)) (on-run a (c .size) (c .enc (x .fst)) w)
+  then-written a w h =
+      let n : ℕ = c .size + d .size in
+      let f : List ℕ → List ℕ = on-run 0 (c .size) (c .enc (x .fst)) in
+      let g : List ℕ → List ℕ = on-run (c .size) (d .size) (d .enc (x .snd)) in
+      let lv : length (run a n w) ≡ n = run-length a n w h in
+      let lf : length (f (run a n w)) ≡ n = first-long (run a n w) lv in
+      let lu : length (on-run a n f w) ≡ length w = on-length a n f w h lf in
+      on-by a n (enc-two c d x) (λ u. g (f u)) w (both-written (run a n w) lv)
+      ∙ on-twice a n f g w h lf
+      ∙ on-within a n (c .size) (d .size) (d .enc (x .snd)) (on-run a n f w) (omega arith) (omega arith)
+      ∙ ap (on-run (a + c .size) (d .size) (d .enc (x .snd)))
+      (on-within a n 0 (c .size) (c .enc (x .fst)) w h (omega arith) ∙ ap (λ (o : ℕ). on-run o (c .size) (c .enc (x .fst)) w) (add-zero a))
+
+-- ---- a table emptied: its count alone is written
+over-nil : {A : Type 0} (c : Codec A) (m : ℕ) (w : List ℕ) → over c m [] w ≡ w
+unfolding over
+over-nil c zero w = refl
+over-nil c (suc m) w = refl
+
+pub table-cleared : {A : Type 0} (c : Codec A) (most : ℕ) (w : List ℕ) → 0 < length w → table most c .enc [] w ≡ set w 0 0
+table-cleared c most [] h = absurd (not-suc-le-zero h)
+table-cleared c most (x ∷ w) h = ap (λ (v : List ℕ). 0 ∷ v) (over-nil c most w)
 
 -- ---- rows that fill their words: what is written does not depend on what was there
 pub record Plain {A : Type 0} (c : Codec A) : Type 0 where

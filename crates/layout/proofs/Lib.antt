@@ -7,7 +7,8 @@ pub mod Sound
 pub mod Changes
 pub mod Fit
 pub mod Parts
-pub mod Sizes
+pub mod Bounds
 pub mod Clean
 pub mod Check
 pub mod Bytes
+pub mod Lent

@@ -100,6 +100,12 @@ proxy-words = proxy-codec .size
 abbrev pub bag-words : ℕ
 bag-words = bag-codec .size
 
+abbrev pub status-words : ℕ
+status-words = status-codec .size
+
+abbrev pub copy-words : Settings → ℕ
+copy-words c = copy-codec c .size
+
 abbrev pub copies-words : Settings → ℕ
 copies-words c = copies-codec c .size
 

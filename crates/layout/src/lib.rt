@@ -1,1 +1,2 @@
-// Where each part of the store lies: definitions in specs/, laws in proofs/. This crate has no code.
+// Where each part of the store lies: definitions in specs/, laws in proofs/; here the sizes and offsets that code reckons with.
+pub mod sizes;

@@ -1,0 +1,28 @@
+-- Code that lends part i of a slice, in turn, to a function that writes value i there.
+use mathlib.Core.Path.{_≡_, refl, _∙_}
+use mathlib.Core.List.{List, _++_}
+use Prim.Native.Nat.{ℕ, _+_, _*_, _≤_, _<_}
+use native.Mathlib.Numerals.{add-one}
+use native.Mathlib.Omega.{arith}
+use lib.ListN.{length, take, drop, length-append, length-drop}
+use lib.Seq.{length-take-le}
+use Rattle.lists.proofs.Runs.{fits-in}
+use Rattle.words.specs.Words.{words}
+use Rattle.words.proofs.Laws.{lent-run}
+use Rattle.codec.specs.Codec.{Codec}
+use Rattle.codec.proofs.Laws.{Lawful}
+use Rattle.codec.proofs.Loops.{written, loop-turn}
+
+-- a turn of such a loop over n values: o and k are where the part starts and how many bytes it has, t what comes back
+pub lent-turn : {A : Type 0} (c : Codec A) → Lawful c → (n : ℕ) (f : ℕ → A) (w : List ℕ) → length w ≡ n * c .size → (i : ℕ) → i < n
+    → (s t : List ℕ) (o k : ℕ) → o ≡ 8 * (i * c .size) → k ≡ 8 * c .size → 8 * (n * c .size) ≤ length s → length t ≡ k
+    → words s ≡ written c i f w → words t ≡ c .enc (f i) (words (take k (drop o s)))
+    → words (take o s ++ (t ++ drop k (drop o s))) ≡ written c (i + 1) f w
+lent-turn c law n f w h i p s t o k eo ek l lt es et =
+    let inside : i * c .size + c .size ≤ n * c .size = fits-in (c .size) p in
+    lent-run s t o k (i * c .size) (c .size) (c .enc (f i)) eo ek (omega arith) (omega arith) et
+    ∙ rw (add-one i) (loop-turn c law n f w h i p (c .enc (f i)) (words s) es refl)
+
+-- a part that comes back as long as it was leaves the slice as long as it was
+pub lent-length : (s t : List ℕ) (o k : ℕ) → o + k ≤ length s → length t ≡ k → length (take o s ++ (t ++ drop k (drop o s))) ≡ length s
+lent-length s t o k h e = simp (length-append, length-drop, length-take-le o s (omega arith)) (omega arith)

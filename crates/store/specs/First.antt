@@ -1,0 +1,29 @@
+-- The parts of the state that format makes.
+use mathlib.Core.List.{[]}
+use mathlib.Core.Bool.{true, false}
+use Prim.Native.Nat.{ℕ, _+_, _*_, _%_}
+use Rattle.rules.specs.declared.settings.Settings.{Settings}
+use Rattle.codec.specs.Codec.{_&_}
+use Rattle.layout.specs.Disk.{Head, Agreed, Status, Brick, Place, blank-copies}
+
+-- the view number is 1; ids 1 to N are given, and the view begins with those bricks
+abbrev pub first-head : Settings → Head
+first-head c = record { settings = c; view = 1; given = c .places; started = c .places }
+
+-- a bucket is ready; its pair is the last ready one
+abbrev pub first-agreed : ℕ → ℕ → Agreed
+first-agreed p b = record { primary = p; backup = b; last-primary = p; last-backup = b; ready = true; fetched = false; order = 0; taken = 0 }
+
+-- the bricks take the slots of the pairs in turn
+abbrev pub agreed-in-turn : ℕ → ℕ → Agreed
+agreed-in-turn n g = first-agreed (2 * g % n + 1) ((2 * g + 1) % n + 1)
+
+abbrev pub first-status : Status
+first-status = record { up = true; member = true; began = true; next = 0; ceiling = 0 }
+
+abbrev pub first-brick : Brick
+first-brick = record { here = true; status = first-status; buffer = []; copies = λ g. blank-copies; log = [] }
+
+-- place p holds brick p + 1
+abbrev pub first-place : ℕ → Place
+first-place p = p + 1 & first-brick

@@ -1,0 +1,3 @@
+// The store in lent bytes: the calls for the network layer.
+pub mod calls;
+pub mod format;
