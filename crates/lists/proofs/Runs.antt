@@ -288,9 +288,3 @@ pub every-below : {n : ℕ} {l : List ℕ} → Below n l → every (λ x. ltb x 
 unfolding every
 every-below none = refl
 every-below {n} (more {b} h r) = both _ _ (lt-ltb b n h) (every-below r)
-
--- ---- an element by its place, whatever stands for none
-pub getD-map-in : {A B : Type 0} (f : A → B) (l : List A) (i : ℕ) (e : B) (d : A) → i < length l → getD (map f l) i e ≡ f (getD l i d)
-getD-map-in f [] i e d h = absurd (not-suc-le-zero h)
-getD-map-in f (x ∷ l) zero e d h = refl
-getD-map-in f (x ∷ l) (suc i) e d h = getD-map-in f l i e d (le-of-suc-le-suc h)

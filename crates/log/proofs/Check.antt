@@ -83,7 +83,7 @@ good-read L w ws len hl o =
 pub good-write : (L w : ℕ) (ys : List Stored) (ws : List ℕ) → length ws ≡ 1 + 3 * L + L * w → Fits L w ys → Good ys
     → good-log L (write-log L ys ws) ≡ true
 good-write L w ys ws hl fit g =
-    good-of-log L w (write-log L ys ws) (8 * (1 + 3 * L + L * w)) (log-write L w ys ws hl fit g (8 * (1 + 3 * L + L * w)) refl)
+    good-of-log L w (write-log L ys ws) (8 * (1 + 3 * L + L * w)) (log-write L w ys ws hl fit (g .flags) (g .distinct) (8 * (1 + 3 * L + L * w)) refl)
 
 -- marks do no harm
 pub looser : {a b L w : ℕ} {ws : List ℕ} {len : ℕ} → a ≤ b → LogWith a L w ws len → LogWith b L w ws len

@@ -12,7 +12,7 @@ use Rattle.lists.specs.Runs.{enc-all, Sized, none, more}
 use Rattle.lists.proofs.Runs.{length-enc-all}
 use Rattle.log.specs.Positions.{positions}
 use Rattle.log.specs.Log.{Stored, stored, row-of, cell-of, stored-at, key-at, positions-of, rows-in, positions-in, cells-in, lay, over, write-log, read-rows, read-log}
-use Rattle.log.specs.Log.{row-key, row-saved, position-at, key-by, Ordered, IsLog, Fits, Good}
+use Rattle.log.specs.Log.{row-key, row-saved, position-at, key-by, Ordered, LogWith, Fits}
 use Rattle.log.proofs.Positions as order
 use Rattle.log.proofs.Regions.{over-over, over-self, length-over, over-at, lay-rows, lay-positions, lay-cells, length-rows, length-positions, length-cells, regions, row-word, position-word}
 
@@ -279,13 +279,16 @@ module _ (L w : ℕ) (ys : List Stored) (ws : List ℕ) (hl : length ws ≡ 1 + 
         rising = λ i j h l. rw (write-by i (lt-trans h l), write-by j l) (positions-of-asc d i j h l);
       }
 
-  pub log-write : Good ys → (len : ℕ) → len ≡ 8 * (1 + 3 * L + L * w) → IsLog L w (write-log L ys ws) len
-  log-write g len e =
+  -- chunks with distinct keys make a log
+  pub log-write : {top : ℕ} → ((i : ℕ) → i < length ys → stored-at ys i .saved ≤ top)
+      → ((i j : ℕ) → i < j → j < length ys → key-at ys i ≢ key-at ys j) → (len : ℕ) → len ≡ 8 * (1 + 3 * L + L * w)
+      → LogWith top L w (write-log L ys ws) len
+  log-write flags apart len e =
       record {
         few = rw write-count (fit .few);
         size = e;
-        flags = λ i h. let q : i < length ys = rw write-count at h in rw (write-saved i q) (g .flags i q);
-        order = rw write-count (position-write (g .distinct));
+        flags = λ i h. let q : i < length ys = rw write-count at h in rw (write-saved i q) (flags i q);
+        order = rw write-count (position-write apart);
       }
 
 -- ---- one log written over another

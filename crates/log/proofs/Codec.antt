@@ -1,27 +1,28 @@
 -- The log as a list of the rules' chunks: it keeps its length, is written twice as once, is read back, and is a log's words just where no key stands twice.
 use mathlib.Core.Path.{_≡_, refl, sym, ap, _∙_}
-use mathlib.Core.Logic.{_≢_, inl, inr}
+use mathlib.Core.Logic.{inl, inr}
 use mathlib.Core.Bool.{Bool, true, false, cond}
 use mathlib.Core.List.{List, [], _∷_, _++_, map, Memᴰ·of-map, List·Memᴰ, List·Memᴰ·head, List·Memᴰ·tail, List·Memᴰ·cases-cons, List·Memᴰ·not-nil}
 use Prim.Native.Nat.{ℕ, zero, suc, _+_, _*_, _^_, _≤_, _<_, suc-le-suc}
-use native.Mathlib.Nat.{le-refl, le-of-suc-le-suc, not-suc-le-zero, suc-mul, mul-le-mul-right}
+use native.Mathlib.Nat.{le-refl, suc-mul, mul-le-mul-right}
 use native.Mathlib.Omega.{arith}
 use lib.Dec.{lit<, eqb}
 use lib.ListN.{length, take, drop, getD, replicate, length-append, length-take, length-drop, length-map, length-replicate}
 use lib.Seq.{take-all, take-at, getD-drop, length-take-le}
 use borrow.Author.Tests.{eq-eqb, eqb-true}
-use Rattle.lists.specs.Tests.{some}
 use Rattle.lists.specs.Runs.{Sized, none, more, Below}
-use Rattle.lists.proofs.Tests.{by, by-eq, impossible, no, is-no, and-l, and-r, both, or-l, or-r, or-cases}
-use Rattle.lists.proofs.Runs.{getD-map-in, below-append, below-take, below-drop, below-replicate, below-enc-all, below-every, every-below}
+use Rattle.lists.proofs.Tests.{by, by-eq, and-l, and-r, both}
+use Rattle.lists.proofs.Lists.{getD-map-in}
+use Rattle.lists.proofs.Runs.{below-append, below-take, below-drop, below-replicate, below-enc-all, below-every, every-below}
 use Rattle.words.specs.Words.{words}
 use Rattle.words.proofs.Laws.{length-words, words-below, words-unwords, unwords-words, length-unwords, unwords-below}
 use Rattle.rules.specs.Numbers.{is-data}
-use Rattle.rules.specs.Chunks.{Chunk, chunk, held}
+use Rattle.rules.specs.Chunks.{Chunk, chunk}
 use Rattle.rules.specs.Sound.{keys-apart}
 use Rattle.log.specs.Log.{Stored, stored, row-of, cell-of, stored-at, key-at, positions-of, rows-in, cells-in, lay, over, write-log, read-rows, read-log}
-use Rattle.log.specs.Log.{log-words, to-chunk, from-chunk, fixed, log-dec, log-enc, good-log, Ordered, IsLog, Fits, Good}
+use Rattle.log.specs.Log.{log-words, to-chunk, from-chunk, fixed, chunk-at, log-dec, log-enc, good-log, Ordered, IsLog, Fits, Good}
 use Rattle.log.proofs.Positions as order
+use Rattle.log.proofs.Rules.{apart-at, apart-of}
 use Rattle.log.proofs.Regions.{length-cells, row-word}
 use Rattle.log.proofs.Chunks.{length-read-rows, length-write, read-write, write-read, write-write, write-as, distinct-read}
 use Rattle.log.proofs.Check.{good-write}
@@ -165,43 +166,11 @@ log-small L w cs ws top few each b =
     (below-append (over-small (positions-small xs (2 ^ 64) (omega arith)) (below-take L (below-drop (1 + 2 * L) b)))
     (over-small (below-enc-all cell-of xs (λ x m. from x m .1)) (below-drop (1 + 3 * L) b)))))
 
--- ---- no key twice, as the rules' test and by places
-abbrev key-in : List Chunk → ℕ → ℕ
-key-in cs i = getD cs i (chunk 0 false []) .key
-
-held-at : (cs : List Chunk) (k i : ℕ) → i < length cs → key-in cs i ≡ k → held cs k ≡ true
-unfolding held some
-held-at [] k i h e = absurd (not-suc-le-zero h)
-held-at (c ∷ cs) k zero h e = or-l _ _ (eq-eqb k (c .key) (sym e))
-held-at (c ∷ cs) k (suc i) h e = or-r _ _ (held-at cs k i (le-of-suc-le-suc h) e)
-
-at-held : (cs : List Chunk) (k : ℕ) → held cs k ≡ true → (i : ℕ) × (i < length cs) × (key-in cs i ≡ k)
-unfolding held some
-at-held [] k h = impossible h
-at-held (c ∷ cs) k h = elim (or-cases _ _ h) [
-  | inl q ↦ (0, omega arith, sym (eqb-true k (c .key) q))
-  | inr q ↦ let r = at-held cs k q in (suc (r .0), suc-le-suc (r .1), r .2)
-]
-
-pub apart-at : (cs : List Chunk) → keys-apart cs ≡ true → (i j : ℕ) → i < j → j < length cs → key-in cs i ≢ key-in cs j
-unfolding keys-apart
-apart-at [] a i j p q = absurd (not-suc-le-zero q)
-apart-at (c ∷ cs) a i zero p q = absurd (not-suc-le-zero p)
-apart-at (c ∷ cs) a zero (suc j) p q = λ e. is-no _ (and-l _ _ a) (held-at cs (c .key) j (le-of-suc-le-suc q) (sym e))
-apart-at (c ∷ cs) a (suc i) (suc j) p q = apart-at cs (and-r _ _ a) i j (le-of-suc-le-suc p) (le-of-suc-le-suc q)
-
-pub apart-of : (cs : List Chunk) → ((i j : ℕ) → i < j → j < length cs → key-in cs i ≢ key-in cs j) → keys-apart cs ≡ true
-unfolding keys-apart
-apart-of [] d = refl
-apart-of (c ∷ cs) d =
-    both _ _ (no _ (λ h. let r = at-held cs (c .key) h in d 0 (suc (r .0)) (omega arith) (suc-le-suc (r .1)) (sym (r .2))))
-    (apart-of cs (λ i j p q. d (suc i) (suc j) (suc-le-suc p) (suc-le-suc q)))
-
 -- ---- which words are a log's: the count is in range, they are their chunks written over them, and no key stands twice
 good-from : (w : ℕ) (cs : List Chunk) → keys-apart cs ≡ true → Good (map (from-chunk w) cs)
 good-from w cs a =
     record {
-      flags = λ i h. rw (at i (rw length-map at h)) (flag-small (getD cs i (chunk 0 false []) .saved));
+      flags = λ i h. rw (at i (rw length-map at h)) (flag-small (chunk-at cs i .saved));
       distinct = λ i j p q e. let q2 : j < length cs = rw length-map at q in
           apart-at cs a i j p q2 (sym (ap (λ (x : Stored). x .key) (at i (omega arith))) ∙ e ∙ ap (λ (x : Stored). x .key) (at j q2));
     }
@@ -210,7 +179,7 @@ good-from w cs a =
     flag-small true = omega arith
     flag-small false = omega arith
 
-    at : (i : ℕ) → i < length cs → stored-at (map (from-chunk w) cs) i ≡ from-chunk w (getD cs i (chunk 0 false []))
+    at : (i : ℕ) → i < length cs → stored-at (map (from-chunk w) cs) i ≡ from-chunk w (chunk-at cs i)
     at i h = getD-map-in (from-chunk w) cs i (stored 0 0 []) (chunk 0 false []) h
 
 pub log-good : (L w : ℕ) (cs : List Chunk) (ws : List ℕ) → length ws ≡ log-words L w → length cs ≤ L → keys-apart cs ≡ true
@@ -229,7 +198,7 @@ module _ (L w : ℕ) (ws : List ℕ) (hl : length ws ≡ log-words L w) (few : g
       apart-of (map to-chunk (read-log L w ws)) (λ i j p q e. let q2 : j < length (read-log L w ws) = rw length-map at q in
       distinct-read L w ws hl few o i j p q2 (sym (key i (omega arith)) ∙ e ∙ key j q2))
     where
-      key : (i : ℕ) → i < length (read-log L w ws) → key-in (map to-chunk (read-log L w ws)) i ≡ key-at (read-log L w ws) i
+      key : (i : ℕ) → i < length (read-log L w ws) → chunk-at (map to-chunk (read-log L w ws)) i .key ≡ key-at (read-log L w ws) i
       key i h = ap (λ (c : Chunk). c .key) (getD-map-in to-chunk (read-log L w ws) i (chunk 0 false []) (stored 0 0 []) h)
 
 -- each chunk read has data of its size

@@ -1,3 +1,4 @@
 pub mod Positions
 pub mod Log
 pub mod Steps
+pub mod Answers

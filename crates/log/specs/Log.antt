@@ -2,7 +2,7 @@
 -- key; `chunks` cells of `width` words, cell i of row i. What lies past the count is not in use and keeps its words.
 use mathlib.Core.Path.{_≡_}
 use mathlib.Core.Logic.{_≢_}
-use mathlib.Core.Bool.{Bool, cond}
+use mathlib.Core.Bool.{Bool, false, cond}
 use mathlib.Core.List.{List, [], _∷_, _++_, map}
 use Prim.Native.Nat.{ℕ, zero, suc, _+_, _*_, _-_, _≤_, _<_}
 use lib.Dec.{ltb, leb, eqb}
@@ -85,6 +85,9 @@ fixed width ws = take width (ws ++ replicate width 0)
 
 abbrev pub from-chunk : ℕ → Chunk → Stored
 from-chunk width c = stored (c .key) (cond (c .saved) 1 0) (fixed width (words (c .bytes)))
+
+abbrev pub chunk-at : List Chunk → ℕ → Chunk
+chunk-at cs i = getD cs i (chunk 0 false [])
 
 unfoldable pub log-dec : ℕ → ℕ → List ℕ → List Chunk
 log-dec chunks width ws = map to-chunk (read-log chunks width ws)

@@ -1,1 +1,217 @@
-// A chunk log.
+// A brick's chunk log in a lent slice, in 64-bit words: a count; `chunks` rows (key, saved) in arrival order; `chunks` positions, of which those in use
+// list the rows by ascending key; `chunks` cells of `width` words, cell i of row i. What lies past the count keeps its words.
+ghost use mathlib.Core.Path.{_≡_};
+ghost use mathlib.Core.List.{[]};
+ghost use Prim.Native.Nat.{_+_, _*_, _<_, _≤_};
+ghost use lib.ListN.{length, getD};
+ghost use Rattle.words.specs.Words.{words};
+ghost use Rattle.rules.specs.Chunks.{chunk, append, held, saved-in, save-all, save-key};
+ghost use Rattle.log.specs.Log.{log-dec, log-enc, log-words, chunk-at, good-log, position-at, key-by, Ordered, LogWith, IsLog, Place};
+ghost use Rattle.log.specs.Steps.{good-order, entered};
+ghost use Rattle.log.specs.Answers.{FoundIn, RowIs};
+
+// ---- the check
+
+// The row at a place of the order: the key of a row in use whose saved word is 0 or 1.
+pub enum Row {
+    Key(u64),
+    Bad,
+}
+
+fn row_by(log: &[u8], chunks: usize, n: usize, j: usize) -> Row
+    requires { ⌜ (j < n) × (n ≤ chunks) × (8 * (1 + 3 * chunks) ≤ length (now log)) ⌝ }
+    ensures { λ r. ⌜ RowIs chunks n (words (now (log .entry))) j r ⌝ }
+{
+    let p = words::read(log, 1 + 2 * chunks + j);
+    if n as u64 <= p {
+        return Row::Bad;
+    }
+    let q = p as usize;
+    if 1 < words::read(log, 2 + 2 * q) {
+        return Row::Bad;
+    }
+    Row::Key(words::read(log, 1 + 2 * q))
+}
+
+// Are the first n positions those of such rows, their keys ascending?
+fn ordered(log: &[u8], chunks: usize, n: usize) -> bool
+    requires { ⌜ (n ≤ chunks) × (8 * (1 + 3 * chunks) ≤ length (now log)) ⌝ }
+    ensures { λ r. ⌜ r ≡ good-order chunks n (words (now (log .entry))) ⌝ }
+{
+    if n == 0 {
+        return true;
+    }
+    let Row::Key(first) = row_by(log, chunks, n, 0) else {
+        return false;
+    };
+    let mut last = first;
+    let mut i = 1;
+    while i < n {
+        let Row::Key(k) = row_by(log, chunks, n, i) else {
+            return false;
+        };
+        if k <= last {
+            return false;
+        }
+        last = k;
+        i += 1;
+    }
+    true
+}
+
+// Are these words a log's?
+pub fn is_log(log: &[u8], chunks: usize) -> bool
+    requires { ⌜ 8 * (1 + 3 * chunks) ≤ length (now log) ⌝ }
+    ensures { λ r. ⌜ r ≡ good-log chunks (words (now (log .entry))) ⌝ }
+{
+    let count = words::read(log, 0);
+    if (chunks as u64) < count {
+        return false;
+    }
+    ordered(log, chunks, count as usize)
+}
+
+// ---- look-up
+
+// The key of the row at place j of the order.
+fn key_by(log: &[u8], chunks: usize, j: usize) -> u64
+    requires { ⌜ (j < chunks) × (position-at chunks (words (now log)) j < chunks) × (8 * (1 + 3 * chunks) ≤ length (now log)) ⌝ }
+    ensures { λ r. ⌜ r ≡ key-by chunks (words (now (log .entry))) j ⌝ }
+{
+    let p = words::read(log, 1 + 2 * chunks + j) as usize;
+    words::read(log, 1 + 2 * p)
+}
+
+// The first place among the first n of the order whose key is not below k.
+fn place(log: &[u8], chunks: usize, n: usize, k: u64) -> usize
+    requires { ⌜ (n ≤ chunks) × (8 * (1 + 3 * chunks) ≤ length (now log)) ⌝ }
+    requires { ⌜ Ordered chunks n (words (now log)) ⌝ }
+    ensures { λ r. ⌜ Place chunks n (words (now (log .entry))) k r ⌝ }
+{
+    let mut lo = 0;
+    let mut hi = n;
+    while lo < hi {
+        let mid = lo + (hi - lo) / 2;
+        if key_by(log, chunks, mid) < k {
+            lo = mid + 1;
+        } else {
+            hi = mid;
+        }
+    }
+    lo
+}
+
+// The chunk that has a key, by its place in the log.
+pub enum Found {
+    At(usize),
+    Nothing,
+}
+
+// Marks in the saved words do no harm.
+pub fn find(log: &[u8], chunks: usize, width: usize, k: u64) -> Found
+    requires { ⌜ LogWith 3 chunks width (words (now log)) (length (now log)) ⌝ }
+    ensures { λ r. ⌜ FoundIn (log-dec chunks width (words (now (log .entry)))) k r ⌝ }
+{
+    let n = words::read(log, 0) as usize;
+    let p = place(log, chunks, n, k);
+    if p < n {
+        if key_by(log, chunks, p) == k {
+            return Found::At(words::read(log, 1 + 2 * chunks + p) as usize);
+        }
+        return Found::Nothing;
+    }
+    Found::Nothing
+}
+
+// Is there a chunk with the key?
+pub fn holds(log: &[u8], chunks: usize, width: usize, k: u64) -> bool
+    requires { ⌜ LogWith 3 chunks width (words (now log)) (length (now log)) ⌝ }
+    ensures { λ r. ⌜ r ≡ held (log-dec chunks width (words (now (log .entry)))) k ⌝ }
+{
+    match find(log, chunks, width, k) {
+        Found::At(_) => true,
+        Found::Nothing => false,
+    }
+}
+
+// Is there a saved chunk with the key?
+pub fn holds_saved(log: &[u8], chunks: usize, width: usize, k: u64) -> bool
+    requires { ⌜ IsLog chunks width (words (now log)) (length (now log)) ⌝ }
+    ensures { λ r. ⌜ r ≡ saved-in (log-dec chunks width (words (now (log .entry)))) k ⌝ }
+{
+    match find(log, chunks, width, k) {
+        Found::At(p) => words::read(log, 2 + 2 * p) == 1,
+        Found::Nothing => false,
+    }
+}
+
+// The bytes of the chunk at a place: a part of the log.
+pub fn bytes_at<'a>(log: &'a [u8], chunks: usize, width: usize, p: usize) -> &'a [u8]
+    requires { ⌜ LogWith 3 chunks width (words (now log)) (length (now log)) ⌝ }
+    requires { ⌜ p < getD (words (now log)) 0 0 ⌝ }
+    ensures { λ r. ⌜ (now r ≡ chunk-at (log-dec chunks width (words (now (log .entry)))) p .bytes) × (length (now r) ≡ 8 * width) ⌝ }
+{
+    let at = words::offset(p, width, chunks);
+    let start = 8 * (1 + 3 * chunks + at);
+    &log[start..start + 8 * width]
+}
+
+// ---- changes
+
+// No chunks.
+pub fn clear(log: &mut [u8], chunks: usize, width: usize)
+    requires { ⌜ length (now log) ≡ 8 * log-words chunks width ⌝ }
+    ensures { λ _. ⌜ words (now (log .exit)) ≡ log-enc chunks width [] (words (now (log .entry))) ⌝ }
+{
+    words::write(log, 0, 0);
+}
+
+// Row n becomes (key, saved), its position goes to place p of the order, and it counts.
+fn enter(log: &mut [u8], chunks: usize, n: usize, p: usize, key: u64, saved: u64)
+    requires { ⌜ (p ≤ n) × (n < chunks) × (8 * (1 + 3 * chunks) ≤ length (now log)) ⌝ }
+    ensures { λ _. ⌜ words (now (log .exit)) ≡ entered chunks n p key saved (words (now (log .entry))) ⌝ }
+{
+    moves::move_up(log, 1 + 2 * chunks + p, 1 + 2 * chunks + (p + 1), n - p);
+    words::write(log, 1 + 2 * chunks + p, n as u64);
+    words::write(log, 1 + 2 * n, key);
+    words::write(log, 2 + 2 * n, saved);
+    words::write(log, 0, (n + 1) as u64);
+}
+
+// A chunk at the end.
+pub fn append(log: &mut [u8], chunks: usize, width: usize, key: u64, saved: bool, bytes: &[u8])
+    requires { ⌜ IsLog chunks width (words (now log)) (length (now log)) ⌝ }
+    requires { ⌜ (getD (words (now log)) 0 0 < chunks) × (length (now bytes) ≡ 8 * width) ⌝ }
+    ensures { λ _. ⌜ words (now (log .exit)) ≡ log-enc chunks width (append (log-dec chunks width (words (now (log .entry)))) (chunk key saved (now (bytes .entry)))) (words (now (log .entry))) ⌝ }
+{
+    let n = words::read(log, 0) as usize;
+    let p = place(log, chunks, n, key);
+    enter(log, chunks, n, p, key, saved as u64);
+    let at = words::offset(n, width, chunks);
+    let start = 8 * (1 + 3 * chunks + at);
+    moves::copy_bytes(&mut log[start..start + 8 * width], bytes);
+}
+
+// The chunk with the key, where there is one, becomes saved.
+pub fn save_key(log: &mut [u8], chunks: usize, width: usize, k: u64)
+    requires { ⌜ IsLog chunks width (words (now log)) (length (now log)) ⌝ }
+    ensures { λ _. ⌜ words (now (log .exit)) ≡ log-enc chunks width (save-key (log-dec chunks width (words (now (log .entry)))) k) (words (now (log .entry))) ⌝ }
+{
+    match find(log, chunks, width, k) {
+        Found::At(p) => words::write(log, 2 + 2 * p, 1),
+        Found::Nothing => {}
+    }
+}
+
+// All chunks become saved.
+pub fn save_all(log: &mut [u8], chunks: usize, width: usize)
+    requires { ⌜ IsLog chunks width (words (now log)) (length (now log)) ⌝ }
+    ensures { λ _. ⌜ words (now (log .exit)) ≡ log-enc chunks width (save-all (log-dec chunks width (words (now (log .entry))))) (words (now (log .entry))) ⌝ }
+{
+    let n = words::read(log, 0) as usize;
+    let mut i = 0;
+    while i < n {
+        words::write(log, 2 + 2 * i, 1);
+        i += 1;
+    }
+}
