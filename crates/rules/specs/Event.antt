@@ -69,6 +69,9 @@ abbrev three-and-data : String → (ℕ → ℕ → ℕ → List ℕ → Event) 
 three-and-data w f = record { word = ascii w; numbers = 3; payload = true; make = f }
 
 -- the kind is a number 1 to 22, in this order
+abbrev pub kind-count : ℕ
+kind-count = 22
+
 unfoldable pub kinds : List Kind
 kinds =
     three-and-data "put" put

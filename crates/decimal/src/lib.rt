@@ -1,0 +1,124 @@
+// Numbers of 64 bits in decimal text, read and written.
+ghost use mathlib.Core.Path.{_≡_};
+ghost use Prim.Native.Nat.{_+_, _%_, _≤_, _<_};
+ghost use lib.ListN.{length};
+ghost use Rattle.area.specs.Area.{onto};
+ghost use Rattle.decimal.specs.Decimal.{decimal, push, spelled, number-of, answer};
+
+// What reading a number gives.
+pub enum Number {
+    Value(u64),
+    Malformed,
+}
+
+// v with one more digit.
+fn push_digit(v: u64, b: u8) -> Number
+    ensures { λ r. ⌜ r ≡ answer (push v b) ⌝ }
+{
+    if b < 48 {
+        return Number::Malformed;
+    }
+    if 57 < b {
+        return Number::Malformed;
+    }
+    let d = (b - 48) as u64;
+    if (0xffff_ffff_ffff_ffff - d) / 10 < v {
+        return Number::Malformed;
+    }
+    Number::Value(10 * v + d)
+}
+
+// The number that digits spell, leading zeros and no digits taken too.
+fn spell(s: &[u8]) -> Number
+    ensures { λ r. ⌜ r ≡ answer (spelled 0 (now (s .entry))) ⌝ }
+{
+    let mut v: u64 = 0;
+    let mut i = 0;
+    while i < s.len() {
+        let next = push_digit(v, s[i]);
+        let Number::Value(w) = next else {
+            return Number::Malformed;
+        };
+        v = w;
+        i += 1;
+    }
+    Number::Value(v)
+}
+
+// The number that a whole text is, written as `write` writes it.
+pub fn read(s: &[u8]) -> Number
+    ensures { λ r. ⌜ r ≡ answer (number-of (now (s .entry))) ⌝ }
+{
+    if s.len() == 0 {
+        return Number::Malformed;
+    }
+    if s.len() == 1 {
+        return spell(s);
+    }
+    if s[0] == 48 {
+        return Number::Malformed;
+    }
+    spell(s)
+}
+
+// How many digits a number has.
+pub fn width(v: u64) -> usize
+    ensures { λ r. ⌜ (r ≡ length (decimal v)) × (r ≤ 20) ⌝ }
+{
+    let mut x = v;
+    let mut n: usize = 0;
+    while 10000 <= x {
+        x = x / 10000;
+        n += 4;
+    }
+    n + short_width(x)
+}
+
+// The same of a number of at most four digits.
+fn short_width(x: u64) -> usize
+    requires { ⌜ x < 10000 ⌝ }
+    ensures { λ r. ⌜ (r ≡ length (decimal x)) × (r ≤ 4) ⌝ }
+{
+    if x < 10 {
+        return 1;
+    }
+    if x < 100 {
+        return 2;
+    }
+    if x < 1000 {
+        return 3;
+    }
+    4
+}
+
+// The last digit of a number, as text.
+fn last_digit(x: u64) -> u8
+    ensures { λ r. ⌜ r ≡ 48 + x % 10 ⌝ }
+{
+    48 + (x % 10) as u8
+}
+
+// The digits at the front of an area; how many they are.
+fn write_front(v: u64, area: &mut [u8]) -> usize
+    requires { ⌜ length (decimal v) ≤ length (now area) ⌝ }
+    ensures { λ r. ⌜ (r ≡ length (decimal v)) × (now (area .exit) ≡ onto 0 (decimal v) (now (area .entry))) ⌝ }
+{
+    let n = width(v);
+    let mut x = v;
+    let mut i = n - 1;
+    while 10 <= x {
+        area[i] = last_digit(x);
+        x = x / 10;
+        i -= 1;
+    }
+    area[0] = last_digit(x);
+    n
+}
+
+// The digits from a place on; the place after them.
+pub fn write(v: u64, area: &mut [u8], at: usize) -> usize
+    requires { ⌜ at + length (decimal v) ≤ length (now area) ⌝ }
+    ensures { λ r. ⌜ (r ≡ at + length (decimal v)) × (now (area .exit) ≡ onto at (decimal v) (now (area .entry))) ⌝ }
+{
+    at + write_front(v, &mut area[at..])
+}

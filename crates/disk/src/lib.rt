@@ -1,0 +1,110 @@
+// The calls for the network layer in C; include/disk.h describes them. A slice is passed as a pointer and a length.
+ghost use mathlib.Core.Path.{_≡_};
+ghost use lib.ListN.{length};
+ghost use Rattle.text.specs.Lines.{read-settings};
+ghost use Rattle.area.specs.Area.{onto};
+ghost use Rattle.parse.specs.Answers.{parsed, answer-to, bytes-read, settings-answer};
+ghost use Rattle.print.specs.Answers.{parts-from, printed, line-after};
+ghost use Rattle.disk.specs.Answers.{event-answer, line-answer, four-answer};
+use parse::Parsed;
+use parse::SettingsLine;
+use print::Printed;
+
+#[repr(C)]
+pub struct EventAnswer {
+    pub code: u64,
+    pub kind: u64,
+    pub a: u64,
+    pub b: u64,
+    pub c: u64,
+}
+
+#[repr(C)]
+pub struct LineAnswer {
+    pub code: u64,
+    pub length: usize,
+}
+
+#[repr(C)]
+pub struct SettingsAnswer {
+    pub code: u64,
+    pub places: u64,
+    pub size: u64,
+    pub entries: u64,
+    pub chunks: u64,
+}
+
+// The event of a line of text.
+#[no_mangle]
+pub extern "C" fn disk_parse(line: &[u8], size: usize, data: &mut [u8]) -> EventAnswer
+    ensures { λ r. ⌜ (r ≡ event-answer (answer-to (parsed size (length (now («data» .entry))) (now (line .entry)))))
+        × (now («data» .exit) ≡ onto 0 (bytes-read (parsed size (length (now («data» .entry))) (now (line .entry)))) (now («data» .entry))) ⌝ }
+{
+    let answer = parse::parse(line, size, data);
+    match answer {
+        Parsed::Is { kind, a, b, c } => EventAnswer {
+            code: 0,
+            kind,
+            a,
+            b,
+            c,
+        },
+        Parsed::Refused => EventAnswer {
+            code: 3,
+            kind: 0,
+            a: 0,
+            b: 0,
+            c: 0,
+        },
+    }
+}
+
+// The line of text of an event.
+#[no_mangle]
+pub extern "C" fn disk_print(
+    kind: u64,
+    a: u64,
+    b: u64,
+    c: u64,
+    data: &[u8],
+    size: usize,
+    line: &mut [u8],
+) -> LineAnswer
+    ensures { λ r. ⌜ (r ≡ line-answer (printed size (parts-from kind a b c (now («data» .entry))) (length (now (line .entry)))))
+        × (now (line .exit) ≡ line-after size (parts-from kind a b c (now («data» .entry))) (now (line .entry))) ⌝ }
+{
+    let answer = print::print(kind, a, b, c, data, size, line);
+    match answer {
+        Printed::Length(n) => LineAnswer { code: 0, length: n },
+        Printed::Refused => LineAnswer { code: 3, length: 0 },
+    }
+}
+
+// The settings of the settings line.
+#[no_mangle]
+pub extern "C" fn disk_parse_settings(line: &[u8]) -> SettingsAnswer
+    ensures { λ r. ⌜ r ≡ four-answer (settings-answer (read-settings (now (line .entry)))) ⌝ }
+{
+    let answer = parse::parse_settings(line);
+    match answer {
+        SettingsLine::Are {
+            places,
+            size,
+            entries,
+            chunks,
+        } => SettingsAnswer {
+            code: 0,
+            places,
+            size,
+            entries,
+            chunks,
+        },
+        SettingsLine::Refused => SettingsAnswer {
+            code: 3,
+            places: 0,
+            size: 0,
+            entries: 0,
+            chunks: 0,
+        },
+    }
+}

@@ -1,0 +1,78 @@
+-- `hex::decode` meets its contract.
+use mathlib.Core.Path.{_≡_, refl, sym, _∙_}
+use Prim.Native.Nat.{_-_, _≤_}
+use native.Mathlib.Omega.{arith}
+use lib.ListN.{length, length-set}
+use Rattle.hex.specs.Hex.{unhex}
+use Rattle.hex.proofs.Laws.{is-bytes, unhex-length, unhex-at, decode-turn, decode-done}
+use lib.Seq.{paste, paste-zero}
+use borrow.Author.Needs.{needs}
+use Rattle.hex.proofs.decode.Statement.{statement}
+use Rattle.hex.proofs.decode.Tie as tie
+
+abbrev Inv-loop : tie.InvT-loop
+Inv-loop s area₀ i₀ area i = (i ≤ length area) × (length area ≡ length area₀) × (area ≡ paste area₀ 0 (unhex s) i)
+
+abbrev μ-loop : tie.MeasureT-loop
+μ-loop s area₀ i₀ area i = length area - i
+
+loop-holds : tie.Need-loop-holds Inv-loop μ-loop
+loop-holds c = (search needs, refl, paste-zero (c .before .before .args .area .now) 0 (unhex (c .before .before .args .s .now)))
+
+mul-pair : tie.Need-mul-pair Inv-loop μ-loop
+mul-pair c =
+    let b = is-bytes (length (c .before .before .before .before .args .area .now)) (c .before .before .before .before .args .s .now)
+    (c .before .before .before .before .pre) in omega arith
+
+pair-requires : tie.Need-pair-requires Inv-loop μ-loop
+pair-requires c κs =
+    let b = is-bytes (length (c .before .before .before .before .args .area .now)) (c .before .before .before .before .args .s .now)
+    (c .before .before .before .before .pre) in (omega arith, b .1)
+
+slice-write-area : tie.Need-slice-write-area Inv-loop μ-loop
+slice-write-area c = search needs
+
+add-i : tie.Need-add-i Inv-loop μ-loop
+add-i c = search needs
+
+loop-less : tie.Need-loop-less Inv-loop μ-loop
+loop-less c = rw length-set (omega arith)
+
+loop-again : tie.Need-loop-again Inv-loop μ-loop
+loop-again c =
+    let a = c .before .before .before .before .before .args in
+    let l = c .before .before .loop in
+    let b = is-bytes (length (a .area .now)) (a .s .now) (c .before .before .before .before .before .pre) in
+    let u = unhex-length (length (a .area .now)) (a .s .now) (b .0) in (
+      rw length-set (omega arith),
+      length-set (l .area) (l .i) (c .pair .result) ∙ l .inv .1,
+      decode-turn (unhex (a .s .now)) (a .area .now) u (l .area) (l .i) (c .pair .result) (omega arith) (l .inv .2)
+          (c .pair .ensures ∙ sym (unhex-at (l .i) (a .s .now) (omega arith))),
+    )
+
+same-length : tie.Need-same-length Inv-loop μ-loop
+same-length c = c .before .loop .inv .1
+
+returns : tie.Need-returns Inv-loop μ-loop
+returns c =
+    let a = c .before .before .before .before .args in
+    let l = c .before .loop in
+    let b = is-bytes (length (a .area .now)) (a .s .now) (c .before .before .before .before .pre) in
+    let u = unhex-length (length (a .area .now)) (a .s .now) (b .0) in
+    decode-done (unhex (a .s .now)) (a .area .now) u (l .area) (l .i) (omega arith) (l .inv .2)
+
+pub decode-spec : {M : Type 1} → statement M
+decode-spec =
+    tie.close
+    (tie.spec
+    Inv-loop
+    μ-loop
+    loop-holds
+    mul-pair
+    pair-requires
+    slice-write-area
+    add-i
+    loop-less
+    loop-again
+    same-length
+    returns)

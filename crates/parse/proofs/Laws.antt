@@ -1,0 +1,411 @@
+-- Laws of the steps of parse.
+use mathlib.Core.Path.{_≡_, refl, sym, ap, _∙_}
+use mathlib.Core.Bool.{Bool, true, false}
+use mathlib.Core.List.{List, [], _∷_, _++_, append-nil}
+use mathlib.Core.Option.{Option, some, none}
+use Prim.Native.Nat.{ℕ, zero, suc, _+_, _-_, _*_, _≤_, _<_}
+use native.Mathlib.Numerals.{add-one}
+use native.Mathlib.Omega.{arith}
+use borrow.Author.Tests.{le-leb, lt-leb, eq-eqb, ne-eqb}
+use lib.Dec.{eqb}
+use lib.ListN.{length, take, drop, getD, length-drop, drop-of-length-le}
+use lib.Seq.{drop-cons, take-suc, drop-drop, take-all}
+use Rattle.area.specs.Area.{onto}
+use Rattle.lists.proofs.Tests.{by, by-lt}
+use Rattle.area.proofs.Laws.{onto-nothing}
+use Rattle.area.proofs.Each.{Above, each-none, each-more}
+use Rattle.decimal.specs.Decimal.{number-of, and-then, answer}
+use Rattle.hex.specs.Hex.{only-digits, unhex, spells-bytes, bytes-of}
+use Rattle.hex.proofs.Laws.{digit-cases, digits-head}
+use Rattle.rules.specs.Event.{kind-at}
+use Rattle.text.specs.Words.{kind-of-word}
+use Rattle.text.specs.Table.{kind-number}
+use Rattle.text.specs.Fields.{comma, parted, before, fields}
+use Rattle.rules.specs.Event.{Parts}
+use Rattle.text.specs.Lines.{Taken, taken, take-numbers, take-bytes, parts-of-kind, parts-of-fields, is-line, without-feed, read-parts}
+use Rattle.text.specs.Lines.{settings-at, settings-of-fields, read-settings}
+use Rattle.text.proofs.Laws.{kind-some, number-some}
+use Rattle.text.proofs.Fields.{before-before, before-nothing, at-comma, at-other, first, fields-there, fields-back}
+use Rattle.parse.specs.Answers.{has-data, with-room, parsed, answer-to, bytes-read, settings-answer}
+use Rattle.parse.specs.Steps.{fields-from, first-number, rest, FieldIs, Three, Found}
+use Rattle.parse.specs.declared.Field.{Field}
+use Rattle.parse.specs.declared.Field.the-variants.{Value, Malformed}
+use Rattle.parse.specs.declared.Parsed.the-variants.{Is, Refused}
+use Rattle.parse.specs.declared.SettingsLine.the-variants.{Are, Refused as Malformed-line}
+use Rattle.rules.specs.declared.settings.Settings.{Settings}
+
+-- ---- fields by position
+
+module _ (s : List ℕ) where
+  pub from-within : (p : ℕ) → p ≤ length s → fields-from s p ≡ fields (drop p s)
+  unfolding fields-from
+  from-within p h = rw (le-leb p (length s) h)
+
+  pub from-past : (p : ℕ) → length s < p → fields-from s p ≡ []
+  unfolding fields-from
+  from-past p h = rw (lt-leb p (length s) h)
+
+  from-from : (at p : ℕ) → at ≤ length s → fields-from (drop at s) p ≡ fields-from s (at + p)
+  unfolding fields-from
+  from-from at p h =
+      by-lt (length (drop at s)) p
+      (λ _ q.
+      let n = length-drop at s in
+      rw (lt-leb p (length (drop at s)) q, lt-leb (at + p) (length s) (omega arith)))
+      (λ _ q.
+      let n = length-drop at s in
+      rw (le-leb p (length (drop at s)) q, le-leb (at + p) (length s) (omega arith), drop-drop p at s))
+
+-- ---- where a field ends
+
+module _ (s : List ℕ) (i : ℕ) (inv : fields s ≡ before (take i s) (fields (drop i s))) where
+  pub end-turn : i < length s → (getD s i 0 ≡ comma → ⊥) → fields s ≡ before (take (i + 1) s) (fields (drop (i + 1) s))
+  end-turn h e =
+      inv ∙ rw (
+        drop-cons s i 0 h,
+        at-other (getD s i 0) (drop (suc i) s) e,
+        before-before (take i s) (getD s i 0 ∷ [])
+            (fields (drop (suc i) s)),
+        add-one,
+        take-suc s i 0 h,
+      )
+
+  pub end-comma : i < length s → getD s i 0 ≡ comma → fields s ≡ take i s ∷ fields-from s (i + 1)
+  end-comma h e =
+      inv ∙ rw (
+        drop-cons s i 0 h,
+        e,
+        at-comma (drop (suc i) s),
+        before-nothing (take i s) (fields (drop (suc i) s)),
+        from-within s (i + 1)
+            (omega arith),
+        add-one,
+      )
+
+  pub end-text : i ≡ length s → fields s ≡ take i s ∷ fields-from s (i + 1)
+  unfolding fields
+  end-text e =
+      let d : drop i s ≡ [] = drop-of-length-le s {i = i} (omega arith) in
+      inv ∙ rw (d, before-nothing (take i s) [], from-past s (i + 1) (omega arith))
+
+-- the field that starts at a place, as a part finds it
+pub next-field : (s part : List ℕ) (at e : ℕ) → at ≤ length s → part ≡ drop at s → fields part ≡ take e part ∷ fields-from part (e + 1)
+    → fields-from s at ≡ take e (drop at s) ∷ fields-from s (at + e + 1)
+next-field s part at e h p f =
+    let n : at + (e + 1) ≡ at + e + 1 = omega arith in
+    from-within s at h ∙ (rw p at f) ∙ ap (λ (l : List (List ℕ)). take e (drop at s) ∷ l) (from-from s at (e + 1) h ∙ ap (fields-from s) n)
+
+-- ---- numbers
+
+module _ (fs gs : List (List ℕ)) (f : List ℕ) (e : fs ≡ f ∷ gs) where
+  pub first-is : first-number fs ≡ number-of f
+  unfolding first-number
+  first-is = rw e
+
+  pub rest-is : rest fs ≡ gs
+  unfolding rest
+  rest-is = rw e
+
+pub first-of-none : (fs : List (List ℕ)) → fs ≡ [] → first-number fs ≡ none
+unfolding first-number
+first-of-none fs e = rw e
+
+one-more : (n v : ℕ) (fs gs : List (List ℕ)) (t : Taken) → first-number fs ≡ some v → rest fs ≡ gs → take-numbers n gs ≡ some t
+    → take-numbers (suc n) fs ≡ some (taken (v ∷ t .numbers) (t .left))
+unfolding take-numbers and-then first-number rest
+one-more n v [] gs t e r h = let z : _≡_ {A = ℕ} 0 1 = cc in absurd (omega arith)
+one-more n v (f ∷ fs) gs t e r h = rw (e, r, h)
+
+one-wrong : (n : ℕ) (fs : List (List ℕ)) → first-number fs ≡ none → take-numbers (suc n) fs ≡ none
+unfolding take-numbers and-then first-number
+one-wrong n [] e = refl
+one-wrong n (f ∷ fs) e = rw e
+
+more-wrong : (n v : ℕ) (fs gs : List (List ℕ)) → first-number fs ≡ some v → rest fs ≡ gs → take-numbers n gs ≡ none → take-numbers (suc n) fs ≡ none
+unfolding take-numbers and-then first-number rest
+more-wrong n v [] gs e r h = refl
+more-wrong n v (f ∷ fs) gs e r h = rw (e, r, h)
+
+pub record Next (fs : List (List ℕ)) (v : ℕ) (gs : List (List ℕ)) : Type 0 where
+  pub number : first-number fs ≡ some v
+  pub others : rest fs ≡ gs
+
+nothing-yet : (fs : List (List ℕ)) → take-numbers 0 fs ≡ some (taken [] fs)
+unfolding take-numbers
+nothing-yet fs = refl
+
+pub three-0 : (n : ℕ) (fs : List (List ℕ)) → n ≡ 0 → Three n fs 0 0 0 fs
+three-0 n fs e = rw e (record { read = nothing-yet fs; first = refl; second = refl; third = refl })
+
+pub three-1 : (n a : ℕ) (fs gs : List (List ℕ)) → n ≡ 1 → Next fs a gs → Three n fs a 0 0 gs
+three-1 n a fs gs e p =
+    rw e (record { read = one-more 0 a fs gs (taken [] gs) (p .number) (p .others) (nothing-yet gs); first = refl; second = refl; third = refl })
+
+pub three-2 : (n a b : ℕ) (fs gs hs : List (List ℕ)) → n ≡ 2 → Next fs a gs → Next gs b hs → Three n fs a b 0 hs
+three-2 n a b fs gs hs e p q =
+    rw e
+    (record {
+      read = one-more 1 a fs gs (taken (b ∷ []) hs) (p .number) (p .others)
+          (one-more 0 b gs hs (taken [] hs) (q .number) (q .others) (nothing-yet hs));
+      first = refl;
+      second = refl;
+      third = refl;
+    })
+
+pub three-3 : (n a b c : ℕ) (fs gs hs is : List (List ℕ)) → n ≡ 3 → Next fs a gs → Next gs b hs → Next hs c is → Three n fs a b c is
+three-3 n a b c fs gs hs is e p q r =
+    rw e
+    (record {
+      read = one-more 2 a fs gs (taken (b ∷ c ∷ []) is) (p .number) (p .others)
+          (one-more 1 b gs hs (taken (c ∷ []) is) (q .number) (q .others)
+          (one-more 0 c hs is (taken [] is) (r .number) (r .others) (nothing-yet is)));
+      first = refl;
+      second = refl;
+      third = refl;
+    })
+
+pub wrong-1 : (n : ℕ) (fs : List (List ℕ)) → 1 ≤ n → first-number fs ≡ none → take-numbers n fs ≡ none
+wrong-1 zero fs h e = absurd (omega arith)
+wrong-1 (suc n) fs h e = one-wrong n fs e
+
+pub wrong-2 : (n a : ℕ) (fs gs : List (List ℕ)) → 2 ≤ n → Next fs a gs → first-number gs ≡ none → take-numbers n fs ≡ none
+wrong-2 zero a fs gs h p e = absurd (omega arith)
+wrong-2 (suc n) a fs gs h p e = more-wrong n a fs gs (p .number) (p .others) (wrong-1 n gs (omega arith) e)
+
+pub wrong-3 : (n a b : ℕ) (fs gs hs : List (List ℕ)) → 3 ≤ n → Next fs a gs → Next gs b hs → first-number hs ≡ none → take-numbers n fs ≡ none
+wrong-3 zero a b fs gs hs h p q e = absurd (omega arith)
+wrong-3 (suc n) a b fs gs hs h p q e = more-wrong n a fs gs (p .number) (p .others) (wrong-2 n b gs hs (omega arith) q e)
+
+-- ---- data: digits hold no comma, so what is left of a text is one field or is no data
+
+digits-above : (s : List ℕ) → only-digits s ≡ true → Above 44 s
+digits-above [] t = each-none
+digits-above (b ∷ s) t =
+    let h = digits-head b s t in
+    let p : 44 < b = digit-cases b (h .0) (λ p q. omega arith) (λ p q. omega arith) in
+    each-more p (digits-above s (h .1))
+
+one-field : (s : List ℕ) → Above 44 s → fields s ≡ s ∷ []
+unfolding parted
+one-field s h = rw append-nil at (fields-there h each-none)
+
+not-digits : (S : ℕ) (s : List ℕ) → only-digits s ≡ false → bytes-of S s ≡ none
+unfolding bytes-of spells-bytes
+not-digits S s e = by (eqb (length s) (2 * S)) (λ p. rw (p, e)) (λ p. rw p)
+
+take-other : (S : ℕ) (s f : List ℕ) (fs : List (List ℕ)) → f ++ parted fs ≡ s → bytes-of S s ≡ none → take-bytes true S (f ∷ fs) ≡ none
+unfolding take-bytes parted
+take-other S s f [] e h = let same : f ≡ s = sym (append-nil f) ∙ e in ap (bytes-of S) same ∙ h
+take-other S s f (g ∷ fs) e h = refl
+
+take-one : (S : ℕ) (f : List ℕ) → take-bytes true S (f ∷ []) ≡ bytes-of S f
+unfolding take-bytes
+take-one S f = refl
+
+take-fields : (S : ℕ) (s : List ℕ) → take-bytes true S (fields s) ≡ bytes-of S s
+take-fields S s =
+    by (only-digits s)
+    (λ t. ap (take-bytes true S) (one-field s (digits-above s t)) ∙ take-one S s)
+    (λ t.
+    let f = first s in
+    let n = not-digits S s t in
+    ap (take-bytes true S) (f .2) ∙ take-other S s (f .0) (f .1) (fields-back s (f .0) (f .1) (f .2)) n ∙ sym n)
+
+bytes-none : (S : ℕ) (s : List ℕ) → spells-bytes S s ≡ false → bytes-of S s ≡ none
+unfolding bytes-of
+bytes-none S s e = rw e
+
+bytes-some : (S : ℕ) (s : List ℕ) → spells-bytes S s ≡ true → bytes-of S s ≡ some (unhex s)
+unfolding bytes-of
+bytes-some S s e = rw e
+
+-- ---- a body
+
+no-kind : (o : Option ℕ) (g : ℕ → Option Parts) → ((k : ℕ) → o ≡ some k → 1 ≤ k) → kind-number o ≡ 0 → and-then o g ≡ none
+unfolding kind-number and-then
+no-kind none g h n = refl
+no-kind (some k) g h n = absurd (omega (arith, h k refl))
+
+pub unknown : (S : ℕ) (s w : List ℕ) (fs : List (List ℕ)) → fields s ≡ w ∷ fs → (r : ℕ) → r ≡ kind-number (kind-of-word w) → r ≡ 0
+    → parts-of-fields S (fields s) ≡ none
+unfolding parts-of-fields
+unknown S s w fs f r e z = rw f (no-kind (kind-of-word w) (λ k. parts-of-kind S k fs) (λ k h. kind-some w k h .least) (sym e ∙ z))
+
+module _ (S k : ℕ) (fs : List (List ℕ)) where
+  kind-wrong : take-numbers (kind-at k .numbers) fs ≡ none → parts-of-kind S k fs ≡ none
+  unfolding parts-of-kind and-then
+  kind-wrong e = rw e
+
+  module _ (a b c : ℕ) (left : List (List ℕ)) (t : Three (kind-at k .numbers) fs a b c left) where
+    kind-spoilt : take-bytes (kind-at k .payload) S left ≡ none → parts-of-kind S k fs ≡ none
+    unfolding parts-of-kind and-then
+    kind-spoilt e = rw (t .read, e)
+
+    kind-found : (q : Bool) (bs : List ℕ) → kind-at k .payload ≡ q → take-bytes (kind-at k .payload) S left ≡ some bs
+        → Found (parts-of-kind S k fs) q k a b c bs
+    unfolding parts-of-kind and-then answer-to bytes-read has-data
+    kind-found q bs h e =
+        record { answer = rw (t .read, e, t .first, t .second, t .third); content = rw (t .read, e); payload = rw (t .read, e) h }
+
+no-data : (S : ℕ) → take-bytes false S [] ≡ some []
+unfolding take-bytes
+no-data S = refl
+
+data-missing : (S : ℕ) → take-bytes true S [] ≡ none
+unfolding take-bytes
+data-missing S = refl
+
+field-too-many : (S : ℕ) (s : List ℕ) → take-bytes false S (fields s) ≡ none
+unfolding take-bytes
+field-too-many S s = rw (first s .2)
+
+-- what the code has found: the word's field and those after it, the kind, and its row of the table
+pub record Row (s w : List ℕ) (fs : List (List ℕ)) (k n : ℕ) (p : Bool) : Type 0 where
+  pub split : fields s ≡ w ∷ fs
+  pub kind : k ≡ kind-number (kind-of-word w)
+  pub least : 1 ≤ k
+  pub numbers : n ≡ kind-at k .numbers
+  pub payload : p ≡ kind-at k .payload
+
+module _ (S : ℕ) (s w : List ℕ) (fs : List (List ℕ)) (k n : ℕ) (p : Bool) (row : Row s w fs k n p) where
+  of-kind : parts-of-fields S (fields s) ≡ parts-of-kind S k fs
+  unfolding parts-of-fields and-then
+  of-kind = rw (row .split, number-some (kind-of-word w) k (row .least) (sym (row .kind)))
+
+  pub body-wrong : take-numbers n fs ≡ none → parts-of-fields S (fields s) ≡ none
+  body-wrong e = of-kind ∙ kind-wrong S k fs (rw (row .numbers) at e)
+
+  module _ (a b c : ℕ) (left : List (List ℕ)) (t : Three n fs a b c left) where
+    three : Three (kind-at k .numbers) fs a b c left
+    three = rw (row .numbers) at t
+
+    spoilt : (q : Bool) → p ≡ q → take-bytes q S left ≡ none → parts-of-fields S (fields s) ≡ none
+    spoilt q e h = of-kind ∙ kind-spoilt S k fs a b c left three (rw (sym (row .payload) ∙ e) h)
+
+    found : (q : Bool) (bs : List ℕ) → p ≡ q → take-bytes q S left ≡ some bs → Found (parts-of-fields S (fields s)) q k a b c bs
+    found q bs e h =
+        let r : kind-at k .payload ≡ q = sym (row .payload) ∙ e in
+        rw of-kind (kind-found S k fs a b c left three q bs r (rw r h))
+
+    pub body-plain : p ≡ false → left ≡ [] → Found (parts-of-fields S (fields s)) false k a b c []
+    body-plain e l = found false [] e (rw l (no-data S))
+
+    pub body-missing : p ≡ true → left ≡ [] → parts-of-fields S (fields s) ≡ none
+    body-missing e l = spoilt true e (rw l (data-missing S))
+
+    module _ (u : List ℕ) (l : left ≡ fields u) where
+      pub body-extra : p ≡ false → parts-of-fields S (fields s) ≡ none
+      body-extra e = spoilt false e (rw l (field-too-many S u))
+
+      pub body-loaded : p ≡ true → spells-bytes S u ≡ true → Found (parts-of-fields S (fields s)) true k a b c (unhex u)
+      body-loaded e h = found true (unhex u) e (rw l (take-fields S u ∙ bytes-some S u h))
+
+      pub body-spoilt : p ≡ true → spells-bytes S u ≡ false → parts-of-fields S (fields s) ≡ none
+      body-spoilt e h = spoilt true e (rw l (take-fields S u ∙ bytes-none S u h))
+
+-- ---- what is answered and left
+
+pub refused : (o : Option Parts) (d : List ℕ) → o ≡ none → (Refused ≡ answer-to o) × (d ≡ onto 0 (bytes-read o) d)
+unfolding answer-to bytes-read
+refused o d e = (rw e, rw e (sym (onto-nothing 0 d)))
+
+pub accepted : (o o' : Option Parts) (p : Bool) (k a b c : ℕ) (bs d d' : List ℕ) → Found o p k a b c bs → o' ≡ o → d' ≡ onto 0 bs d
+    → (Is k a b c ≡ answer-to o') × (d' ≡ onto 0 (bytes-read o') d)
+accepted o o' p k a b c bs d d' f s e = (rw s (sym (f .answer)), rw (s, f .content) e)
+
+-- data that fills the area
+pub filled : (t l : List ℕ) → length t ≡ length l → t ≡ onto 0 t l
+unfolding onto
+filled t l e =
+    let d : drop (0 + length t) l ≡ [] = drop-of-length-le l {i = 0 + length t} (omega arith) in
+    rw d (sym (append-nil t))
+
+-- ---- a line
+
+module _ (S room : ℕ) where
+  pub room-none : (o : Option Parts) → o ≡ none → with-room S room o ≡ none
+  unfolding with-room has-data
+  room-none o e = rw e
+
+  pub room-unasked : (o : Option Parts) → has-data o ≡ false → with-room S room o ≡ o
+  unfolding with-room
+  room-unasked o e = rw e
+
+  pub room-right : (o : Option Parts) → has-data o ≡ true → room ≡ S → with-room S room o ≡ o
+  unfolding with-room
+  room-right o e h = rw (e, eq-eqb room S h)
+
+  pub room-wrong : (o : Option Parts) → has-data o ≡ true → (room ≡ S → ⊥) → with-room S room o ≡ none
+  unfolding with-room
+  room-wrong o e h = rw (e, ne-eqb room S h)
+
+  pub parsed-as : (l : List ℕ) (o : Option Parts) → read-parts S l ≡ o → parsed S room l ≡ with-room S room o
+  unfolding parsed
+  parsed-as l o e = rw e
+
+  pub parsed-none : (l : List ℕ) → read-parts S l ≡ none → parsed S room l ≡ none
+  parsed-none l e = parsed-as l none e ∙ room-none none refl
+
+module _ (l : List ℕ) where
+  pub parts-no-line : (S : ℕ) → is-line l ≡ false → read-parts S l ≡ none
+  unfolding read-parts
+  parts-no-line S e = rw e
+
+  pub parts-line : (S : ℕ) (body : List ℕ) → is-line l ≡ true → body ≡ take (length l - 1) l → read-parts S l ≡ parts-of-fields S (fields body)
+  unfolding read-parts without-feed
+  parts-line S body e b = rw (e, b)
+
+  pub settings-no-line : is-line l ≡ false → read-settings l ≡ none
+  unfolding read-settings
+  settings-no-line e = rw e
+
+  pub settings-line : (body : List ℕ) → is-line l ≡ true → body ≡ take (length l - 1) l → read-settings l ≡ settings-of-fields (fields body)
+  unfolding read-settings without-feed
+  settings-line body e b = rw (e, b)
+
+-- ---- settings
+
+pub answer-none : (o : Option Settings) → o ≡ none → Malformed-line ≡ settings-answer o
+unfolding settings-answer
+answer-none o e = rw e
+
+field-left : (s : List ℕ) → eqb (length (fields s)) 0 ≡ false
+field-left s = let n = ap length (first s .2) in ne-eqb (length (fields s)) 0 (λ z. omega arith)
+
+module _ (s : List ℕ) where
+  from-start : fields-from s 0 ≡ fields s
+  from-start = from-within s 0 (omega arith)
+
+  settings-wrong : take-numbers 4 (fields s) ≡ none → settings-of-fields (fields s) ≡ none
+  unfolding settings-of-fields and-then
+  settings-wrong e = rw e
+
+  pub first-wrong : first-number (fields-from s 0) ≡ none → settings-of-fields (fields s) ≡ none
+  first-wrong e = settings-wrong (one-wrong 3 (fields s) (rw from-start at e))
+
+  module _ (a second : ℕ) (f : Next (fields-from s 0) a (fields-from s second)) where
+    pub others-wrong : take-numbers 3 (fields-from s second) ≡ none → settings-of-fields (fields s) ≡ none
+    others-wrong e = settings-wrong (more-wrong 3 a (fields s) (fields-from s second) (rw from-start at (f .number)) (rw from-start at (f .others)) e)
+
+    module _ (b c d next : ℕ) (t : Three 3 (fields-from s second) b c d (fields-from s next)) where
+      four : take-numbers 4 (fields s) ≡ some (taken (a ∷ b ∷ c ∷ d ∷ []) (fields-from s next))
+      four = one-more 3 a (fields s) (fields-from s second) _ (rw from-start at (f .number)) (rw from-start at (f .others)) (t .read)
+
+      pub settings-found : length s < next → Are a b c d ≡ settings-answer (settings-of-fields (fields s))
+      unfolding settings-of-fields and-then settings-answer settings-at
+      settings-found h = rw (four, from-past s next h)
+
+      pub settings-more : next ≤ length s → settings-of-fields (fields s) ≡ none
+      unfolding settings-of-fields and-then
+      settings-more h = rw (four, from-within s next h, field-left (drop next s))
+
+-- ---- what a call found, by the case of its answer
+
+pub part-all : (s : List ℕ) (at : ℕ) → take (length s - at) (drop at s) ≡ drop at s
+part-all s at = let n = length-drop at s in take-all (length s - at) (drop at s) (omega arith)
+
+pub next-of : (s : List ℕ) (at v p : ℕ) (r : Field) → FieldIs s at r → r ≡ Value v p → Next (fields-from s at) v (fields-from s p)
+next-of s at v p r h e = let g : FieldIs s at (Value v p) = rw e at h in record { number = g .0; others = g .1 }
+
+pub stop-of : (s : List ℕ) (at : ℕ) (r : Field) → FieldIs s at r → r ≡ Malformed → first-number (fields-from s at) ≡ none
+stop-of s at r h e = rw e at h

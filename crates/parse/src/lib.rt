@@ -1,0 +1,245 @@
+// The event that a line of text gives.
+ghost use mathlib.Core.Path.{_≡_};
+ghost use mathlib.Core.List.{_∷_};
+ghost use Prim.Native.Nat.{_+_, _≤_, _<_};
+ghost use lib.ListN.{length, take};
+ghost use Rattle.area.specs.Area.{onto};
+ghost use Rattle.text.specs.Fields.{fields};
+ghost use Rattle.text.specs.Lines.{parts-of-fields, settings-of-fields, read-settings};
+ghost use Rattle.parse.specs.Answers.{parsed, with-room, answer-to, bytes-read, settings-answer};
+ghost use Rattle.parse.specs.Steps.{fields-from, FieldIs, NumbersAre, ReadingIs};
+use decimal::Number;
+
+// A kind with its numbers, those that it does not have 0, or a no to question 3.
+pub enum Parsed {
+    Is { kind: u64, a: u64, b: u64, c: u64 },
+    Refused,
+}
+
+// The four numbers of the settings line, or a no.
+pub enum SettingsLine {
+    Are {
+        places: u64,
+        size: u64,
+        entries: u64,
+        chunks: u64,
+    },
+    Refused,
+}
+
+// A number, and where the next field starts; past the end there is none.
+pub enum Field {
+    Value(u64, usize),
+    Malformed,
+}
+
+// The numbers of a kind, and where the next field starts.
+pub enum Numbers {
+    Read { a: u64, b: u64, c: u64, next: usize },
+    Wrong,
+}
+
+// An event without data, one whose data is the text from a place on, or none.
+pub enum Reading {
+    Plain {
+        kind: u64,
+        a: u64,
+        b: u64,
+        c: u64,
+    },
+    Loaded {
+        kind: u64,
+        a: u64,
+        b: u64,
+        c: u64,
+        from: usize,
+    },
+    Refused,
+}
+
+// Where the first field of a text ends.
+fn field_end(s: &[u8]) -> usize
+    ensures { λ r. ⌜ (r ≤ length (now (s .entry))) × (fields (now (s .entry)) ≡ take r (now (s .entry)) ∷ fields-from (now (s .entry)) (r + 1)) ⌝ }
+{
+    let mut i = 0;
+    while i < s.len() {
+        if s[i] == b',' {
+            return i;
+        }
+        i += 1;
+    }
+    i
+}
+
+// The number in the field that starts at a place.
+fn next_number(s: &[u8], at: usize) -> Field
+    ensures { λ r. ⌜ FieldIs (now (s .entry)) at r ⌝ }
+{
+    if s.len() < at {
+        return Field::Malformed;
+    }
+    let end = at + field_end(&s[at..]);
+    let number = decimal::read(&s[at..end]);
+    match number {
+        Number::Value(v) => Field::Value(v, end + 1),
+        Number::Malformed => Field::Malformed,
+    }
+}
+
+// The n numbers from the field that starts at a place.
+fn numbers_from(s: &[u8], at: usize, n: u8) -> Numbers
+    requires { ⌜ n ≤ 3 ⌝ }
+    ensures { λ r. ⌜ NumbersAre n (now (s .entry)) at r ⌝ }
+{
+    if n == 0 {
+        return Numbers::Read {
+            a: 0,
+            b: 0,
+            c: 0,
+            next: at,
+        };
+    }
+    let first = next_number(s, at);
+    let Field::Value(a, second_at) = first else {
+        return Numbers::Wrong;
+    };
+    if n == 1 {
+        return Numbers::Read {
+            a,
+            b: 0,
+            c: 0,
+            next: second_at,
+        };
+    }
+    let second = next_number(s, second_at);
+    let Field::Value(b, third_at) = second else {
+        return Numbers::Wrong;
+    };
+    if n == 2 {
+        return Numbers::Read {
+            a,
+            b,
+            c: 0,
+            next: third_at,
+        };
+    }
+    let third = next_number(s, third_at);
+    let Field::Value(c, next) = third else {
+        return Numbers::Wrong;
+    };
+    Numbers::Read { a, b, c, next }
+}
+
+// The event of a text without its line feed.
+fn read_body(s: &[u8], size: usize) -> Reading
+    ensures { λ r. ⌜ ReadingIs size (now (s .entry)) r ⌝ }
+{
+    let end = field_end(s);
+    let kind = text::find_kind(&s[..end]);
+    if kind == 0 {
+        return Reading::Refused;
+    }
+    let shape = text::shape_of(kind);
+    let payload = shape.payload;
+    let count = shape.numbers;
+    let numbers = numbers_from(s, end + 1, count);
+    let Numbers::Read { a, b, c, next } = numbers else {
+        return Reading::Refused;
+    };
+    if payload {
+        if s.len() < next {
+            return Reading::Refused;
+        }
+        if hex::is_bytes(&s[next..], size) {
+            return Reading::Loaded {
+                kind: kind as u64,
+                a,
+                b,
+                c,
+                from: next,
+            };
+        }
+        return Reading::Refused;
+    }
+    if s.len() < next {
+        return Reading::Plain {
+            kind: kind as u64,
+            a,
+            b,
+            c,
+        };
+    }
+    Reading::Refused
+}
+
+// The same, with the data written where it is lent.
+fn parse_body(s: &[u8], size: usize, data: &mut [u8]) -> Parsed
+    ensures { λ r. ⌜ (r ≡ answer-to (with-room size (length (now («data» .entry))) (parts-of-fields size (fields (now (s .entry))))))
+        × (now («data» .exit)
+        ≡ onto 0 (bytes-read (with-room size (length (now («data» .entry))) (parts-of-fields size (fields (now (s .entry)))))) (now («data» .entry))) ⌝ }
+{
+    let reading = read_body(s, size);
+    match reading {
+        Reading::Plain { kind, a, b, c } => Parsed::Is { kind, a, b, c },
+        Reading::Loaded {
+            kind,
+            a,
+            b,
+            c,
+            from,
+        } => {
+            if data.len() != size {
+                return Parsed::Refused;
+            }
+            hex::decode(&s[from..], data);
+            Parsed::Is { kind, a, b, c }
+        }
+        Reading::Refused => Parsed::Refused,
+    }
+}
+
+// The event of a line whose data has size bytes; data is written where it is lent, once the whole line is accepted.
+pub fn parse(line: &[u8], size: usize, data: &mut [u8]) -> Parsed
+    ensures { λ r. ⌜ (r ≡ answer-to (parsed size (length (now («data» .entry))) (now (line .entry))))
+        × (now («data» .exit) ≡ onto 0 (bytes-read (parsed size (length (now («data» .entry))) (now (line .entry)))) (now («data» .entry))) ⌝ }
+{
+    if text::is_line(line) {
+        let end = line.len() - 1;
+        return parse_body(&line[..end], size, data);
+    }
+    Parsed::Refused
+}
+
+// The settings of a text without its line feed.
+fn settings_body(s: &[u8]) -> SettingsLine
+    ensures { λ r. ⌜ r ≡ settings-answer (settings-of-fields (fields (now (s .entry)))) ⌝ }
+{
+    let first = next_number(s, 0);
+    let Field::Value(places, second_at) = first else {
+        return SettingsLine::Refused;
+    };
+    let others = numbers_from(s, second_at, 3);
+    let Numbers::Read { a, b, c, next } = others else {
+        return SettingsLine::Refused;
+    };
+    if s.len() < next {
+        return SettingsLine::Are {
+            places,
+            size: a,
+            entries: b,
+            chunks: c,
+        };
+    }
+    SettingsLine::Refused
+}
+
+// The settings that a line gives; whether they are within limits is not asked.
+pub fn parse_settings(line: &[u8]) -> SettingsLine
+    ensures { λ r. ⌜ r ≡ settings-answer (read-settings (now (line .entry))) ⌝ }
+{
+    if text::is_line(line) {
+        let end = line.len() - 1;
+        return settings_body(&line[..end]);
+    }
+    SettingsLine::Refused
+}

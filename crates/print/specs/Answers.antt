@@ -1,0 +1,28 @@
+-- What print answers and leaves.
+use mathlib.Core.Bool.{Bool, cond}
+use mathlib.Core.List.{List, [], _∷_}
+use Prim.Native.Nat.{ℕ}
+use lib.Dec.{leb}
+use lib.ListN.{length, take}
+use Rattle.area.specs.Area.{onto}
+use Rattle.rules.specs.Event.{kind-at}
+use Rattle.rules.specs.Event.{Parts}
+use Rattle.text.specs.Lines.{parts, line-of, is-well-formed}
+use Rattle.lists.specs.Tests.{_and_}
+use Rattle.print.specs.declared.Printed.{Printed}
+use Rattle.print.specs.declared.Printed.the-variants.{Length, Refused}
+
+-- numbers and data that the kind does not have are not looked at
+unfoldable pub parts-from : ℕ → ℕ → ℕ → ℕ → List ℕ → Parts
+parts-from k a b c bytes = parts k (take (kind-at k .numbers) (a ∷ b ∷ c ∷ [])) (cond (kind-at k .payload) bytes [])
+
+-- question 3: kind known, data of S bytes, and the area for the text long enough? So much room is lent for the line
+unfoldable pub can-print : ℕ → Parts → ℕ → Bool
+can-print S e room = is-well-formed S e and leb (length (line-of e)) room
+
+unfoldable pub printed : ℕ → Parts → ℕ → Printed
+printed S e room = cond (can-print S e room) (Length (length (line-of e))) Refused
+
+-- the line at the front of the area, or the area as it was
+unfoldable pub line-after : ℕ → Parts → List ℕ → List ℕ
+line-after S e area = cond (can-print S e (length area)) (onto 0 (line-of e) area) area

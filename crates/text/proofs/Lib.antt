@@ -1,0 +1,6 @@
+pub mod Laws
+pub mod Fields
+pub mod Lines
+pub mod RoundTrip
+pub mod Examples
+pub mod Events

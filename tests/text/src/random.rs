@@ -1,0 +1,77 @@
+//! Random events and the ways to damage a line.
+use crate::model::{Event, KINDS};
+
+/// xorshift64*
+pub struct Random(u64);
+
+impl Random {
+    pub fn new(seed: u64) -> Self {
+        Random(seed.wrapping_mul(0x9e37_79b9_7f4a_7c15) | 1)
+    }
+
+    pub fn next(&mut self) -> u64 {
+        self.0 ^= self.0 >> 12;
+        self.0 ^= self.0 << 25;
+        self.0 ^= self.0 >> 27;
+        self.0.wrapping_mul(0x2545_f491_4f6c_dd1d)
+    }
+
+    /// Below n, which is not 0.
+    pub fn below(&mut self, n: u64) -> u64 {
+        self.next() % n
+    }
+
+    /// Of every width, and often next to a power of ten or of two.
+    pub fn number(&mut self) -> u64 {
+        let near = self.below(3).wrapping_sub(1);
+        match self.below(4) {
+            0 => self.below(20),
+            1 => 10u64.pow(self.below(20) as u32).wrapping_add(near),
+            2 => 1u64.rotate_left(self.below(64) as u32).wrapping_add(near),
+            _ => self.next() >> self.below(64),
+        }
+    }
+
+    pub fn bytes(&mut self, length: usize) -> Vec<u8> {
+        (0..length).map(|_| (self.next() >> 32) as u8).collect()
+    }
+
+    /// An event of a kind, the numbers that it does not have 0, and its data.
+    pub fn event(&mut self, kind: u64, size: usize) -> (Event, Vec<u8>) {
+        let (_, count, payload) = KINDS[kind as usize - 1];
+        let mut numbers = [0; 3];
+        numbers[..count].iter_mut().for_each(|n| *n = self.number());
+        let data = if payload { self.bytes(size) } else { Vec::new() };
+        (Event { code: 0, kind, a: numbers[0], b: numbers[1], c: numbers[2] }, data)
+    }
+
+    pub fn kind(&mut self) -> u64 {
+        1 + self.below(KINDS.len() as u64)
+    }
+
+    /// A byte that is often one that lines are made of, or next to one.
+    fn byte(&mut self) -> u8 {
+        const OFTEN: &[u8] = b",,\n\r 00199/:abfg`AFG+-\0putviewxz";
+        match self.below(3) {
+            0 => self.next() as u8,
+            _ => OFTEN[self.below(OFTEN.len() as u64) as usize],
+        }
+    }
+
+    /// The line with the byte at a place changed, cut out, doubled, or another one inserted before it; or the line cut off there.
+    pub fn damage(&mut self, line: &[u8], place: usize, way: usize) -> Vec<u8> {
+        let mut damaged = line.to_vec();
+        match way {
+            0 => damaged[place] = self.byte(),
+            1 => damaged[place] ^= 1 << self.below(8),
+            2 => drop(damaged.remove(place)),
+            3 => damaged.insert(place, line[place]),
+            4 => damaged.insert(place, self.byte()),
+            _ => damaged.truncate(place),
+        }
+        damaged
+    }
+}
+
+/// The ways to damage a line at a place.
+pub const WAYS: usize = 6;
