@@ -11,9 +11,9 @@ pub enum Number {
     Malformed,
 }
 
-// v with one more digit.
-fn push_digit(v: u64, b: u8) -> Number
-    ensures { λ r. ⌜ r ≡ answer (push v b) ⌝ }
+// A number with one more digit.
+fn push_digit(number: u64, b: u8) -> Number
+    ensures { λ r. ⌜ r ≡ answer (push number b) ⌝ }
 {
     if b < 48 {
         return Number::Malformed;
@@ -22,50 +22,50 @@ fn push_digit(v: u64, b: u8) -> Number
         return Number::Malformed;
     }
     let d = (b - 48) as u64;
-    if (0xffff_ffff_ffff_ffff - d) / 10 < v {
+    if (0xffff_ffff_ffff_ffff - d) / 10 < number {
         return Number::Malformed;
     }
-    Number::Value(10 * v + d)
+    Number::Value(10 * number + d)
 }
 
 // The number that digits spell, leading zeros and no digits taken too.
-fn spell(s: &[u8]) -> Number
-    ensures { λ r. ⌜ r ≡ answer (spelled 0 (now (s .entry))) ⌝ }
+fn spell(digits: &[u8]) -> Number
+    ensures { λ r. ⌜ r ≡ answer (spelled 0 (now (digits .entry))) ⌝ }
 {
-    let mut v: u64 = 0;
+    let mut number: u64 = 0;
     let mut i = 0;
-    while i < s.len() {
-        let next = push_digit(v, s[i]);
+    while i < digits.len() {
+        let next = push_digit(number, digits[i]);
         let Number::Value(w) = next else {
             return Number::Malformed;
         };
-        v = w;
+        number = w;
         i += 1;
     }
-    Number::Value(v)
+    Number::Value(number)
 }
 
 // The number that a whole text is, written as `write` writes it.
-pub fn read(s: &[u8]) -> Number
-    ensures { λ r. ⌜ r ≡ answer (number-of (now (s .entry))) ⌝ }
+pub fn read(digits: &[u8]) -> Number
+    ensures { λ r. ⌜ r ≡ answer (number-of (now (digits .entry))) ⌝ }
 {
-    if s.len() == 0 {
+    if digits.len() == 0 {
         return Number::Malformed;
     }
-    if s.len() == 1 {
-        return spell(s);
+    if digits.len() == 1 {
+        return spell(digits);
     }
-    if s[0] == 48 {
+    if digits[0] == 48 {
         return Number::Malformed;
     }
-    spell(s)
+    spell(digits)
 }
 
 // How many digits a number has.
-pub fn width(v: u64) -> usize
-    ensures { λ r. ⌜ (r ≡ length (decimal v)) × (r ≤ 20) ⌝ }
+pub fn width(number: u64) -> usize
+    ensures { λ r. ⌜ (r ≡ length (decimal number)) × (r ≤ 20) ⌝ }
 {
-    let mut x = v;
+    let mut x = number;
     let mut n: usize = 0;
     while 10000 <= x {
         x = x / 10000;
@@ -99,12 +99,12 @@ fn last_digit(x: u64) -> u8
 }
 
 // The digits at the front of an area; how many they are.
-fn write_front(v: u64, area: &mut [u8]) -> usize
-    requires { ⌜ length (decimal v) ≤ length (now area) ⌝ }
-    ensures { λ r. ⌜ (r ≡ length (decimal v)) × (now (area .exit) ≡ onto 0 (decimal v) (now (area .entry))) ⌝ }
+fn write_front(number: u64, area: &mut [u8]) -> usize
+    requires { ⌜ length (decimal number) ≤ length (now area) ⌝ }
+    ensures { λ r. ⌜ (r ≡ length (decimal number)) × (now (area .exit) ≡ onto 0 (decimal number) (now (area .entry))) ⌝ }
 {
-    let n = width(v);
-    let mut x = v;
+    let n = width(number);
+    let mut x = number;
     let mut i = n - 1;
     while 10 <= x {
         area[i] = last_digit(x);
@@ -116,9 +116,9 @@ fn write_front(v: u64, area: &mut [u8]) -> usize
 }
 
 // The digits from a place on; the place after them.
-pub fn write(v: u64, area: &mut [u8], at: usize) -> usize
-    requires { ⌜ at + length (decimal v) ≤ length (now area) ⌝ }
-    ensures { λ r. ⌜ (r ≡ at + length (decimal v)) × (now (area .exit) ≡ onto at (decimal v) (now (area .entry))) ⌝ }
+pub fn write(number: u64, area: &mut [u8], at: usize) -> usize
+    requires { ⌜ at + length (decimal number) ≤ length (now area) ⌝ }
+    ensures { λ r. ⌜ (r ≡ at + length (decimal number)) × (now (area .exit) ≡ onto at (decimal number) (now (area .entry))) ⌝ }
 {
-    at + write_front(v, &mut area[at..])
+    at + write_front(number, &mut area[at..])
 }

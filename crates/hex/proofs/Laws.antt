@@ -11,6 +11,7 @@ use lib.Dec.{ltb, eqb}
 use lib.ListN.{length, take, drop, getD, set, drop-of-length-le}
 use lib.Seq.{drop-cons, take-suc, length-take-le, take-all, paste, paste-suc}
 use Rattle.area.specs.Area.{onto}
+use Rattle.lists.specs.Tests.{_and_}
 use Rattle.lists.proofs.Tests.{impossible, by, by-lt}
 use Rattle.area.proofs.Laws.{onto-onto}
 use Rattle.area.proofs.Each.{Above, Below, each-none, each-more}
@@ -108,14 +109,13 @@ digits-at (b ∷ s) zero h t = digits-head b s t .0
 digits-at (b ∷ s) (suc i) h t = digits-at s i (omega arith) (digits-head b s t .1)
 
 -- a turn of the loop that looks at each digit
-module _ (s : List ℕ) (i : ℕ) (h : i < length s) where
-  pub digits-on : is-digit (getD s i 0) ≡ true → only-digits (drop i s) ≡ only-digits (drop (i + 1) s)
-  unfolding only-digits
-  digits-on t = rw (drop-cons s i 0 h, t, add-one)
+digits-append : (s : List ℕ) (b : ℕ) → only-digits (s ++ (b ∷ [])) ≡ (only-digits s and is-digit b)
+unfolding only-digits _and_
+digits-append [] b = by (is-digit b) (λ e. rw e) (λ e. rw e)
+digits-append (a ∷ s) b = by (is-digit a) (λ e. rw e (digits-append s b)) (λ e. rw e)
 
-  pub digits-off : is-digit (getD s i 0) ≡ false → only-digits (drop i s) ≡ false
-  unfolding only-digits
-  digits-off f = rw (drop-cons s i 0 h, f)
+pub digits-turn : (s : List ℕ) (i : ℕ) → i < length s → only-digits (take (i + 1) s) ≡ (only-digits (take i s) and is-digit (getD s i 0))
+digits-turn s i h = rw (add-one, take-suc s i 0 h) (digits-append (take i s) (getD s i 0))
 
 pub unhex-length : (n : ℕ) (s : List ℕ) → length s ≡ 2 * n → length (unhex s) ≡ n
 unfolding unhex

@@ -4,6 +4,7 @@ ghost use mathlib.Core.Bool.{true};
 ghost use mathlib.Core.List.{[], _∷_};
 ghost use Prim.Native.Nat.{_+_, _*_, _≤_, _<_};
 ghost use lib.ListN.{length, getD};
+ghost use Rattle.lists.specs.Tests.{_and_};
 ghost use Rattle.area.specs.Area.{onto};
 ghost use Rattle.hex.specs.Hex.{hex-digit, hex, is-digit, digit-value, only-digits, unhex, spells-bytes};
 
@@ -37,49 +38,57 @@ fn value(b: u8) -> u8
     b % 16 + 9 * (b / 64)
 }
 
-fn all_digits(s: &[u8]) -> bool
-    ensures { λ r. ⌜ r ≡ only-digits (now (s .entry)) ⌝ }
+fn both(a: bool, b: bool) -> bool
+    ensures { λ r. ⌜ r ≡ (a and b) ⌝ }
 {
-    let mut i = 0;
-    while i < s.len() {
-        if is_digit(s[i]) {
-            i += 1;
-        } else {
-            return false;
-        }
+    if a {
+        return b;
     }
-    true
+    false
+}
+
+// Every byte is looked at: without a way out of the loop it is done many bytes at a time.
+fn all_digits(digits: &[u8]) -> bool
+    ensures { λ r. ⌜ r ≡ only-digits (now (digits .entry)) ⌝ }
+{
+    let mut good = true;
+    let mut i = 0;
+    while i < digits.len() {
+        good = both(good, is_digit(digits[i]));
+        i += 1;
+    }
+    good
 }
 
 // Is a text n bytes?
-pub fn is_bytes(s: &[u8], n: usize) -> bool
-    ensures { λ r. ⌜ r ≡ spells-bytes n (now (s .entry)) ⌝ }
+pub fn is_bytes(digits: &[u8], n: usize) -> bool
+    ensures { λ r. ⌜ r ≡ spells-bytes n (now (digits .entry)) ⌝ }
 {
-    if s.len() % 2 != 0 {
+    if digits.len() % 2 != 0 {
         return false;
     }
-    if s.len() / 2 != n {
+    if digits.len() / 2 != n {
         return false;
     }
-    all_digits(s)
+    all_digits(digits)
 }
 
 // The byte that two digits give.
-fn pair(s: &[u8], at: usize) -> u8
-    requires { ⌜ (at + 1 < length (now s)) × (only-digits (now s) ≡ true) ⌝ }
-    ensures { λ r. ⌜ r ≡ 16 * digit-value (getD (now (s .entry)) at 0) + digit-value (getD (now (s .entry)) (at + 1) 0) ⌝ }
+fn pair(digits: &[u8], at: usize) -> u8
+    requires { ⌜ (at + 1 < length (now digits)) × (only-digits (now digits) ≡ true) ⌝ }
+    ensures { λ r. ⌜ r ≡ 16 * digit-value (getD (now (digits .entry)) at 0) + digit-value (getD (now (digits .entry)) (at + 1) 0) ⌝ }
 {
-    16 * value(s[at]) + value(s[at + 1])
+    16 * value(digits[at]) + value(digits[at + 1])
 }
 
 // The bytes of a text fill the area.
-pub fn decode(s: &[u8], area: &mut [u8])
-    requires { ⌜ spells-bytes (length (now area)) (now s) ≡ true ⌝ }
-    ensures { λ _. ⌜ now (area .exit) ≡ unhex (now (s .entry)) ⌝ }
+pub fn decode(digits: &[u8], area: &mut [u8])
+    requires { ⌜ spells-bytes (length (now area)) (now digits) ≡ true ⌝ }
+    ensures { λ _. ⌜ now (area .exit) ≡ unhex (now (digits .entry)) ⌝ }
 {
     let mut i = 0;
     while i < area.len() {
-        area[i] = pair(s, 2 * i);
+        area[i] = pair(digits, 2 * i);
         i += 1;
     }
 }

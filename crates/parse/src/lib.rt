@@ -58,12 +58,12 @@ pub enum Reading {
 }
 
 // Where the first field of a text ends.
-fn field_end(s: &[u8]) -> usize
-    ensures { λ r. ⌜ (r ≤ length (now (s .entry))) × (fields (now (s .entry)) ≡ take r (now (s .entry)) ∷ fields-from (now (s .entry)) (r + 1)) ⌝ }
+fn field_end(body: &[u8]) -> usize
+    ensures { λ r. ⌜ (r ≤ length (now (body .entry))) × (fields (now (body .entry)) ≡ take r (now (body .entry)) ∷ fields-from (now (body .entry)) (r + 1)) ⌝ }
 {
     let mut i = 0;
-    while i < s.len() {
-        if s[i] == b',' {
+    while i < body.len() {
+        if body[i] == b',' {
             return i;
         }
         i += 1;
@@ -72,14 +72,14 @@ fn field_end(s: &[u8]) -> usize
 }
 
 // The number in the field that starts at a place.
-fn next_number(s: &[u8], at: usize) -> Field
-    ensures { λ r. ⌜ FieldIs (now (s .entry)) at r ⌝ }
+fn next_number(body: &[u8], at: usize) -> Field
+    ensures { λ r. ⌜ FieldIs (now (body .entry)) at r ⌝ }
 {
-    if s.len() < at {
+    if body.len() < at {
         return Field::Malformed;
     }
-    let end = at + field_end(&s[at..]);
-    let number = decimal::read(&s[at..end]);
+    let end = at + field_end(&body[at..]);
+    let number = decimal::read(&body[at..end]);
     match number {
         Number::Value(v) => Field::Value(v, end + 1),
         Number::Malformed => Field::Malformed,
@@ -87,9 +87,9 @@ fn next_number(s: &[u8], at: usize) -> Field
 }
 
 // The n numbers from the field that starts at a place.
-fn numbers_from(s: &[u8], at: usize, n: u8) -> Numbers
+fn numbers_from(body: &[u8], at: usize, n: u8) -> Numbers
     requires { ⌜ n ≤ 3 ⌝ }
-    ensures { λ r. ⌜ NumbersAre n (now (s .entry)) at r ⌝ }
+    ensures { λ r. ⌜ NumbersAre n (now (body .entry)) at r ⌝ }
 {
     if n == 0 {
         return Numbers::Read {
@@ -99,7 +99,7 @@ fn numbers_from(s: &[u8], at: usize, n: u8) -> Numbers
             next: at,
         };
     }
-    let first = next_number(s, at);
+    let first = next_number(body, at);
     let Field::Value(a, second_at) = first else {
         return Numbers::Wrong;
     };
@@ -111,7 +111,7 @@ fn numbers_from(s: &[u8], at: usize, n: u8) -> Numbers
             next: second_at,
         };
     }
-    let second = next_number(s, second_at);
+    let second = next_number(body, second_at);
     let Field::Value(b, third_at) = second else {
         return Numbers::Wrong;
     };
@@ -123,7 +123,7 @@ fn numbers_from(s: &[u8], at: usize, n: u8) -> Numbers
             next: third_at,
         };
     }
-    let third = next_number(s, third_at);
+    let third = next_number(body, third_at);
     let Field::Value(c, next) = third else {
         return Numbers::Wrong;
     };
@@ -131,26 +131,26 @@ fn numbers_from(s: &[u8], at: usize, n: u8) -> Numbers
 }
 
 // The event of a text without its line feed.
-fn read_body(s: &[u8], size: usize) -> Reading
-    ensures { λ r. ⌜ ReadingIs size (now (s .entry)) r ⌝ }
+fn read_body(body: &[u8], size: usize) -> Reading
+    ensures { λ r. ⌜ ReadingIs size (now (body .entry)) r ⌝ }
 {
-    let end = field_end(s);
-    let kind = text::find_kind(&s[..end]);
+    let end = field_end(body);
+    let kind = text::find_kind(&body[..end]);
     if kind == 0 {
         return Reading::Refused;
     }
     let shape = text::shape_of(kind);
     let payload = shape.payload;
     let count = shape.numbers;
-    let numbers = numbers_from(s, end + 1, count);
+    let numbers = numbers_from(body, end + 1, count);
     let Numbers::Read { a, b, c, next } = numbers else {
         return Reading::Refused;
     };
     if payload {
-        if s.len() < next {
+        if body.len() < next {
             return Reading::Refused;
         }
-        if hex::is_bytes(&s[next..], size) {
+        if hex::is_bytes(&body[next..], size) {
             return Reading::Loaded {
                 kind: kind as u64,
                 a,
@@ -161,7 +161,7 @@ fn read_body(s: &[u8], size: usize) -> Reading
         }
         return Reading::Refused;
     }
-    if s.len() < next {
+    if body.len() < next {
         return Reading::Plain {
             kind: kind as u64,
             a,
@@ -173,12 +173,12 @@ fn read_body(s: &[u8], size: usize) -> Reading
 }
 
 // The same, with the data written where it is lent.
-fn parse_body(s: &[u8], size: usize, data: &mut [u8]) -> Parsed
-    ensures { λ r. ⌜ (r ≡ answer-to (with-room size (length (now («data» .entry))) (parts-of-fields size (fields (now (s .entry))))))
+fn parse_body(body: &[u8], size: usize, data: &mut [u8]) -> Parsed
+    ensures { λ r. ⌜ (r ≡ answer-to (with-room size (length (now («data» .entry))) (parts-of-fields size (fields (now (body .entry))))))
         × (now («data» .exit)
-        ≡ onto 0 (bytes-read (with-room size (length (now («data» .entry))) (parts-of-fields size (fields (now (s .entry)))))) (now («data» .entry))) ⌝ }
+        ≡ onto 0 (bytes-read (with-room size (length (now («data» .entry))) (parts-of-fields size (fields (now (body .entry)))))) (now («data» .entry))) ⌝ }
 {
-    let reading = read_body(s, size);
+    let reading = read_body(body, size);
     match reading {
         Reading::Plain { kind, a, b, c } => Parsed::Is { kind, a, b, c },
         Reading::Loaded {
@@ -191,7 +191,7 @@ fn parse_body(s: &[u8], size: usize, data: &mut [u8]) -> Parsed
             if data.len() != size {
                 return Parsed::Refused;
             }
-            hex::decode(&s[from..], data);
+            hex::decode(&body[from..], data);
             Parsed::Is { kind, a, b, c }
         }
         Reading::Refused => Parsed::Refused,
@@ -211,18 +211,18 @@ pub fn parse(line: &[u8], size: usize, data: &mut [u8]) -> Parsed
 }
 
 // The settings of a text without its line feed.
-fn settings_body(s: &[u8]) -> SettingsLine
-    ensures { λ r. ⌜ r ≡ settings-answer (settings-of-fields (fields (now (s .entry)))) ⌝ }
+fn settings_body(body: &[u8]) -> SettingsLine
+    ensures { λ r. ⌜ r ≡ settings-answer (settings-of-fields (fields (now (body .entry)))) ⌝ }
 {
-    let first = next_number(s, 0);
+    let first = next_number(body, 0);
     let Field::Value(places, second_at) = first else {
         return SettingsLine::Refused;
     };
-    let others = numbers_from(s, second_at, 3);
+    let others = numbers_from(body, second_at, 3);
     let Numbers::Read { a, b, c, next } = others else {
         return SettingsLine::Refused;
     };
-    if s.len() < next {
+    if body.len() < next {
         return SettingsLine::Are {
             places,
             size: a,

@@ -69,12 +69,12 @@ fn line_length(kind: u64, a: u64, b: u64, c: u64, data: &[u8], size: usize) -> u
 }
 
 // A comma and a number, from a place on; the place after them.
-fn put_number(v: u64, line: &mut [u8], at: usize) -> usize
-    requires { ⌜ at + (1 + length (decimal v)) ≤ length (now line) ⌝ }
-    ensures { λ r. ⌜ (r ≡ at + (1 + length (decimal v))) × (now (line .exit) ≡ onto at (comma ∷ decimal v) (now (line .entry))) ⌝ }
+fn put_number(number: u64, line: &mut [u8], at: usize) -> usize
+    requires { ⌜ at + (1 + length (decimal number)) ≤ length (now line) ⌝ }
+    ensures { λ r. ⌜ (r ≡ at + (1 + length (decimal number))) × (now (line .exit) ≡ onto at (comma ∷ decimal number) (now (line .entry))) ⌝ }
 {
     area::put(line, at, b',');
-    decimal::write(v, line, at + 1)
+    decimal::write(number, line, at + 1)
 }
 
 // The first n of three numbers, from a place on; the place after them.

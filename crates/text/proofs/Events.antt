@@ -14,7 +14,7 @@ use Rattle.decimal.specs.Decimal.{and-then}
 use Rattle.decimal.proofs.Laws.{then-some}
 use Rattle.rules.specs.Event.{Event, put, copy, savelog, map, send, deliver, drop, savemap, done, get, abandon, learn, reset, crash, lose, rise, join, view}
 use Rattle.rules.specs.Event.{fetch, ready, mend, collect, unknown, kind-count, Kind, kinds, no-kind, kind-at, Parts, event-of, parts-of}
-use Rattle.text.specs.Lines.{parts, line-of, read-parts, is-well-formed, event-line, read-event, has-line}
+use Rattle.text.specs.Lines.{parts, line-of, read-parts, is-event, is-well-formed, event-line, read-event, has-line}
 use Rattle.text.proofs.Laws.{kinds-count}
 use Rattle.text.proofs.RoundTrip.{WellFormed, well-formed, parts-of-line, line-of-parts, parts-well-formed}
 
@@ -164,5 +164,5 @@ read-has-line S l e t = was S l e t .fits
 
 -- what stands for a refused line has none
 pub unknown-no-line : (S : ℕ) → has-line S unknown ≡ false
-unfolding has-line is-well-formed parts-of _and_
+unfolding has-line is-well-formed is-event parts-of _and_
 unknown-no-line S = refl

@@ -4,3 +4,4 @@ pub mod Lines
 pub mod RoundTrip
 pub mod Examples
 pub mod Events
+pub mod Short

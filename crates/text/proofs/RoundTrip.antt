@@ -22,7 +22,7 @@ use Rattle.text.specs.Words.{kind-of-word}
 use Rattle.text.specs.Fields.{parted, fields}
 use Rattle.rules.specs.Event.{Parts}
 use Rattle.text.specs.Lines.{parts, longest, line-feed, field-texts, line-of, Taken, taken, take-numbers, take-bytes, parts-of-kind, parts-of-fields}
-use Rattle.text.specs.Lines.{is-line, without-feed, read-parts, only-below, is-well-formed}
+use Rattle.text.specs.Lines.{is-line, without-feed, read-parts, only-below, is-event, is-well-formed}
 use Rattle.text.proofs.Laws.{form-ok, KindIs, kind-some}
 use Rattle.text.proofs.Fields.{Plain, fields-there, first, fields-back}
 
@@ -47,7 +47,7 @@ pub record WellFormed (S : ℕ) (e : Parts) : Type 0 where
   pub short : length (line-of e) ≤ longest
 
 pub well-formed : (S : ℕ) (e : Parts) → is-well-formed S e ≡ true → WellFormed S e
-unfolding is-well-formed
+unfolding is-well-formed is-event
 well-formed S e t =
     let t6 = and-l _ _ t in
     let t5 = and-l _ _ t6 in
@@ -65,7 +65,7 @@ well-formed S e t =
     }
 
 pub formed-well : (S : ℕ) (e : Parts) → WellFormed S e → is-well-formed S e ≡ true
-unfolding is-well-formed
+unfolding is-well-formed is-event
 formed-well S e w =
     both _ _ (both _ _ (both _ _ (both _ _ (both _ _ (both _ _ (le-leb 1 (e .kind) (w .least)) (le-leb (e .kind) kind-count (w .most)))
     (eq-eqb (length (e .numbers)) (kind-at (e .kind) .numbers) (w .arity))) (of-below (w .fit)))

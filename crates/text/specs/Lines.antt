@@ -73,14 +73,19 @@ without-feed l = take (length l - 1) l
 unfoldable pub read-parts : ℕ → List ℕ → Option Parts
 read-parts S l = cond (is-line l) (parts-of-fields S (fields (without-feed l))) none
 
--- ---- which parts have a line: a known kind, as many numbers as it has, below 2^64, data of S bytes where it has data, and a line that is not too long
+-- ---- which parts have a line
 unfoldable pub only-below : ℕ → List ℕ → Bool
 only-below n l = every (λ x. ltb x n) l
 
-unfoldable pub is-well-formed : ℕ → Parts → Bool
-is-well-formed S e =
+-- a known kind, as many numbers as it has, below 2^64, and data of S bytes where it has data
+unfoldable pub is-event : ℕ → Parts → Bool
+is-event S e =
     leb 1 (e .kind) and leb (e .kind) kind-count and eqb (length (e .numbers)) (kind-at (e .kind) .numbers) and only-below (2 ^ 64) (e .numbers)
-    and eqb (length (e .bytes)) (cond (kind-at (e .kind) .payload) S 0) and only-below 256 (e .bytes) and leb (length (line-of e)) longest
+    and eqb (length (e .bytes)) (cond (kind-at (e .kind) .payload) S 0) and only-below 256 (e .bytes)
+
+-- and a line that is not too long: where S is within its limit, none is
+unfoldable pub is-well-formed : ℕ → Parts → Bool
+is-well-formed S e = is-event S e and leb (length (line-of e)) longest
 
 -- ---- of the rules' events
 unfoldable pub event-line : Event → List ℕ

@@ -19,7 +19,7 @@ loop-holds : tie.Need-loop-holds Inv-loop μ-loop
 loop-holds c = (search needs, omega arith)
 
 add-n : tie.Need-add-n Inv-loop μ-loop
-add-n c = omega (arith, decimal-most (c .before .before .args .v))
+add-n c = omega (arith, decimal-most (c .before .before .args .number))
 
 loop-less : tie.Need-loop-less Inv-loop μ-loop
 loop-less c = search needs
@@ -33,10 +33,10 @@ short-width-requires : tie.Need-short-width-requires Inv-loop μ-loop
 short-width-requires c κs = search needs
 
 add-result : tie.Need-add-result Inv-loop μ-loop
-add-result c = omega (arith, decimal-most (c .before .before .before .args .v))
+add-result c = omega (arith, decimal-most (c .before .before .before .args .number))
 
 returns : tie.Need-returns Inv-loop μ-loop
-returns c = (omega (arith, c .short-width .ensures .0), omega (arith, c .short-width .ensures .0, decimal-most (c .before .before .before .args .v)))
+returns c = (omega (arith, c .short-width .ensures .0), omega (arith, c .short-width .ensures .0, decimal-most (c .before .before .before .args .number)))
 
 pub width-spec : {M : Type 1} → statement M
 width-spec = tie.close (tie.spec Inv-loop μ-loop loop-holds add-n loop-less loop-again short-width-requires add-result returns)

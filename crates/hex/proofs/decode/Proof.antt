@@ -17,16 +17,16 @@ abbrev μ-loop : tie.MeasureT-loop
 μ-loop s area₀ i₀ area i = length area - i
 
 loop-holds : tie.Need-loop-holds Inv-loop μ-loop
-loop-holds c = (search needs, refl, paste-zero (c .before .before .args .area .now) 0 (unhex (c .before .before .args .s .now)))
+loop-holds c = (search needs, refl, paste-zero (c .before .before .args .area .now) 0 (unhex (c .before .before .args .digits .now)))
 
 mul-pair : tie.Need-mul-pair Inv-loop μ-loop
 mul-pair c =
-    let b = is-bytes (length (c .before .before .before .before .args .area .now)) (c .before .before .before .before .args .s .now)
+    let b = is-bytes (length (c .before .before .before .before .args .area .now)) (c .before .before .before .before .args .digits .now)
     (c .before .before .before .before .pre) in omega arith
 
 pair-requires : tie.Need-pair-requires Inv-loop μ-loop
 pair-requires c κs =
-    let b = is-bytes (length (c .before .before .before .before .args .area .now)) (c .before .before .before .before .args .s .now)
+    let b = is-bytes (length (c .before .before .before .before .args .area .now)) (c .before .before .before .before .args .digits .now)
     (c .before .before .before .before .pre) in (omega arith, b .1)
 
 slice-write-area : tie.Need-slice-write-area Inv-loop μ-loop
@@ -42,12 +42,12 @@ loop-again : tie.Need-loop-again Inv-loop μ-loop
 loop-again c =
     let a = c .before .before .before .before .before .args in
     let l = c .before .before .loop in
-    let b = is-bytes (length (a .area .now)) (a .s .now) (c .before .before .before .before .before .pre) in
-    let u = unhex-length (length (a .area .now)) (a .s .now) (b .0) in (
+    let b = is-bytes (length (a .area .now)) (a .digits .now) (c .before .before .before .before .before .pre) in
+    let u = unhex-length (length (a .area .now)) (a .digits .now) (b .0) in (
       rw length-set (omega arith),
       length-set (l .area) (l .i) (c .pair .result) ∙ l .inv .1,
-      decode-turn (unhex (a .s .now)) (a .area .now) u (l .area) (l .i) (c .pair .result) (omega arith) (l .inv .2)
-          (c .pair .ensures ∙ sym (unhex-at (l .i) (a .s .now) (omega arith))),
+      decode-turn (unhex (a .digits .now)) (a .area .now) u (l .area) (l .i) (c .pair .result) (omega arith) (l .inv .2)
+          (c .pair .ensures ∙ sym (unhex-at (l .i) (a .digits .now) (omega arith))),
     )
 
 same-length : tie.Need-same-length Inv-loop μ-loop
@@ -57,9 +57,9 @@ returns : tie.Need-returns Inv-loop μ-loop
 returns c =
     let a = c .before .before .before .before .args in
     let l = c .before .loop in
-    let b = is-bytes (length (a .area .now)) (a .s .now) (c .before .before .before .before .pre) in
-    let u = unhex-length (length (a .area .now)) (a .s .now) (b .0) in
-    decode-done (unhex (a .s .now)) (a .area .now) u (l .area) (l .i) (omega arith) (l .inv .2)
+    let b = is-bytes (length (a .area .now)) (a .digits .now) (c .before .before .before .before .pre) in
+    let u = unhex-length (length (a .area .now)) (a .digits .now) (b .0) in
+    decode-done (unhex (a .digits .now)) (a .area .now) u (l .area) (l .i) (omega arith) (l .inv .2)
 
 pub decode-spec : {M : Type 1} → statement M
 decode-spec =

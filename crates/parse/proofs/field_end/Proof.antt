@@ -17,14 +17,14 @@ abbrev μ-loop : tie.MeasureT-loop
 μ-loop s i₀ i = length s - i
 
 loop-holds : tie.Need-loop-holds Inv-loop μ-loop
-loop-holds c = (search needs, sym (front-nothing (c .args .s .now)))
+loop-holds c = (search needs, sym (front-nothing (c .args .body .now)))
 
 shared-slice-read-if1 : tie.Need-shared-slice-read-if1 Inv-loop μ-loop
 shared-slice-read-if1 c = search needs
 
 returns : tie.Need-returns Inv-loop μ-loop
 returns c =
-    let s = c .before .before .before .before .args .s .now in
+    let s = c .before .before .before .before .args .body .now in
     let l = c .before .before .before .loop in
     (omega arith, end-comma s (l .i) (l .inv .1) (omega arith) (c .if1 .taken))
 
@@ -36,13 +36,13 @@ loop-less c = search needs
 
 loop-again : tie.Need-loop-again Inv-loop μ-loop
 loop-again c =
-    let s = c .before .before .before .before .args .s .now in
+    let s = c .before .before .before .before .args .body .now in
     let l = c .before .before .before .loop in
     (omega arith, end-turn s (l .i) (l .inv .1) (omega arith) (c .if1 .left))
 
 returns-2 : tie.Need-returns-2 Inv-loop μ-loop
 returns-2 c =
-    let s = c .before .before .args .s .now in
+    let s = c .before .before .args .body .now in
     let l = c .before .loop in
     (omega arith, end-text s (l .i) (l .inv .1) (omega arith))
 

@@ -14,22 +14,22 @@ use Rattle.parse.proofs.next_number.Tie as tie
 
 -- the field that starts at the place
 field : (c : tie.After-field-end)
-    → fields-from (c .before .before .before .before .args .s .now) (c .before .before .before .before .args .at)
+    → fields-from (c .before .before .before .before .args .body .now) (c .before .before .before .before .args .at)
     ≡ take (c .before .before .before .before .args .at + c .field-end .result - c .before .before .before .before .args .at)
-    (drop (c .before .before .before .before .args .at) (c .before .before .before .before .args .s .now))
-    ∷ fields-from (c .before .before .before .before .args .s .now) (c .before .before .before .before .args .at + c .field-end .result + 1)
+    (drop (c .before .before .before .before .args .at) (c .before .before .before .before .args .body .now))
+    ∷ fields-from (c .before .before .before .before .args .body .now) (c .before .before .before .before .args .at + c .field-end .result + 1)
 field c =
     let a = c .before .before .before .before .args in
     let e = c .field-end .result in
     let n : e ≡ a .at + e - a .at = omega arith in
-    next-field (a .s .now) (take (length (a .s .now) - a .at) (drop (a .at) (a .s .now))) (a .at) e (c .before .before .if1 .left)
-    (part-all (a .s .now) (a .at)) (c .field-end .ensures .1)
-    ∙ ap (λ (k : ℕ). take k (drop (a .at) (a .s .now)) ∷ fields-from (a .s .now) (a .at + e + 1)) n
+    next-field (a .body .now) (take (length (a .body .now) - a .at) (drop (a .at) (a .body .now))) (a .at) e (c .before .before .if1 .left)
+    (part-all (a .body .now) (a .at)) (c .field-end .ensures .1)
+    ∙ ap (λ (k : ℕ). take k (drop (a .at) (a .body .now)) ∷ fields-from (a .body .now) (a .at + e + 1)) n
 
 returns : tie.Need-returns
 returns c =
     let a = c .before .before .args in
-    first-of-none (fields-from (a .s .now) (a .at)) (from-past (a .s .now) (a .at) (c .if1 .taken))
+    first-of-none (fields-from (a .body .now) (a .at)) (from-past (a .body .now) (a .at) (c .if1 .taken))
 
 sub-field-end : tie.Need-sub-field-end
 sub-field-end c = search needs
@@ -71,7 +71,7 @@ returns-2 : tie.Need-returns-2
 returns-2 c =
     let a = c .before .before .before .before .before .before .before .before .before .args in
     let e = c .before .before .before .before .before .field-end .result in
-    let s = a .s .now in
+    let s = a .body .now in
     let text = take (a .at + e - a .at) (drop (a .at) s) in
     let f = field (c .before .before .before .before .before) in
     let n = answer-value (number-of text) (c .before .number .given .0 .0) (sym (c .before .before .before .read .ensures) ∙ c .before .number .given .1) in
@@ -81,7 +81,7 @@ returns-3 : tie.Need-returns-3
 returns-3 c =
     let a = c .before .before .before .before .before .before .before .before .args in
     let e = c .before .before .before .before .field-end .result in
-    let s = a .s .now in
+    let s = a .body .now in
     let text = take (a .at + e - a .at) (drop (a .at) s) in
     let f = field (c .before .before .before .before) in
     first-is (fields-from s (a .at)) (fields-from s (a .at + e + 1)) text f

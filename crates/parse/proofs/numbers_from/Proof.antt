@@ -9,7 +9,7 @@ use Rattle.parse.proofs.numbers_from.Tie as tie
 returns : tie.Need-returns
 returns c =
     let a = c .before .before .args in
-    let s = a .s .now in
+    let s = a .body .now in
     three-0 (a .n) (fields-from s (a .at)) (c .if1 .taken)
 
 next-number-requires : tie.Need-next-number-requires
@@ -24,14 +24,14 @@ enum-told c = search needs
 returns-2 : tie.Need-returns-2
 returns-2 c =
     let a = c .before .before .before .before .before .args in
-    let s = a .s .now in
+    let s = a .body .now in
     wrong-1 (a .n) (fields-from s (a .at)) (omega arith)
     (stop-of s (a .at) (c .before .before .next-number .result) (c .before .before .next-number .ensures) (c .enum-told .given .1))
 
 returns-3 : tie.Need-returns-3
 returns-3 c =
     let a = c .before .before .before .before .before .before .before .args in
-    let s = a .s .now in
+    let s = a .body .now in
     let x = c .before .before .first in
     three-1 (a .n) (x .given .0 .0) (fields-from s (a .at)) (fields-from s (x .given .0 .1 .0)) (c .if2 .taken)
     (next-of s (a .at) (x .given .0 .0) (x .given .0 .1 .0) (c .before .before .before .before .next-number .result)
@@ -49,7 +49,7 @@ enum-told-2 c = search needs
 returns-4 : tie.Need-returns-4
 returns-4 c =
     let a = c .before .before .before .before .before .before .before .before .before .before .args in
-    let s = a .s .now in
+    let s = a .body .now in
     let x = c .before .before .before .before .before .first in
     wrong-2 (a .n) (x .given .0 .0) (fields-from s (a .at)) (fields-from s (x .given .0 .1 .0)) (omega arith)
     (next-of s (a .at) (x .given .0 .0) (x .given .0 .1 .0) (c .before .before .before .before .before .before .before .next-number .result)
@@ -59,7 +59,7 @@ returns-4 c =
 returns-5 : tie.Need-returns-5
 returns-5 c =
     let a = c .before .before .before .before .before .before .before .before .before .before .before .before .args in
-    let s = a .s .now in
+    let s = a .body .now in
     let x = c .before .before .before .before .before .before .before .first in
     let y = c .before .before .second in
     three-2 (a .n) (x .given .0 .0) (y .given .0 .0) (fields-from s (a .at)) (fields-from s (x .given .0 .1 .0)) (fields-from s (y .given .0 .1 .0))
@@ -81,7 +81,7 @@ enum-told-3 c = search needs
 returns-6 : tie.Need-returns-6
 returns-6 c =
     let a = c .before .before .before .before .before .before .before .before .before .before .before .before .before .before .before .args in
-    let s = a .s .now in
+    let s = a .body .now in
     let x = c .before .before .before .before .before .before .before .before .before .before .first in
     let y = c .before .before .before .before .before .second in
     wrong-3 (a .n) (x .given .0 .0) (y .given .0 .0) (fields-from s (a .at)) (fields-from s (x .given .0 .1 .0)) (fields-from s (y .given .0 .1 .0))
@@ -96,7 +96,7 @@ returns-6 c =
 returns-7 : tie.Need-returns-7
 returns-7 c =
     let a = c .before .before .before .before .before .before .before .before .before .before .before .before .before .before .before .before .args in
-    let s = a .s .now in
+    let s = a .body .now in
     let x = c .before .before .before .before .before .before .before .before .before .before .before .first in
     let y = c .before .before .before .before .before .before .second in
     let z = c .before .third in

@@ -18,7 +18,7 @@ use Rattle.parse.proofs.parse_body.Tie as tie
 
 -- an event with data was found, and where its data starts
 loaded : (c : tie.After-reading2)
-    → FoundAt (c .before .before .before .before .before .args .size) (c .before .before .before .before .before .args .s .now) (c .reading2 .given .0 .0)
+    → FoundAt (c .before .before .before .before .before .args .size) (c .before .before .before .before .before .args .body .now) (c .reading2 .given .0 .0)
     (c .reading2 .given .0 .1 .0) (c .reading2 .given .0 .1 .1 .0)
     (c .reading2 .given .0 .1 .1 .1 .0) (c .reading2 .given .0 .1 .1 .1 .1 .0)
 loaded c = rw (c .reading2 .given .1) at (c .before .before .read-body .ensures)
@@ -36,7 +36,7 @@ returns : tie.Need-returns
 returns c =
     let a = c .before .before .before .before .before .before .before .args in
     let d = a .«data» .now in
-    let o = parts-of-fields (a .size) (fields (a .s .now)) in
+    let o = parts-of-fields (a .size) (fields (a .body .now)) in
     refused (with-room (a .size) (length d) o) d (room-wrong (a .size) (length d) o (loaded (c .before .before) .found .payload) (c .if1 .taken))
 
 sub-decode : tie.Need-sub-decode
@@ -53,7 +53,7 @@ decode-requires c κs =
     let a = c .before .before .before .before .before .before .before .before .before .args in
     let from = c .before .before .before .before .reading2 .given .0 .1 .1 .1 .1 .0 in
     let n : length (a .«data» .now) ≡ a .size = omega arith in
-    rw (part-all (a .s .now) from, n) (loaded (c .before .before .before .before) .hexadecimal)
+    rw (part-all (a .body .now) from, n) (loaded (c .before .before .before .before) .hexadecimal)
 
 enum-told : tie.Need-enum-told
 enum-told c = search needs
@@ -63,7 +63,7 @@ returns-2 c =
     let a = c .before .before .before .before .before .before .args in
     let m = c .before .reading in
     let d = a .«data» .now in
-    let o = parts-of-fields (a .size) (fields (a .s .now)) in
+    let o = parts-of-fields (a .size) (fields (a .body .now)) in
     let g : Found o false (m .given .0 .0) (m .given .0 .1 .0) (m .given .0 .1 .1 .0) (m .given .0 .1 .1 .1 .0) [] =
     rw (m .given .1) at (c .before .before .before .read-body .ensures) in
     accepted o (with-room (a .size) (length d) o) false _ _ _ _ [] d d g (room-unasked (a .size) (length d) o (g .payload)) (sym (onto-nothing 0 d))
@@ -74,7 +74,7 @@ same-length c = search needs
 returns-3 : tie.Need-returns-3
 returns-3 c =
     let a = c .before .before .before .before .before .before .before .before .before .before .before .before .args in
-    let s = a .s .now in
+    let s = a .body .now in
     let d = a .«data» .now in
     let d' = c .before .before .decode .last .1 .0 in
     let from = c .before .before .before .before .before .before .before .reading2 .given .0 .1 .1 .1 .1 .0 in
@@ -90,7 +90,7 @@ returns-4 : tie.Need-returns-4
 returns-4 c =
     let a = c .before .before .before .before .before .args in
     let d = a .«data» .now in
-    let o = parts-of-fields (a .size) (fields (a .s .now)) in
+    let o = parts-of-fields (a .size) (fields (a .body .now)) in
     refused (with-room (a .size) (length d) o) d (room-none (a .size) (length d) o (rw (c .enum-told .given .1) at (c .before .before .read-body .ensures)))
 
 pub parse-body-spec : {M : Type 1} → statement M

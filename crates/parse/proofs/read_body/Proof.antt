@@ -16,9 +16,9 @@ use Rattle.parse.proofs.read_body.Tie as tie
 
 -- the word's field, the kind and its row of the table
 row : (c : tie.After-shape-of)
-    → Row (c .before .before .before .before .before .before .args .s .now)
-    (take (c .before .before .before .before .field-end .result) (c .before .before .before .before .before .before .args .s .now))
-    (fields-from (c .before .before .before .before .before .before .args .s .now) (c .before .before .before .before .field-end .result + 1))
+    → Row (c .before .before .before .before .before .before .args .body .now)
+    (take (c .before .before .before .before .field-end .result) (c .before .before .before .before .before .before .args .body .now))
+    (fields-from (c .before .before .before .before .before .before .args .body .now) (c .before .before .before .before .field-end .result + 1))
     (c .before .before .find-kind .result) (c .shape-of .result .numbers) (c .shape-of .result .payload)
 row c =
     let k = c .before .before .find-kind in
@@ -34,7 +34,7 @@ field-end-requires : tie.Need-field-end-requires
 field-end-requires c κs = search needs
 
 slice-aggregate-find-kind : tie.Need-slice-aggregate-find-kind
-slice-aggregate-find-kind c = sym (length-take-le (c .before .field-end .result) (c .before .before .before .args .s .now) (c .before .field-end .ensures .0))
+slice-aggregate-find-kind c = sym (length-take-le (c .before .field-end .result) (c .before .before .before .args .body .now) (c .before .field-end .ensures .0))
 
 find-kind-requires : tie.Need-find-kind-requires
 find-kind-requires c κs = search needs
@@ -42,7 +42,7 @@ find-kind-requires c κs = search needs
 returns : tie.Need-returns
 returns c =
     let a = c .before .before .before .before .before .args in
-    let s = a .s .now in
+    let s = a .body .now in
     let e = c .before .before .before .field-end in
     let k = c .before .find-kind in
     unknown (a .size) s (take (e .result) s) (fields-from s (e .result + 1)) (e .ensures .1) (k .result) (k .ensures .0) (c .if1 .taken)
@@ -69,7 +69,7 @@ enum-told c = search needs
 returns-2 : tie.Need-returns-2
 returns-2 c =
     let a = c .before .before .before .before .before .before .before .before .before .args in
-    let s = a .s .now in
+    let s = a .body .now in
     let e = c .before .before .before .before .before .before .before .field-end .result in
     let k = c .before .before .before .before .before .find-kind .result in
     let r = c .before .before .before .shape-of .result in
@@ -81,7 +81,7 @@ returns-2 c =
 returns-3 : tie.Need-returns-3
 returns-3 c =
     let a = c .before .before .before .before .before .before .before .before .before .before .before .before .args in
-    let s = a .s .now in
+    let s = a .body .now in
     let e = c .before .before .before .before .before .before .before .before .before .before .field-end .result in
     let k = c .before .before .before .before .before .before .before .before .find-kind .result in
     let r = c .before .before .before .before .before .before .shape-of .result in
@@ -111,7 +111,7 @@ is-bytes-requires c κs = search needs
 returns-4 : tie.Need-returns-4
 returns-4 c =
     let a = c .before .before .before .before .before .before .before .before .before .before .before .before .before .before .before .args in
-    let s = a .s .now in
+    let s = a .body .now in
     let e = c .before .before .before .before .before .before .before .before .before .before .before .before .before .field-end .result in
     let k = c .before .before .before .before .before .before .before .before .before .before .before .find-kind .result in
     let r = c .before .before .before .before .before .before .before .before .before .shape-of .result in
@@ -139,7 +139,7 @@ returns-4 c =
 returns-5 : tie.Need-returns-5
 returns-5 c =
     let a = c .before .before .before .before .before .before .before .before .before .before .before .before .before .before .before .args in
-    let s = a .s .now in
+    let s = a .body .now in
     let e = c .before .before .before .before .before .before .before .before .before .before .before .before .before .field-end .result in
     let k = c .before .before .before .before .before .before .before .before .before .before .before .find-kind .result in
     let r = c .before .before .before .before .before .before .before .before .before .shape-of .result in
@@ -161,7 +161,7 @@ returns-5 c =
 returns-6 : tie.Need-returns-6
 returns-6 c =
     let a = c .before .before .before .before .before .before .before .before .before .before .before .before .args in
-    let s = a .s .now in
+    let s = a .body .now in
     let e = c .before .before .before .before .before .before .before .before .before .before .field-end .result in
     let k = c .before .before .before .before .before .before .before .before .find-kind .result in
     let r = c .before .before .before .before .before .before .shape-of .result in
@@ -179,7 +179,7 @@ returns-6 c =
 returns-7 : tie.Need-returns-7
 returns-7 c =
     let a = c .before .before .before .before .before .before .before .before .before .before .before .before .args in
-    let s = a .s .now in
+    let s = a .body .now in
     let e = c .before .before .before .before .before .before .before .before .before .before .field-end .result in
     let k = c .before .before .before .before .before .before .before .before .find-kind .result in
     let r = c .before .before .before .before .before .before .shape-of .result in

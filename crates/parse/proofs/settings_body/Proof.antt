@@ -19,7 +19,7 @@ enum-told c = search needs
 
 returns : tie.Need-returns
 returns c =
-    let s = c .before .before .before .before .args .s .now in
+    let s = c .before .before .before .before .args .body .now in
     let r = c .before .before .next-number in
     answer-none (settings-of-fields (fields s)) (first-wrong s (stop-of s 0 (r .result) (r .ensures) (c .enum-told .given .1)))
 
@@ -34,14 +34,14 @@ enum-told-2 c = search needs
 
 -- the first number, and where the next starts
 first : (c : tie.After-first)
-    → Next (fields-from (c .before .before .before .before .args .s .now) 0) (c .first .given .0 .0)
-    (fields-from (c .before .before .before .before .args .s .now) (c .first .given .0 .1 .0))
+    → Next (fields-from (c .before .before .before .before .args .body .now) 0) (c .first .given .0 .0)
+    (fields-from (c .before .before .before .before .args .body .now) (c .first .given .0 .1 .0))
 first c =
-    let r = c .before .before .next-number in next-of (c .before .before .before .before .args .s .now) 0 _ _ (r .result) (r .ensures) (c .first .given .1)
+    let r = c .before .before .next-number in next-of (c .before .before .before .before .args .body .now) 0 _ _ (r .result) (r .ensures) (c .first .given .1)
 
 returns-2 : tie.Need-returns-2
 returns-2 c =
-    let s = c .before .before .before .before .before .before .before .before .args .s .now in
+    let s = c .before .before .before .before .before .before .before .before .args .body .now in
     let m = c .before .before .before .before .first in
     answer-none (settings-of-fields (fields s))
     (others-wrong s (m .given .0 .0) (m .given .0 .1 .0) (first (c .before .before .before .before))
@@ -49,19 +49,19 @@ returns-2 c =
 
 -- the other three, and where a next one would start
 others : (c : tie.After-others)
-    → Three 3 (fields-from (c .before .before .before .before .before .before .before .before .args .s .now)
+    → Three 3 (fields-from (c .before .before .before .before .before .before .before .before .args .body .now)
     (c .before .before .before .before .first .given .0 .1 .0)) (c .others .given .0 .0) (c .others .given .0 .1 .0) (c .others .given .0 .1 .1 .0)
-    (fields-from (c .before .before .before .before .before .before .before .before .args .s .now) (c .others .given .0 .1 .1 .1 .0))
+    (fields-from (c .before .before .before .before .before .before .before .before .args .body .now) (c .others .given .0 .1 .1 .1 .0))
 others c = rw (c .others .given .1) at (c .before .before .numbers-from .ensures)
 
 returns-3 : tie.Need-returns-3
 returns-3 c =
-    let s = c .before .before .before .before .before .before .before .before .before .before .args .s .now in
+    let s = c .before .before .before .before .before .before .before .before .before .before .args .body .now in
     settings-found s _ _ (first (c .before .before .before .before .before .before)) _ _ _ _ (others (c .before .before)) (omega arith)
 
 returns-4 : tie.Need-returns-4
 returns-4 c =
-    let s = c .before .before .before .before .before .before .before .before .before .before .args .s .now in
+    let s = c .before .before .before .before .before .before .before .before .before .before .args .body .now in
     answer-none (settings-of-fields (fields s))
     (settings-more s _ _ (first (c .before .before .before .before .before .before)) _ _ _ _ (others (c .before .before)) (omega arith))
 

@@ -28,7 +28,7 @@ returns c =
     let p = c .before .before .before .before .before .before .put in
     let w = c .before .before .write in (
       omega arith,
-      onto-then (a .at) (a .at + 1) (comma ∷ []) (decimal (a .v)) (a .line .now) (p .last .0) (w .last .1 .0) (omega arith) refl (p .ensures)
+      onto-then (a .at) (a .at + 1) (comma ∷ []) (decimal (a .number)) (a .line .now) (p .last .0) (w .last .1 .0) (omega arith) refl (p .ensures)
           (w .ensures .1),
     )
 
