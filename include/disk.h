@@ -34,6 +34,15 @@ typedef struct {
     uint64_t chunks;
 } disk_settings_answer;
 
+/* The bytes to lend for a store of these settings: places 3 to 8; block size 8 to 8,192, a multiple of 8; entries 2 to 1,024 in each bucket copy;
+ * chunks 4 to 65,536 in each brick's log. 0 where a setting is outside its limits. */
+uint64_t disk_length(uint64_t places, uint64_t size, uint64_t entries, uint64_t chunks);
+
+/* Makes lent bytes a store with a brick at every place. Bytes that a fresh store does not use keep what they hold.
+ * 0: store[0 .. store_length] is a store.
+ * 1: a setting is outside its limits, or store_length is not disk_length of the settings. */
+uint64_t disk_format(uint8_t *store, size_t store_length, uint64_t places, uint64_t size, uint64_t entries, uint64_t chunks);
+
 /* The event of a line of text, in a store of blocks of `size` bytes. The line's last byte, line[line_length - 1], is its line feed.
  * 0: the line is an event's; for a put, its data is in data[0 .. size]. For every other kind the data area is not looked at and may have any length.
  * 3: the line is no event's, or it is a put's and data_length is not size. */

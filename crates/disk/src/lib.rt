@@ -5,6 +5,7 @@ ghost use Rattle.text.specs.Lines.{read-settings};
 ghost use Rattle.area.specs.Area.{onto};
 ghost use Rattle.parse.specs.Answers.{parsed, answer-to, bytes-read, settings-answer};
 ghost use Rattle.print.specs.Answers.{parts-from, printed, line-after};
+ghost use Rattle.store.specs.Calls.{settings, length-answer, Formatted};
 ghost use Rattle.disk.specs.Answers.{event-answer, line-answer, four-answer};
 use parse::Parsed;
 use parse::SettingsLine;
@@ -32,6 +33,28 @@ pub struct SettingsAnswer {
     pub size: u64,
     pub entries: u64,
     pub chunks: u64,
+}
+
+// The bytes to lend for a store of these settings; 0 where they are out of limits.
+#[no_mangle]
+pub extern "C" fn disk_length(places: u64, size: u64, entries: u64, chunks: u64) -> u64
+    ensures { λ r. ⌜ r ≡ length-answer (settings places size entries chunks) ⌝ }
+{
+    store::calls::length(places, size, entries, chunks)
+}
+
+// Makes the lent bytes a store.
+#[no_mangle]
+pub extern "C" fn disk_format(
+    store: &mut [u8],
+    places: u64,
+    size: u64,
+    entries: u64,
+    chunks: u64,
+) -> u64
+    ensures { λ r. ⌜ Formatted (settings places size entries chunks) (now (store .entry)) r (now (store .exit)) ⌝ }
+{
+    store::calls::format_store(store, places, size, entries, chunks)
 }
 
 // The event of a line of text.

@@ -1,4 +1,4 @@
-// The calls on a lent store, for Rattle and C.
+// The calls on a lent store.
 ghost use mathlib.Core.Path.{_≡_};
 ghost use Rattle.store.specs.Calls.{settings, length-answer, Formatted};
 use crate::format;
@@ -7,8 +7,7 @@ use rules::settings::Checked;
 use rules::settings::Settings;
 
 // The bytes to lend for a store of these settings; 0 where they are out of limits.
-#[no_mangle]
-pub extern "C" fn disk_length(places: u64, size: u64, entries: u64, chunks: u64) -> u64
+pub fn length(places: u64, size: u64, entries: u64, chunks: u64) -> u64
     ensures { λ r. ⌜ r ≡ length-answer (settings places size entries chunks) ⌝ }
 {
     match Settings::new(
@@ -23,14 +22,7 @@ pub extern "C" fn disk_length(places: u64, size: u64, entries: u64, chunks: u64)
 }
 
 // Makes the lent bytes a store: 0. Answers 1, with nothing changed, where the settings are out of limits or the bytes are not as many as theirs.
-#[no_mangle]
-pub extern "C" fn disk_format(
-    store: &mut [u8],
-    places: u64,
-    size: u64,
-    entries: u64,
-    chunks: u64,
-) -> u64
+pub fn format_store(store: &mut [u8], places: u64, size: u64, entries: u64, chunks: u64) -> u64
     ensures { λ r. ⌜ Formatted (settings places size entries chunks) (now (store .entry)) r (now (store .exit)) ⌝ }
 {
     match Settings::new(

@@ -1,7 +1,9 @@
 //! Damaged lines, and data areas of other lengths, against the independent parser.
-use text_tests::model;
-use text_tests::random::{Random, WAYS};
-use text_tests::{parse, parse_settings, tries};
+use call_tests::text::model;
+use call_tests::random::Random;
+use call_tests::text::random::WAYS;
+use call_tests::text::{parse, parse_settings};
+use call_tests::tries;
 
 fn compare(r: &mut Random, line: &[u8], size: usize, room: usize) -> bool {
     let before = r.bytes(room);

@@ -1,26 +1,8 @@
 //! Random events and the ways to damage a line.
-use crate::model::{Event, KINDS};
-
-/// xorshift64*
-pub struct Random(u64);
+use super::model::{Event, KINDS};
+use crate::random::Random;
 
 impl Random {
-    pub fn new(seed: u64) -> Self {
-        Random(seed.wrapping_mul(0x9e37_79b9_7f4a_7c15) | 1)
-    }
-
-    pub fn next(&mut self) -> u64 {
-        self.0 ^= self.0 >> 12;
-        self.0 ^= self.0 << 25;
-        self.0 ^= self.0 >> 27;
-        self.0.wrapping_mul(0x2545_f491_4f6c_dd1d)
-    }
-
-    /// Below n, which is not 0.
-    pub fn below(&mut self, n: u64) -> u64 {
-        self.next() % n
-    }
-
     /// Of every width, and often next to a power of ten or of two.
     pub fn number(&mut self) -> u64 {
         let near = self.below(3).wrapping_sub(1);
@@ -30,10 +12,6 @@ impl Random {
             2 => 1u64.rotate_left(self.below(64) as u32).wrapping_add(near),
             _ => self.next() >> self.below(64),
         }
-    }
-
-    pub fn bytes(&mut self, length: usize) -> Vec<u8> {
-        (0..length).map(|_| (self.next() >> 32) as u8).collect()
     }
 
     /// An event of a kind, the numbers that it does not have 0, and its data.

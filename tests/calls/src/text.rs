@@ -1,4 +1,4 @@
-//! The proved calls behind safe functions, and an independent implementation to compare them with.
+//! The calls on text behind safe functions.
 pub mod model;
 pub mod random;
 
@@ -34,9 +34,4 @@ pub fn print(e: &Event, data: &[u8], size: usize, line: &mut [u8]) -> Line {
 
 pub fn parse_settings(line: &[u8]) -> Four {
     unsafe { calls::disk_parse_settings(line.as_ptr(), line.len()) }
-}
-
-/// How many lines a test tries: a million, or what DISK_TRIES says.
-pub fn tries() -> u64 {
-    std::env::var("DISK_TRIES").ok().and_then(|n| n.parse().ok()).unwrap_or(1_000_000)
 }

@@ -10,8 +10,8 @@ use Rattle.layout.specs.Store.{render, store-bytes}
 use Rattle.store.specs.Calls.{settings}
 use Rattle.store.proofs.Answers.{good-limits, good-is, bad-limits, refused, bad-format, short-format, accepted}
 use borrow.Author.Needs.{needs}
-use Rattle.store.proofs.calls.disk_format.Statement.{statement}
-use Rattle.store.proofs.calls.disk_format.Tie as tie
+use Rattle.store.proofs.calls.format_store.Statement.{statement}
+use Rattle.store.proofs.calls.format_store.Tie as tie
 
 new-requires : tie.Need-new-requires
 new-requires c κs = search needs
@@ -69,8 +69,8 @@ returns-3 c =
     let b = c .before .before .before .before in
     refused _ (b .args .store .now) (bad-format _ (b .args .store .now) (bad-limits (b .args .places) (b .args .size) (b .args .entries) (b .args .chunks) _ (c .before .before .new .ensures) (c .enum-told .given .1)))
 
-pub disk-format-spec : {M : Type 1} → statement M
-disk-format-spec =
+pub format-store-spec : {M : Type 1} → statement M
+format-store-spec =
     tie.close
     (tie.spec
     new-requires

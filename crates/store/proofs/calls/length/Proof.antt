@@ -3,8 +3,8 @@ use Rattle.rules.proofs.Limits.{limits}
 use Rattle.layout.specs.Store.{store-bytes}
 use Rattle.store.proofs.Answers.{good-limits, good-is, bad-limits, length-good, length-bad}
 use borrow.Author.Needs.{needs}
-use Rattle.store.proofs.calls.disk_length.Statement.{statement}
-use Rattle.store.proofs.calls.disk_length.Tie as tie
+use Rattle.store.proofs.calls.length.Statement.{statement}
+use Rattle.store.proofs.calls.length.Tie as tie
 
 new-requires : tie.Need-new-requires
 new-requires c κs = search needs
@@ -33,7 +33,7 @@ returns-2 c =
     let b = c .before .before .before in
     length-bad _ (bad-limits (b .args .places) (b .args .size) (b .args .entries) (b .args .chunks) _ (c .before .before .new .ensures) (c .enum-told .given .1))
 
-pub disk-length-spec : {M : Type 1} → statement M
-disk-length-spec =
+pub length-spec : {M : Type 1} → statement M
+length-spec =
     tie.close
     (tie.spec new-requires enum-known-settings store-bytes-requires enum-told returns returns-2)

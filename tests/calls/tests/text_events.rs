@@ -1,7 +1,8 @@
 //! Events of all kinds, both ways, in areas of every length.
-use text_tests::model::{self, Event, Line};
-use text_tests::random::Random;
-use text_tests::{parse, print, tries};
+use call_tests::text::model::{self, Event, Line};
+use call_tests::random::Random;
+use call_tests::text::{parse, print};
+use call_tests::tries;
 
 const SIZES: [usize; 5] = [0, 1, 8, 16, 64];
 

@@ -1,0 +1,10 @@
+//! The proved calls behind safe functions, and an independent implementation of each to compare them with.
+pub mod random;
+pub mod store;
+pub mod text;
+pub mod time;
+
+/// How many lines or stores a test tries: a million, or what DISK_TRIES says.
+pub fn tries() -> u64 {
+    std::env::var("DISK_TRIES").ok().and_then(|n| n.parse().ok()).unwrap_or(1_000_000)
+}
