@@ -40,7 +40,7 @@ pub struct SettingsAnswer {
 pub extern "C" fn disk_length(places: u64, size: u64, entries: u64, chunks: u64) -> u64
     ensures { λ r. ⌜ r ≡ length-answer (settings places size entries chunks) ⌝ }
 {
-    store::calls::length(places, size, entries, chunks)
+    store::length(places, size, entries, chunks)
 }
 
 // Makes the lent bytes a store.
@@ -54,7 +54,7 @@ pub extern "C" fn disk_format(
 ) -> u64
     ensures { λ r. ⌜ Formatted (settings places size entries chunks) (now (store .entry)) r (now (store .exit)) ⌝ }
 {
-    store::calls::format_store(store, places, size, entries, chunks)
+    store::format_store(store, places, size, entries, chunks)
 }
 
 // The event of a line of text.

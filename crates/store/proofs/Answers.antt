@@ -24,7 +24,9 @@ module _ (n s m l : ℕ) (r : Checked) (made : r ≡ checked n s m l) where
   -- settings that were made are those asked for, and in their limits
   pub good-limits : (c : Settings) → r ≡ Good c → in-limits (settings n s m l) ≡ true
   unfolding checked
-  good-limits c g = by (in-limits (settings n s m l)) (λ y. y) (λ q. let e : Bad ≡ Good c = sym (rw q at made) ∙ g in let z : _≡_ {A = ℕ} 0 1 = cc in absurd (omega arith))
+  good-limits c g =
+      by (in-limits (settings n s m l)) (λ y. y)
+      (λ q. let e : Bad ≡ Good c = sym (rw q at made) ∙ g in let z : _≡_ {A = ℕ} 0 1 = cc in absurd (omega arith))
 
   pub good-is : (c : Settings) → r ≡ Good c → c ≡ settings n s m l
   unfolding checked
@@ -32,7 +34,9 @@ module _ (n s m l : ℕ) (r : Checked) (made : r ≡ checked n s m l) where
 
   pub bad-limits : r ≡ Bad → in-limits (settings n s m l) ≡ false
   unfolding checked
-  bad-limits b = by (in-limits (settings n s m l)) (λ q. let e : Good (settings n s m l) ≡ Bad = sym (rw q at made) ∙ b in let z : _≡_ {A = ℕ} 0 1 = cc in absurd (omega arith)) (λ q. q)
+  bad-limits b =
+      by (in-limits (settings n s m l))
+      (λ q. let e : Good (settings n s m l) ≡ Bad = sym (rw q at made) ∙ b in let z : _≡_ {A = ℕ} 0 1 = cc in absurd (omega arith)) (λ q. q)
 
 -- ---- length
 pub length-good : (c : Settings) → in-limits c ≡ true → store-bytes c ≡ length-answer c

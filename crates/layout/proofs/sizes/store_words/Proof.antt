@@ -13,10 +13,14 @@ place-words-requires : tie.Need-place-words-requires
 place-words-requires c κs = search needs
 
 mul-result : tie.Need-mul-result
-mul-result c = let b = c .before .before .before in omega (arith, places-small (b .args .settings) (b .pre), ap (λ (k : ℕ). b .args .settings .places * k) (c .before .place-words .ensures))
+mul-result c =
+    let b = c .before .before .before in
+    omega (arith, places-small (b .args .settings) (b .pre), ap (λ (k : ℕ). b .args .settings .places * k) (c .before .place-words .ensures))
 
 add-result : tie.Need-add-result
-add-result c = let b = c .before .before .before in omega (arith, store-small (b .args .settings) (b .pre), ap (λ (k : ℕ). b .args .settings .places * k) (c .before .place-words .ensures))
+add-result c =
+    let b = c .before .before .before in
+    omega (arith, store-small (b .args .settings) (b .pre), ap (λ (k : ℕ). b .args .settings .places * k) (c .before .place-words .ensures))
 
 returns : tie.Need-returns
 returns c = let b = c .before .before .before in omega (arith, ap (λ (k : ℕ). b .args .settings .places * k) (c .before .place-words .ensures))
