@@ -43,6 +43,10 @@ uint64_t disk_length(uint64_t places, uint64_t size, uint64_t entries, uint64_t 
  * 1: a setting is outside its limits, or store_length is not disk_length of the settings. */
 uint64_t disk_format(uint8_t *store, size_t store_length, uint64_t places, uint64_t size, uint64_t entries, uint64_t chunks);
 
+/* Whether lent bytes are a sound store: settings within limits and the length theirs, everything in range and in its place.
+ * 0: they are. 2: they are not. Its cost grows with what is in use. */
+uint64_t disk_check(const uint8_t *store, size_t store_length);
+
 /* The event of a line of text, in a store of blocks of `size` bytes. The line's last byte, line[line_length - 1], is its line feed.
  * 0: the line is an event's; for a put, its data is in data[0 .. size]. For every other kind the data area is not looked at and may have any length.
  * 3: the line is no event's, or it is a put's and data_length is not size. */

@@ -5,7 +5,7 @@ ghost use Rattle.text.specs.Lines.{read-settings};
 ghost use Rattle.area.specs.Area.{onto};
 ghost use Rattle.parse.specs.Answers.{parsed, answer-to, bytes-read, settings-answer};
 ghost use Rattle.print.specs.Answers.{parts-from, printed, line-after};
-ghost use Rattle.store.specs.Calls.{settings, length-answer, Formatted};
+ghost use Rattle.store.specs.Calls.{settings, length-answer, Formatted, check-answer};
 ghost use Rattle.disk.specs.Answers.{event-answer, line-answer, four-answer};
 use parse::Parsed;
 use parse::SettingsLine;
@@ -55,6 +55,14 @@ pub extern "C" fn disk_format(
     ensures { λ r. ⌜ Formatted (settings places size entries chunks) (now (store .entry)) r (now (store .exit)) ⌝ }
 {
     store::format_store(store, places, size, entries, chunks)
+}
+
+// Is it a sound store?
+#[no_mangle]
+pub extern "C" fn disk_check(store: &[u8]) -> u64
+    ensures { λ r. ⌜ r ≡ check-answer (now (store .entry)) ⌝ }
+{
+    store::check(store)
 }
 
 // The event of a line of text.

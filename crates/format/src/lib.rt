@@ -13,6 +13,7 @@ ghost use Rattle.layout.specs.Layout.{place-codec, all-places-codec, head-words
 ghost use Rattle.layout.specs.Store.{render, store-bytes};
 ghost use Rattle.format.specs.First.{first-head, first-agreed, agreed-in-turn, first-status, first-brick, first-place};
 use layout::sizes;
+use rules::constants;
 use rules::settings::Settings;
 
 // The header.
@@ -80,8 +81,8 @@ fn proxies(s: &mut [u8])
     ensures { λ _. ⌜ words (now (s .exit)) ≡ all-proxies-codec .enc (λ p. blank-proxy) (words (now (s .entry))) ⌝ }
 {
     let mut p = 0;
-    while p < sizes::PROXIES {
-        let at = 8 * words::offset(p, sizes::PROXY_WORDS, sizes::PROXIES);
+    while p < constants::PROXIES {
+        let at = 8 * words::offset(p, sizes::PROXY_WORDS, constants::PROXIES);
         proxy(&mut s[at..at + 8 * sizes::PROXY_WORDS]);
         p += 1;
     }

@@ -4,33 +4,74 @@ ghost use Rattle.rules.specs.Limits.{buckets};
 ghost use Rattle.rules.proofs.Limits.{Limits};
 ghost use Rattle.layout.specs.Layout.{copy-words, copies-words, log-words, log-at, place-words, proxies-at, bag-at, places-at, store-words};
 ghost use Rattle.layout.specs.Store.{store-bytes};
+use rules::constants;
 use rules::settings::Settings;
 
-pub const PROXIES: usize = 4;
+// words of a row: block, key; view, bucket, order number, block, key
+pub const ENTRY_WORDS: usize = 2;
 
-const BUCKETS: usize = 16;
+pub const RELAY_WORDS: usize = 5;
+
+pub const BUCKETS: usize = constants::BUCKETS as usize;
+
 // N, S, M, L, view, given, started
 pub const HEAD_WORDS: usize = 7;
-// primary, backup, last primary, last backup, ready, fetched, order, taken
+
+pub const VIEW_AT: usize = 4;
+
+pub const GIVEN_AT: usize = 5;
+
+pub const STARTED_AT: usize = 6;
+
+// a bucket's record
+pub const PRIMARY_AT: usize = 0;
+
+pub const BACKUP_AT: usize = 1;
+
+pub const LAST_PRIMARY_AT: usize = 2;
+
+pub const LAST_BACKUP_AT: usize = 3;
+
+pub const READY_AT: usize = 4;
+
+pub const FETCHED_AT: usize = 5;
+
+pub const ORDER_AT: usize = 6;
+
+pub const TAKEN_AT: usize = 7;
+
 pub const AGREED_WORDS: usize = 8;
-// block, key
-const ENTRY_WORDS: usize = 2;
-// view, bucket, order number, block, key
-const RELAY_WORDS: usize = 5;
 
-const MAX_ITEMS: usize = 32;
+// a proxy: the known view, items
+pub const ITEMS_AT: usize = 1;
 
-const MAX_WAITING: usize = 32;
+pub const PROXY_WORDS: usize = ITEMS_AT + (1 + constants::MAX_ITEMS * ENTRY_WORDS);
 
-const MAX_RELAYS: usize = 64;
-// the known view, a count, items
-pub const PROXY_WORDS: usize = 1 + (1 + MAX_ITEMS * ENTRY_WORDS);
+pub const BAG_WORDS: usize = 1 + constants::MAX_RELAYS * RELAY_WORDS;
 
-pub const BAG_WORDS: usize = 1 + MAX_RELAYS * RELAY_WORDS;
-// id, up, member, began, next, ceiling
+// where the proxies, the bag and the places lie in the store
+pub const PROXIES_AT: usize = HEAD_WORDS + BUCKETS * AGREED_WORDS;
+
+pub const BAG_AT: usize = PROXIES_AT + constants::PROXIES * PROXY_WORDS;
+
+pub const PLACES_AT: usize = BAG_AT + BAG_WORDS;
+
+// a place: id, flags, numbers, the append buffer, the copies, the log
+pub const UP_AT: usize = 1;
+
+pub const MEMBER_AT: usize = 2;
+
+pub const BEGAN_AT: usize = 3;
+
+pub const NEXT_AT: usize = 4;
+
+pub const CEILING_AT: usize = 5;
+
 pub const BUFFER_AT: usize = 6;
 
-pub const COPIES_AT: usize = BUFFER_AT + 1 + MAX_WAITING * ENTRY_WORDS;
+pub const BUFFER_WORDS: usize = 1 + constants::MAX_WAITING * ENTRY_WORDS;
+
+pub const COPIES_AT: usize = BUFFER_AT + BUFFER_WORDS;
 
 pub fn buckets(settings: Settings) -> usize
     ensures { λ r. ⌜ r ≡ buckets settings ⌝ }
@@ -85,7 +126,7 @@ pub fn proxies_at(settings: Settings) -> usize
 pub fn bag_at(settings: Settings) -> usize
     ensures { λ r. ⌜ r ≡ bag-at settings ⌝ }
 {
-    proxies_at(settings) + PROXIES * PROXY_WORDS
+    proxies_at(settings) + constants::PROXIES * PROXY_WORDS
 }
 
 pub fn places_at(settings: Settings) -> usize

@@ -4,6 +4,7 @@ ghost use Prim.Native.Nat.{_<_};
 ghost use Rattle.rules.specs.declared.settings.Settings.{Settings};
 ghost use Rattle.rules.specs.Limits.{buckets};
 ghost use Rattle.rules.specs.Numbers.{proxy-of, bucket-of, key-of, home-of, sequence-of, sequences};
+use crate::constants;
 use crate::settings::Settings;
 
 // A virtual disk's block, below 2^51.
@@ -15,26 +16,17 @@ pub struct ChunkKey(pub u64);
 // The number of an agreed view, 32 bits.
 pub struct ViewNumber(pub u64);
 
-// blocks of one proxy
-const PROXY_BLOCKS: u64 = 0x2_0000_0000_0000;
-// blocks that lie together in one bucket
-const RUN_BLOCKS: u64 = 1024;
-// sequence numbers of one brick
-const SEQUENCES: u64 = 0x100_0000_0000_0000;
-// buckets of a store
-const BUCKETS: u64 = 16;
-
 impl BlockNumber {
     pub fn proxy(self) -> u64
         ensures { λ r. ⌜ r ≡ proxy-of (self .0) ⌝ }
     {
-        self.0 / PROXY_BLOCKS
+        self.0 / constants::PROXY_BLOCKS
     }
 
     pub fn bucket(self, settings: Settings) -> u64
         ensures { λ r. ⌜ r ≡ bucket-of (buckets settings) (self .0) ⌝ }
     {
-        self.0 / RUN_BLOCKS % BUCKETS
+        self.0 / constants::RUN_BLOCKS % constants::BUCKETS
     }
 }
 
@@ -43,18 +35,18 @@ impl ChunkKey {
         requires { ⌜ (id < 256) × (sequence < sequences) ⌝ }
         ensures { λ r. ⌜ r .0 ≡ key-of id sequence ⌝ }
     {
-        ChunkKey(id * SEQUENCES + sequence)
+        ChunkKey(id * constants::SEQUENCES + sequence)
     }
 
     pub fn home(self) -> u64
         ensures { λ r. ⌜ r ≡ home-of (self .0) ⌝ }
     {
-        self.0 / SEQUENCES
+        self.0 / constants::SEQUENCES
     }
 
     pub fn sequence(self) -> u64
         ensures { λ r. ⌜ r ≡ sequence-of (self .0) ⌝ }
     {
-        self.0 % SEQUENCES
+        self.0 % constants::SEQUENCES
     }
 }

@@ -9,7 +9,7 @@ use Rattle.lists.specs.Tests.{_and_}
 use Rattle.rules.specs.declared.settings.Settings.{Settings}
 use Rattle.rules.specs.Limits.{in-limits}
 use Rattle.rules.specs.Format.{format}
-use Rattle.layout.specs.Store.{render-bytes, store-bytes}
+use Rattle.layout.specs.Store.{render-bytes, store-bytes, sound-bytes}
 
 abbrev pub settings : ℕ → ℕ → ℕ → ℕ → Settings
 settings n s m l = record { places = n; size = s; entries = m; chunks = l }
@@ -26,3 +26,7 @@ may-format c bs = in-limits c and eqb (length bs) (store-bytes c)
 pub record Formatted (c : Settings) (before : List ℕ) (answer : ℕ) (after : List ℕ) : Type 0 where
   pub code : answer ≡ cond (may-format c before) 0 1
   pub bytes : after ≡ cond (may-format c before) (render-bytes (format c) before) before
+
+-- check: 0 where the bytes are a sound store, else 2
+unfoldable pub check-answer : List ℕ → ℕ
+check-answer bs = cond (sound-bytes bs) 0 2

@@ -1,6 +1,6 @@
 // The calls on a lent store.
 ghost use mathlib.Core.Path.{_≡_};
-ghost use Rattle.store.specs.Calls.{settings, length-answer, Formatted};
+ghost use Rattle.store.specs.Calls.{settings, length-answer, Formatted, check-answer};
 use layout::sizes;
 use rules::settings::Checked;
 use rules::settings::Settings;
@@ -39,4 +39,14 @@ pub fn format_store(store: &mut [u8], places: u64, size: u64, entries: u64, chun
         }
         Checked::Bad => 1,
     }
+}
+
+// Is it a sound store? 0 where it is, else 2.
+pub fn check(store: &[u8]) -> u64
+    ensures { λ r. ⌜ r ≡ check-answer (now (store .entry)) ⌝ }
+{
+    if sound::is_sound(store) {
+        return 0;
+    }
+    2
 }

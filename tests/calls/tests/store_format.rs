@@ -10,7 +10,7 @@ fn same_format(r: &mut Random, s: Settings) {
     assert_eq!(call_tests::store::format(&mut ours, s), 0, "{s:?}");
     assert_eq!(model::format(&mut theirs, s), 0);
     assert!(ours == theirs, "{s:?}");
-    assert_eq!(model::check(&ours), 0, "{s:?}");
+    assert_eq!(call_tests::store::check(&ours), 0, "{s:?}");
 }
 
 #[test]

@@ -1,0 +1,29 @@
+// The limits that no setting changes. `specs/Limits` and `specs/Numbers` have each by the same name.
+
+// a virtual disk's blocks
+pub const BLOCKS: u64 = 0x8_0000_0000_0000;
+
+// blocks of one proxy
+pub const PROXY_BLOCKS: u64 = 0x2_0000_0000_0000;
+
+// blocks that lie together in one bucket
+pub const RUN_BLOCKS: u64 = 1024;
+
+// sequence numbers of one brick
+pub const SEQUENCES: u64 = 0x100_0000_0000_0000;
+
+// the highest view number and order number: 32 bits
+pub const MAX_NUMBER: u64 = 0xffff_ffff;
+
+pub const MAX_ID: u64 = 255;
+
+pub const BUCKETS: u64 = 16;
+
+pub const PROXIES: usize = 4;
+
+// relays in the bag, items of a proxy, entries in an append buffer
+pub const MAX_RELAYS: usize = 64;
+
+pub const MAX_ITEMS: usize = 32;
+
+pub const MAX_WAITING: usize = 32;

@@ -1,0 +1,35 @@
+-- Bucket copies: the two tables of a bucket, and the buckets of a place.
+use mathlib.Core.Path.{_≡_, _∙_}
+use mathlib.Core.List.{List}
+use mathlib.Core.Bool.{Bool}
+use Prim.Native.Nat.{ℕ}
+use native.Mathlib.Omega.{arith}
+use lib.ListN.{length, drop, length-drop}
+use Rattle.lists.specs.Tests.{_and_, _or_}
+use Rattle.lists.specs.Runs.{run, part}
+use Rattle.lists.proofs.Runs.{run-all}
+use Rattle.rules.specs.declared.settings.Settings.{Settings}
+use Rattle.rules.specs.Sound.{same-entries}
+use Rattle.layout.specs.Layout.{copy-codec, copies-codec, copies-words}
+use Rattle.sound.specs.declared.rows.Whose.the-variants.{Bucket}
+use Rattle.sound.specs.Rows.{entries-in, table-good}
+use Rattle.sound.specs.Copies.{copies-good, copies-at-good}
+
+module _ (c : Settings) (good : ℕ → Bool) (up : Bool) where
+  abbrev half : ℕ
+  half = copy-codec c .size
+
+  -- the test of the two tables, from their words
+  pub copies-are : (g : ℕ) (ws memory disk : List ℕ) → length ws ≡ copies-words c → memory ≡ run 0 half ws → disk ≡ run half half ws
+      → copies-good c good g up (copies-codec c .dec ws)
+      ≡ (table-good c good (Bucket g) (c .entries) (entries-in memory) and table-good c good (Bucket g) (c .entries) (entries-in disk)
+      and (up or same-entries (entries-in memory) (entries-in disk)))
+  unfolding copies-good
+  copies-are g ws memory disk h em ed =
+      let l : length (drop half ws) ≡ half = length-drop half ws ∙ omega arith in
+      rw (em, ed, run-all half (drop half ws) l)
+
+  -- a bucket's copies, in the words of all
+  pub copies-part : (ws v : List ℕ) (g : ℕ) → v ≡ part (copies-words c) g ws → copies-at-good c good up ws g ≡ copies-good c good g up (copies-codec c .dec v)
+  unfolding copies-at-good
+  copies-part ws v g e = rw e

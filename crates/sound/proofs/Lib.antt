@@ -1,0 +1,16 @@
+pub mod Tests
+pub mod Lent
+pub mod RowLaws
+pub mod KeyLaws
+pub mod ChunkLaws
+pub mod CopyLaws
+pub mod BagLaws
+pub mod ProxyLaws
+pub mod LimitLaws
+pub mod PlaceLaws
+pub mod TableSound
+pub mod PartSound
+pub mod BrickSound
+pub mod PlaceSound
+pub mod StoreSound
+pub mod ByteLaws

@@ -1,0 +1,43 @@
+-- Where a place begins, and what it is to the check.
+use mathlib.Core.Path.{_≡_, _∙_}
+use mathlib.Core.List.{List}
+use mathlib.Core.Bool.{Bool, true, false}
+use Prim.Native.Nat.{ℕ, _+_, _*_, _≤_, _<_}
+use native.Mathlib.Omega.{arith}
+use lib.Dec.{leb}
+use borrow.Author.Tests.{eq-eqb, ne-eqb, lt-leb, le-leb}
+use Rattle.lists.specs.Tests.{_and_, all-below}
+use Rattle.lists.proofs.Tests.{both, or-l}
+use Rattle.lists.proofs.Runs.{fits-in}
+use Rattle.rules.specs.declared.settings.Settings.{Settings}
+use Rattle.layout.specs.Layout.{places-at, place-words, place-at, place-part, store-words}
+use Rattle.sound.specs.Places.{brick-good, id-at, alone-at, place-at-good}
+use Rattle.sound.proofs.Tests.{no-first, no-second, yes-first, or-no}
+
+module _ (c : Settings) (p r size : ℕ) (es : size ≡ place-words c) (er : r ≡ p * size) where
+  pub place-start : places-at c + r ≡ place-at c p
+  place-start = rw (er, es)
+
+  pub place-inside : p < c .places → place-at c p + place-words c ≤ store-words c
+  place-inside h = omega (arith, fits-in (place-words c) h)
+
+-- ---- what a place is to the check
+module _ (c : Settings) (good : ℕ → Bool) (given : ℕ) (ws : List ℕ) (p id : ℕ) (e : id ≡ id-at c ws p) where
+  pub place-empty : id ≡ 0 → place-at-good c good given ws p ≡ true
+  unfolding place-at-good
+  place-empty z = or-l _ _ (rw (← e) (eq-eqb id 0 z))
+
+  module _ (o : id ≡ 0 → ⊥) where
+    held : place-at-good c good given ws p
+        ≡ (leb id given and all-below p (alone-at c ws id) and brick-good c good (place-part c p ws))
+    unfolding place-at-good
+    held = rw (← e) (or-no _ _ (ne-eqb id 0 o))
+
+    pub place-far : given < id → place-at-good c good given ws p ≡ false
+    place-far l = held ∙ no-first _ _ (no-first _ _ (lt-leb id given l))
+
+    pub place-twice : all-below p (alone-at c ws id) ≡ false → place-at-good c good given ws p ≡ false
+    place-twice t = held ∙ no-first _ _ (no-second _ _ t)
+
+    pub place-brick : id ≤ given → all-below p (alone-at c ws id) ≡ true → place-at-good c good given ws p ≡ brick-good c good (place-part c p ws)
+    place-brick l t = held ∙ yes-first _ _ (both _ _ (le-leb id given l) t)

@@ -1,0 +1,108 @@
+use mathlib.Core.Path.{sym, ap, subst, _∙_}
+use Prim.Native.Nat.{ℕ, _*_}
+use Rattle.lists.proofs.Runs.{below-of}
+use Rattle.words.specs.Words.{words}
+use Rattle.rules.specs.declared.settings.Settings.{Settings}
+use Rattle.rules.specs.Sound.{sound-key}
+use Rattle.rules.proofs.Limits.{Limits, limits}
+use Rattle.layout.specs.Layout.{store-words}
+use Rattle.layout.specs.Store.{decode}
+use Rattle.layout.proofs.Bounds.{store-small}
+use Rattle.sound.specs.Store.{parts-good}
+use Rattle.sound.proofs.ByteLaws.{settings-bad, settings-own, odd-bytes, short-bytes, other-bytes, limit-bytes, parts-bytes}
+use native.Mathlib.Omega.{arith}
+use borrow.Author.Needs.{needs}
+use Rattle.sound.proofs.is_sound.Statement.{statement}
+use Rattle.sound.proofs.is_sound.Tie as tie
+
+returns : tie.Need-returns
+returns c = sym (odd-bytes _ (c .if1 .taken))
+
+mul-if2 : tie.Need-mul-if2
+mul-if2 c = search needs
+
+returns-2 : tie.Need-returns-2
+returns-2 c = sym (short-bytes _ (c .if2 .taken))
+
+read-requires : tie.Need-read-requires
+read-requires c κs = search needs
+
+read-requires-2 : tie.Need-read-requires-2
+read-requires-2 c κs = search needs
+
+read-requires-3 : tie.Need-read-requires-3
+read-requires-3 c κs = search needs
+
+read-requires-4 : tie.Need-read-requires-4
+read-requires-4 c κs = search needs
+
+new-requires : tie.Need-new-requires
+new-requires c κs = search needs
+
+enum-known-settings : tie.Need-enum-known-settings
+enum-known-settings c = search needs
+
+enum-told : tie.Need-enum-told
+enum-told c = search needs
+
+returns-3 : tie.Need-returns-3
+returns-3 c =
+    let s = c .before .before .before .before .before .before .before .before .before .before .args .store .now in
+    sym (limit-bytes s (settings-bad (words s) _ _ _ _ (c .before .before .before .before .before .before .read .ensures) (c .before .before .before .before .before .read2 .ensures) (c .before .before .before .before .read3 .ensures) (c .before .before .before .read4 .ensures) (sym (c .enum-told .given .1) ∙ c .before .before .new .ensures)))
+
+store-words-requires : tie.Need-store-words-requires
+store-words-requires c κs =
+    let s = c .before .before .before .before .before .before .before .before .before .before .before .args .store .now in
+    let n = c .before .settings .given .0 .0 in
+    let o = settings-own (words s) _ _ _ _ (c .before .before .before .before .before .before .before .read .ensures) (c .before .before .before .before .before .before .read2 .ensures) (c .before .before .before .before .before .read3 .ensures) (c .before .before .before .before .read4 .ensures) n (sym (c .before .settings .given .1) ∙ c .before .before .before .new .ensures) in
+    subst Limits (o .0) (limits _ (o .1))
+
+mul-if3 : tie.Need-mul-if3
+mul-if3 c =
+    let s = c .before .before .before .before .before .before .before .before .before .before .before .before .args .store .now in
+    let n = c .before .before .settings .given .0 .0 in
+    let o = settings-own (words s) _ _ _ _ (c .before .before .before .before .before .before .before .before .read .ensures) (c .before .before .before .before .before .before .before .read2 .ensures) (c .before .before .before .before .before .before .read3 .ensures) (c .before .before .before .before .before .read4 .ensures) n (sym (c .before .before .settings .given .1) ∙ c .before .before .before .before .new .ensures) in
+    omega (arith, store-small n (subst Limits (o .0) (limits _ (o .1))))
+
+returns-4 : tie.Need-returns-4
+returns-4 c =
+    let s = c .before .before .before .before .before .before .before .before .before .before .before .before .before .args .store .now in
+    let n = c .before .before .before .settings .given .0 .0 in
+    let o = settings-own (words s) _ _ _ _ (c .before .before .before .before .before .before .before .before .before .read .ensures) (c .before .before .before .before .before .before .before .before .read2 .ensures) (c .before .before .before .before .before .before .before .read3 .ensures) (c .before .before .before .before .before .before .read4 .ensures) n (sym (c .before .before .before .settings .given .1) ∙ c .before .before .before .before .before .new .ensures) in
+    sym (other-bytes s (λ e. c .if3 .taken (e ∙ ap (λ (c : Settings). 8 * store-words c) (o .0) ∙ ap (λ (k : ℕ). 8 * k) (sym (c .before .store-words .ensures)))))
+
+parts-good-requires : tie.Need-parts-good-requires
+parts-good-requires c κs =
+    let s = c .before .before .before .before .before .before .before .before .before .before .before .before .before .args .store .now in
+    let n = c .before .before .before .settings .given .0 .0 in
+    let o = settings-own (words s) _ _ _ _ (c .before .before .before .before .before .before .before .before .before .read .ensures) (c .before .before .before .before .before .before .before .before .read2 .ensures) (c .before .before .before .before .before .before .before .read3 .ensures) (c .before .before .before .before .before .before .read4 .ensures) n (sym (c .before .before .before .settings .given .1) ∙ c .before .before .before .before .before .new .ensures) in
+    record { small = subst Limits (o .0) (limits _ (o .1)); size = c .if3 .left ∙ ap (λ (k : ℕ). 8 * k) (c .before .store-words .ensures); own = o .0 }
+
+returns-5 : tie.Need-returns-5
+returns-5 c =
+    let s = c .before .before .before .before .before .before .before .before .before .before .before .before .before .before .args .store .now in
+    let n = c .before .before .before .before .settings .given .0 .0 in
+    let o = settings-own (words s) _ _ _ _ (c .before .before .before .before .before .before .before .before .before .before .read .ensures) (c .before .before .before .before .before .before .before .before .before .read2 .ensures) (c .before .before .before .before .before .before .before .before .read3 .ensures) (c .before .before .before .before .before .before .before .read4 .ensures) n (sym (c .before .before .before .before .settings .given .1) ∙ c .before .before .before .before .before .before .new .ensures) in
+    let size = c .before .if3 .left ∙ ap (λ (k : ℕ). 8 * k) (c .before .before .store-words .ensures) ∙ ap (λ (c : Settings). 8 * store-words c) (sym (o .0)) in
+    c .parts-good .ensures ∙ ap (λ (c : Settings). parts-good c (sound-key (decode (words s))) (words s)) (sym (o .0)) ∙ parts-bytes s (below-of 256 s (λ i. c .before .before .before .before .before .before .before .before .before .before .before .before .before .shared-slice-known .given i .fits)) size (o .1)
+
+pub is-sound-spec : {M : Type 1} → statement M
+is-sound-spec =
+    tie.close
+    (tie.spec
+    returns
+    mul-if2
+    returns-2
+    read-requires
+    read-requires-2
+    read-requires-3
+    read-requires-4
+    new-requires
+    enum-known-settings
+    enum-told
+    returns-3
+    store-words-requires
+    mul-if3
+    returns-4
+    parts-good-requires
+    returns-5)

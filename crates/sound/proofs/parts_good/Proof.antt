@@ -1,0 +1,100 @@
+use mathlib.Core.Path.{sym, ap, _∙_}
+use mathlib.Core.Bool.{Bool}
+use Prim.Native.Nat.{ℕ, _≤_}
+use lib.ListN.{getD}
+use borrow.Author.Tests.{not-true, not-false}
+use Rattle.lists.specs.Tests.{all-below}
+use Rattle.lists.proofs.Tests.{both}
+use Rattle.words.specs.Words.{words}
+use Rattle.words.proofs.Laws.{length-words}
+use Rattle.rules.specs.Limits.{buckets, max-id}
+use Rattle.rules.specs.Sound.{sound-key}
+use Rattle.layout.specs.Layout.{given-at}
+use Rattle.layout.specs.Store.{decode}
+use Rattle.sound.specs.Rows.{ids}
+use Rattle.sound.specs.Agreed.{agreed-at-good}
+use Rattle.sound.specs.Store.{contents-good, parts-good}
+use Rattle.sound.proofs.Tests.{no-first, no-second, yes-first}
+use Rattle.sound.proofs.KeyLaws.{zeros, zero-limit, keys-below}
+use Rattle.sound.proofs.ByteLaws.{header-given}
+use native.Mathlib.Omega.{arith}
+use borrow.Author.Needs.{needs}
+use Rattle.sound.proofs.parts_good.Statement.{statement}
+use Rattle.sound.proofs.parts_good.Tie as tie
+
+header-good-requires : tie.Need-header-good-requires
+unfolding buckets
+header-good-requires c κs = search needs
+
+returns : tie.Need-returns
+unfolding parts-good
+returns c = sym (no-first _ _ (no-first _ _ (sym (c .before .header-good .ensures) ∙ not-true _ (c .if1 .taken))))
+
+read-requires : tie.Need-read-requires
+unfolding buckets
+read-requires c κs = search needs
+
+all-agreed-good-requires : tie.Need-all-agreed-good-requires
+unfolding buckets
+all-agreed-good-requires c κs = search needs
+
+returns-2 : tie.Need-returns-2
+unfolding parts-good
+returns-2 c =
+    let n = c .before .before .before .before .before .before .args .settings in
+    let ws = words (c .before .before .before .before .before .before .args .store .now) in
+    sym (no-first _ _ (no-second _ _ (ap (λ (k : ℕ). all-below (buckets n) (agreed-at-good k ws)) (sym (c .before .before .read .ensures)) ∙ sym (c .before .all-agreed-good .ensures) ∙ not-true _ (c .if2 .taken))))
+
+slice-aggregate-fill-given : tie.Need-slice-aggregate-fill-given
+unfolding buckets
+slice-aggregate-fill-given c = search needs
+
+fill-given-requires : tie.Need-fill-given-requires
+fill-given-requires c κs = let few : getD (words (c .before .before .before .before .before .before .before .args .store .now)) given-at 0 ≤ max-id = header-given _ _ (sym (c .before .before .before .before .before .header-good .ensures) ∙ not-false _ (c .before .before .before .before .if1 .left)) in search needs
+
+slice-aggregate-fill-places : tie.Need-slice-aggregate-fill-places
+unfolding buckets
+slice-aggregate-fill-places c = search needs
+
+fill-places-requires : tie.Need-fill-places-requires
+fill-places-requires c κs =
+    let few : getD (words (c .before .before .before .before .before .before .before .before .before .before .args .store .now)) given-at 0 ≤ max-id = header-given _ _ (sym (c .before .before .before .before .before .before .before .before .header-good .ensures) ∙ not-false _ (c .before .before .before .before .before .before .before .if1 .left)) in
+    record { known = c .before .before .fill-given .ensures .long; few = omega arith; small = c .before .before .before .before .before .before .before .before .before .before .pre .small; size = c .before .before .before .before .before .before .before .before .before .before .pre .size }
+
+slice-aggregate-contents-good : tie.Need-slice-aggregate-contents-good
+unfolding buckets
+slice-aggregate-contents-good c = search needs
+
+contents-good-requires : tie.Need-contents-good-requires
+contents-good-requires c κs =
+    record {
+      known = c .before .before .fill-places .ensures .long ∙ c .before .before .before .before .before .fill-given .ensures .long;
+      none = zero-limit _ (words (c .before .before .before .before .before .before .before .before .before .before .before .before .before .args .store .now)) _ _ _ _ _ (zeros ids) (c .before .before .before .before .before .fill-given .ensures) (c .before .before .fill-places .ensures);
+      small = c .before .before .before .before .before .before .before .before .before .before .before .before .before .pre .small;
+      size = c .before .before .before .before .before .before .before .before .before .before .before .before .before .pre .size;
+    }
+
+returns-3 : tie.Need-returns-3
+unfolding parts-good
+returns-3 c =
+    let n = c .before .before .before .before .before .before .before .before .before .before .before .before .before .before .args .settings in
+    let ws = words (c .before .before .before .before .before .before .before .before .before .before .before .before .before .before .args .store .now) in
+    let keys = keys-below ws n (c .before .before .before .before .before .before .before .before .before .before .before .before .before .before .pre .own) _ _ _ _ (zeros ids) (c .before .before .before .before .before .before .fill-given .ensures) (length-words (c .before .before .before .before .before .before .before .before .before .before .before .before .before .before .args .store .now) ∙ omega arith) (c .before .before .before .before .before .before .before .before .before .before .read .ensures) (c .before .before .before .fill-places .ensures) in
+    c .contents-good .ensures ∙ ap (λ (good : ℕ → Bool). contents-good n good (c .before .before .before .before .before .before .before .before .before .before .read .result) ws) keys ∙ ap (λ (k : ℕ). contents-good n (sound-key (decode ws)) k ws) (c .before .before .before .before .before .before .before .before .before .before .read .ensures) ∙ sym (yes-first _ _ (both _ _ (sym (c .before .before .before .before .before .before .before .before .before .before .before .before .header-good .ensures) ∙ not-false _ (c .before .before .before .before .before .before .before .before .before .before .before .if1 .left)) (ap (λ (k : ℕ). all-below (buckets n) (agreed-at-good k ws)) (sym (c .before .before .before .before .before .before .before .before .before .before .read .ensures)) ∙ sym (c .before .before .before .before .before .before .before .before .before .all-agreed-good .ensures) ∙ not-false _ (c .before .before .before .before .before .before .before .before .if2 .left))))
+
+pub parts-good-spec : {M : Type 1} → statement M
+parts-good-spec =
+    tie.close
+    (tie.spec
+    header-good-requires
+    returns
+    read-requires
+    all-agreed-good-requires
+    returns-2
+    slice-aggregate-fill-given
+    fill-given-requires
+    slice-aggregate-fill-places
+    fill-places-requires
+    slice-aggregate-contents-good
+    contents-good-requires
+    returns-3)

@@ -1,0 +1,95 @@
+// The check of a store in lent bytes: exactly the one definition of sound, on any bytes of any length. Its cost grows with what is in use.
+ghost use mathlib.Core.Path.{_≡_};
+ghost use lib.ListN.{length};
+ghost use Rattle.words.specs.Words.{words};
+ghost use Rattle.rules.specs.Sound.{sound-key};
+ghost use Rattle.layout.specs.Store.{decode, sound-bytes};
+ghost use Rattle.sound.specs.Rows.{key-below};
+ghost use Rattle.sound.specs.Places.{PlacesFit};
+ghost use Rattle.sound.specs.Store.{header-good, contents-good, parts-good, StoreFit};
+use layout::sizes;
+use rules::constants;
+use rules::settings::Checked;
+use rules::settings::Settings;
+
+pub mod agreed;
+pub mod bag;
+pub mod chunks;
+pub mod copies;
+pub mod limits;
+pub mod place;
+pub mod proxies;
+pub mod rows;
+
+// ids 0 to 255
+const IDS: usize = 256;
+
+// View, the highest id given, and the number of bricks that the view began with are in range.
+fn header_good(settings: Settings, store: &[u8]) -> bool
+    requires { ⌜ StoreFit settings (now store) ⌝ }
+    ensures { λ r. ⌜ r ≡ header-good settings (words (now (store .entry))) ⌝ }
+{
+    let view = words::read(store, sizes::VIEW_AT);
+    let given = words::read(store, sizes::GIVEN_AT);
+    let started = words::read(store, sizes::STARTED_AT);
+    (given <= constants::MAX_ID)
+        & (0 < view)
+        & (view <= constants::MAX_NUMBER)
+        & (started <= settings.places as u64)
+}
+
+// What has keys: the bag, the proxies, the places.
+fn contents_good(settings: Settings, limits: &[u64], given: u64, store: &[u8]) -> bool
+    requires { ⌜ PlacesFit settings (now limits) (length (now store)) ⌝ }
+    ensures { λ r. ⌜ r ≡ contents-good settings (key-below (now (limits .entry))) given (words (now (store .entry))) ⌝ }
+{
+    let a = 8 * sizes::BAG_AT;
+    if !bag::bag_good(settings, limits, &store[a..a + 8 * sizes::BAG_WORDS]) {
+        return false;
+    }
+    if !proxies::proxies_good(settings, limits, store) {
+        return false;
+    }
+    place::places_good(settings, limits, given, store)
+}
+
+// The parts of a store of the length that its settings have.
+fn parts_good(settings: Settings, store: &[u8]) -> bool
+    requires { ⌜ StoreFit settings (now store) ⌝ }
+    ensures { λ r. ⌜ r ≡ parts-good settings (sound-key (decode (words (now (store .entry))))) (words (now (store .entry))) ⌝ }
+{
+    if !header_good(settings, store) {
+        return false;
+    }
+    let given = words::read(store, sizes::GIVEN_AT);
+    if !agreed::all_agreed_good(settings, given, store) {
+        return false;
+    }
+    let mut limits = [0u64; IDS];
+    limits::fill_given(&mut limits, given);
+    limits::fill_places(&mut limits, settings, given, store);
+    contents_good(settings, &limits, given, store)
+}
+
+// Are these bytes a sound store?
+pub fn is_sound(store: &[u8]) -> bool
+    ensures { λ r. ⌜ r ≡ sound-bytes (now (store .entry)) ⌝ }
+{
+    if store.len() % Settings::SIZE_STEP != 0 {
+        return false;
+    }
+    if store.len() < 8 * sizes::HEAD_WORDS {
+        return false;
+    }
+    let places = words::read(store, 0) as usize;
+    let size = words::read(store, 1) as usize;
+    let entries = words::read(store, 2) as usize;
+    let chunks = words::read(store, 3) as usize;
+    let Checked::Good(settings) = Settings::new(places, size, entries, chunks) else {
+        return false;
+    };
+    if store.len() != 8 * sizes::store_words(settings) {
+        return false;
+    }
+    parts_good(settings, store)
+}

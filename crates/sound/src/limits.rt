@@ -1,0 +1,54 @@
+// A limit for each id, filled once for each check: a key's sequence number is below its home's. 0 where the id was not given, the brick's next where a
+// place holds it, all sequence numbers else.
+ghost use mathlib.Core.Path.{_≡_};
+ghost use lib.ListN.{length};
+ghost use Rattle.words.specs.Words.{words};
+ghost use Rattle.sound.specs.Limits.{with-limit, GivenFit, Given, Filled, FillFit};
+use crate::place;
+use layout::sizes;
+use rules::constants;
+use rules::settings::Settings;
+
+// Every id given may have any sequence number.
+pub fn fill_given(limits: &mut [u64], given: u64)
+    requires { ⌜ GivenFit (length (now limits)) given ⌝ }
+    ensures { λ _. ⌜ Given given (now (limits .entry)) (now (limits .exit)) ⌝ }
+{
+    let mut i = 1;
+    while i <= given as usize {
+        limits[i] = constants::SEQUENCES;
+        i += 1;
+    }
+}
+
+// The limit of an id given.
+fn set_limit(limits: &mut [u64], given: u64, id: u64, next: u64)
+    requires { ⌜ GivenFit (length (now limits)) given ⌝ }
+    ensures { λ _. ⌜ now (limits .exit) ≡ with-limit given id next (now (limits .entry)) ⌝ }
+{
+    if id == 0 {
+        return;
+    }
+    if given < id {
+        return;
+    }
+    limits[id as usize] = next;
+}
+
+// The limits of the bricks at the places.
+pub fn fill_places(limits: &mut [u64], settings: Settings, given: u64, store: &[u8])
+    requires { ⌜ FillFit settings given (length (now limits)) (length (now store)) ⌝ }
+    ensures { λ _. ⌜ Filled settings given (words (now (store .entry))) (settings .places) (now (limits .entry)) (now (limits .exit)) ⌝ }
+{
+    let mut p = 0;
+    while p < settings.places {
+        let at = place::place_at(settings, p);
+        set_limit(
+            limits,
+            given,
+            words::read(store, at),
+            words::read(store, at + sizes::NEXT_AT),
+        );
+        p += 1;
+    }
+}

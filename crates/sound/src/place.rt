@@ -1,0 +1,132 @@
+// A place: the id of its brick, its status, its append buffer, its copies and its log.
+ghost use mathlib.Core.Path.{_≡_};
+ghost use Prim.Native.Nat.{_+_, _*_, _≤_, _<_};
+ghost use Rattle.lists.specs.Tests.{all-below};
+ghost use lib.ListN.{length};
+ghost use Rattle.words.specs.Words.{words};
+ghost use Rattle.layout.specs.Layout.{buffer-at};
+ghost use Rattle.layout.specs.Layout.{place-words, place-at, store-words};
+ghost use Rattle.sound.specs.Rows.{key-below};
+ghost use Rattle.sound.specs.Places.{status-good, buffer-good, brick-good, alone-at, place-at-good, PlaceIn, PlaceFit, PlacesFit, OnePlaceFit};
+use crate::chunks;
+use crate::copies;
+use crate::rows;
+use crate::rows::Whose;
+use layout::sizes;
+use rules::constants;
+use rules::settings::Settings;
+
+// Flags are 0 or 1, a member is up, next is at most the ceiling.
+fn status_good(place: &[u8]) -> bool
+    requires { ⌜ 8 * buffer-at ≤ length (now place) ⌝ }
+    ensures { λ r. ⌜ r ≡ status-good (words (now (place .entry))) ⌝ }
+{
+    let up = words::read(place, sizes::UP_AT);
+    let member = words::read(place, sizes::MEMBER_AT);
+    let began = words::read(place, sizes::BEGAN_AT);
+    let next = words::read(place, sizes::NEXT_AT);
+    let ceiling = words::read(place, sizes::CEILING_AT);
+    (up <= 1)
+        & (member <= up)
+        & (began <= 1)
+        & (next <= ceiling)
+        & (ceiling <= constants::SEQUENCES)
+}
+
+// The append buffer, which is empty where the brick is down.
+fn buffer_good(settings: Settings, limits: &[u64], up: bool, place: &[u8]) -> bool
+    requires { ⌜ PlaceFit settings (now limits) (length (now place)) ⌝ }
+    ensures { λ r. ⌜ r ≡ buffer-good settings (key-below (now (limits .entry))) up (words (now (place .entry))) ⌝ }
+{
+    if !up {
+        return words::read(place, sizes::BUFFER_AT) == 0;
+    }
+    let a = 8 * sizes::BUFFER_AT;
+    rows::table_good(
+        settings,
+        limits,
+        Whose::Anyone,
+        &place[a..a + 8 * sizes::BUFFER_WORDS],
+        constants::MAX_WAITING,
+    )
+}
+
+// A place that holds a brick.
+pub fn brick_good(settings: Settings, limits: &[u64], place: &[u8]) -> bool
+    requires { ⌜ PlaceFit settings (now limits) (length (now place)) ⌝ }
+    ensures { λ r. ⌜ r ≡ brick-good settings (key-below (now (limits .entry))) (words (now (place .entry))) ⌝ }
+{
+    if !status_good(place) {
+        return false;
+    }
+    let up = words::read(place, sizes::UP_AT) == 1;
+    if !buffer_good(settings, limits, up, place) {
+        return false;
+    }
+    let from = 8 * sizes::COPIES_AT;
+    let log = 8 * sizes::log_at(settings);
+    if !copies::all_copies_good(settings, limits, up, &place[from..log]) {
+        return false;
+    }
+    let end = 8 * sizes::place_words(settings);
+    chunks::log_good(settings, limits, &place[log..end])
+}
+
+// Does no place below p have this id?
+fn alone(settings: Settings, store: &[u8], p: usize, id: u64) -> bool
+    requires { ⌜ OnePlaceFit settings (length (now store)) p ⌝ }
+    ensures { λ r. ⌜ r ≡ all-below p (alone-at settings (words (now (store .entry))) id) ⌝ }
+{
+    let mut q = 0;
+    while q < p {
+        if words::read(store, place_at(settings, q)) == id {
+            return false;
+        }
+        q += 1;
+    }
+    true
+}
+
+// The place p; of an empty one nothing but the id is read.
+fn place_good(settings: Settings, limits: &[u64], given: u64, store: &[u8], p: usize) -> bool
+    requires { ⌜ PlacesFit settings (now limits) (length (now store)) ⌝ }
+    requires { ⌜ p < settings .places ⌝ }
+    ensures { λ r. ⌜ r ≡ place-at-good settings (key-below (now (limits .entry))) given (words (now (store .entry))) p ⌝ }
+{
+    let at = place_at(settings, p);
+    let id = words::read(store, at);
+    if id == 0 {
+        return true;
+    }
+    if given < id {
+        return false;
+    }
+    if !alone(settings, store, p, id) {
+        return false;
+    }
+    let a = 8 * at;
+    let e = a + 8 * sizes::place_words(settings);
+    brick_good(settings, limits, &store[a..e])
+}
+
+pub fn places_good(settings: Settings, limits: &[u64], given: u64, store: &[u8]) -> bool
+    requires { ⌜ PlacesFit settings (now limits) (length (now store)) ⌝ }
+    ensures { λ r. ⌜ r ≡ all-below (settings .places) (place-at-good settings (key-below (now (limits .entry))) given (words (now (store .entry)))) ⌝ }
+{
+    let mut p = 0;
+    while p < settings.places {
+        if !place_good(settings, limits, given, store, p) {
+            return false;
+        }
+        p += 1;
+    }
+    true
+}
+
+// Where place p begins.
+pub fn place_at(settings: Settings, p: usize) -> usize
+    requires { ⌜ PlaceIn settings p ⌝ }
+    ensures { λ r. ⌜ (r ≡ place-at settings p) × (r + place-words settings ≤ store-words settings) ⌝ }
+{
+    sizes::PLACES_AT + words::offset(p, sizes::place_words(settings), settings.places)
+}
