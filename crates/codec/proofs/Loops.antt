@@ -8,10 +8,10 @@ use lib.ListN.{length, take, drop, getD, set, length-drop}
 use lib.Seq.{take-at, drop-at, drop-drop, drop-length, take-length, take-add, length-take-le}
 use Rattle.lists.specs.Runs.{run, on-run, part, enc-all}
 use Rattle.lists.proofs.Runs.{fits-in, run-length, on-right, on-length, on-by, on-twice, on-within}
-use Rattle.codec.specs.Codec.{Codec, Clean, Two, enc-two, enc-many, rows, over, table}
+use Rattle.codec.specs.Codec.{Codec, Two, enc-two, enc-many, rows, over, table}
 use Rattle.codec.proofs.Laws.{Lawful, two-is, two-left, two-right, many-none, many-last, many-keeps, over-left, over-right, rest-length}
 use Rattle.codec.proofs.Focus.{on-whole}
-use Rattle.codec.proofs.Round.{length-rows}
+use Rattle.codec.proofs.Round.{CleanIf, Any, length-rows}
 
 -- ---- what a loop over n values has written after i turns: the first i values, and past them what was there
 unfoldable pub written : {A : Type 0} → Codec A → ℕ → (ℕ → A) → List ℕ → List ℕ
@@ -104,20 +104,21 @@ table-cleared c most (x ∷ w) h = ap (λ (v : List ℕ). 0 ∷ v) (over-nil c m
 
 -- ---- rows that fill their words: what is written does not depend on what was there
 pub record Plain {A : Type 0} (c : Codec A) : Type 0 where
-  pub any : (a : A) (w v : List ℕ) → length w ≡ c .size → length v ≡ c .size → c .enc a w ≡ c .enc a v
-  pub again : (w : List ℕ) → length w ≡ c .size → Clean c w
+  pub row : A → List ℕ
+  pub writes : (a : A) (w : List ℕ) → length w ≡ c .size → c .enc a w ≡ row a
+  pub any : CleanIf c Any
 
-module _ {A : Type 0} (c : Codec A) (law : Lawful c) (plain : Plain c) (blank : List ℕ) (hb : length blank ≡ c .size) where
+module _ {A : Type 0} (c : Codec A) (plain : Plain c) where
   -- rows written one after the other, and past them what was there
-  pub over-is : (most : ℕ) (l : List A) (w : List ℕ) → length l ≤ most → length w ≡ most * c .size
-      → over c most l w ≡ enc-all (λ x. c .enc x blank) l ++ drop (length l * c .size) w
+  over-is : (most : ℕ) (l : List A) (w : List ℕ) → length l ≤ most → length w ≡ most * c .size
+      → over c most l w ≡ enc-all (plain .row) l ++ drop (length l * c .size) w
   unfolding over enc-all
   over-is zero [] w h g = rw zero-mul
   over-is zero (x ∷ l) w h g = absurd (not-suc-le-zero h)
   over-is (suc m) [] w h g = rw zero-mul
   over-is (suc m) (x ∷ l) w h g =
       rw (
-        plain .any x (take (c .size) w) blank (over-left c m w g) hb,
+        plain .writes x (take (c .size) w) (over-left c m w g),
         over-is m l (drop (c .size) w) (le-of-suc-le-suc h) (over-right c m w g),
         drop-drop (length l * c .size) (c .size) w,
         suc-mul (length l) (c .size),
@@ -127,19 +128,20 @@ module _ {A : Type 0} (c : Codec A) (law : Lawful c) (plain : Plain c) (blank : 
 
   -- a table's words are its count, its rows one after the other, and what was there
   pub table-is : (most : ℕ) (l : List A) (w : List ℕ) → length l ≤ most → length w ≡ 1 + most * c .size
-      → table most c .enc l w ≡ length l ∷ (enc-all (λ x. c .enc x blank) l ++ drop (length l * c .size) (drop 1 w))
+      → table most c .enc l w ≡ length l ∷ (enc-all (plain .row) l ++ drop (length l * c .size) (drop 1 w))
   table-is most l w h g = ap (λ (v : List ℕ). length l ∷ v) (over-is most l (drop 1 w) h (rest-length (most * c .size) w g))
 
   -- the rows read are the words of the rows
-  pub rows-are : (n : ℕ) (w : List ℕ) → n * c .size ≤ length w → enc-all (λ x. c .enc x blank) (rows c n w) ≡ take (n * c .size) w
+  pub rows-are : (n : ℕ) (w : List ℕ) → n * c .size ≤ length w → enc-all (plain .row) (rows c n w) ≡ take (n * c .size) w
   unfolding rows enc-all
   rows-are zero w h = rw zero-mul
   rows-are (suc n) w h =
       let g : n * c .size + c .size ≤ length w = rw suc-mul at h in
       let t : length (take (c .size) w) ≡ c .size = length-take-le (c .size) w (omega arith) in
+      let one : plain .row (c .dec (take (c .size) w)) ≡ take (c .size) w =
+      sym (plain .writes (c .dec (take (c .size) w)) (take (c .size) w) t) ∙ plain .any .clean (take (c .size) w) t tt in
       rw (
-        plain .any (c .dec (take (c .size) w)) blank (take (c .size) w) hb t,
-        plain .again (take (c .size) w) t,
+        one,
         rows-are n (drop (c .size) w) (rw length-drop (omega arith)),
         suc-mul n (c .size),
         add-comm (n * c .size) (c .size),

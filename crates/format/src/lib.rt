@@ -77,7 +77,7 @@ fn proxy(s: &mut [u8])
 
 // All proxies.
 fn proxies(s: &mut [u8])
-    requires { ⌜ length (now s) ≡ 8 * (4 * proxy-words) ⌝ }
+    requires { ⌜ length (now s) ≡ 8 * all-proxies-codec .size ⌝ }
     ensures { λ _. ⌜ words (now (s .exit)) ≡ all-proxies-codec .enc (λ p. blank-proxy) (words (now (s .entry))) ⌝ }
 {
     let mut p = 0;

@@ -1,21 +1,23 @@
 -- What a change of one part of the state does to the words of a sound store.
 use mathlib.Core.Path.{_≡_, refl, sym, ap, subst, _∙_}
 use mathlib.Core.List.{List}
-use Prim.Native.Nat.{ℕ, _<_}
+use Prim.Native.Nat.{ℕ, _+_, _<_}
+use native.Mathlib.Omega.{arith}
 use lib.ListN.{length, getD, set}
 use Rattle.lists.specs.Runs.{run, on-run}
+use Rattle.lists.proofs.Runs.{on-within}
 use Rattle.rules.specs.declared.settings.Settings.{Settings}
 use Rattle.rules.specs.State.{State}
 use Rattle.codec.specs.Codec.{Codec, Clean, _&_, word}
-use Rattle.codec.proofs.Focus.{Focus, part-length, clean-part, read-word, write-word}
+use Rattle.codec.proofs.Focus.{Focus, _through_, on-const, part-length, clean-part, read-word, write-word}
 use Rattle.layout.specs.Places.{Apart}
 use Rattle.layout.specs.Disk.{Brick, Place}
-use Rattle.layout.specs.Layout.{disk-codec, settings-of}
+use Rattle.layout.specs.Layout.{place-codec, disk-codec, settings-of, place-words, place-at}
 use Rattle.layout.specs.Store.{brick-in, to-disk, decode, render}
 use Rattle.layout.proofs.Places.{one-brick}
-use Rattle.layout.proofs.Foci.{brick-focus}
+use Rattle.layout.proofs.Foci.{place-focus, brick-focus}
 use Rattle.layout.proofs.Decoded.{settings-read}
-use Rattle.layout.proofs.Sound.{SoundWords, by-place, sound-clean}
+use Rattle.layout.proofs.Sound.{SoundWords, words-apart, by-place, sound-clean}
 
 module _ (ws : List ℕ) (sd : SoundWords ws) where
   -- a state of the same settings is written by the same codec
@@ -86,3 +88,27 @@ only-brick c s t p h u z o =
   where
     same-place : (i j : ℕ) → i ≡ j → brick-in s i ≡ brick-in t i → _≡_ {A = Place} (i & brick-in s i) (j & brick-in t j)
     same-place i j q r = subst (λ (k : ℕ). _≡_ {A = Place} (i & brick-in s i) (k & brick-in t k)) q (ap (λ (b : Brick). i & b) r)
+
+-- ---- a change of one brick in a sound store: of the words of its place, and of a part of those
+module _ (ws : List ℕ) (sd : SoundWords ws) (t : State) (same : t .settings ≡ decode ws .settings) (p : ℕ) (h : p < settings-of ws .places)
+    (o : 0 < decode ws .ids p) (one : OneBrick (decode ws) t (decode ws .ids p)) where
+  one-place : place-focus (settings-of ws) p h .Else (to-disk (decode ws)) (to-disk t)
+  one-place = only-brick (settings-of ws) (decode ws) t p h (words-apart ws sd) o one .0
+
+  pub place-changed : render t ws
+      ≡ on-run (place-at (settings-of ws) p) (place-words (settings-of ws)) (place-codec (settings-of ws) .enc (to-disk t .place p)) ws
+  place-changed =
+      change ws sd (place-focus (settings-of ws) p h) t same one-place
+      ∙ on-const (place-at (settings-of ws) p) (place-words (settings-of ws)) (place-codec (settings-of ws) .enc (to-disk t .place p)) ws
+
+  pub part-changed : {B : Type 0} {d : Codec B} (φ : Focus (place-codec (settings-of ws)) d) → φ .Else (to-disk (decode ws) .place p) (to-disk t .place p)
+      → render t ws
+      ≡ on-run (place-at (settings-of ws) p) (place-words (settings-of ws)) (on-run (φ .off) (d .size) (d .enc (φ .see (to-disk t .place p)))) ws
+  part-changed {d = d} φ e =
+      let place = place-focus (settings-of ws) p h in
+      let whole = place .inside in
+      let size = sd .size in
+      change ws sd (place through φ) t same (one-place, e)
+      ∙ on-const (place-at (settings-of ws) p + φ .off) (d .size) (d .enc (φ .see (to-disk t .place p))) ws
+      ∙ sym (on-within (place-at (settings-of ws) p) (place-words (settings-of ws)) (φ .off) (d .size) (d .enc (φ .see (to-disk t .place p))) ws
+      (omega arith) (φ .inside))

@@ -1,6 +1,6 @@
 -- Clean words, part by part: flags are 0 or 1, and logs are clean. All else may hold any words.
 use mathlib.Core.Path.{_≡_, refl, sym, ap, subst, _∙_}
-use mathlib.Core.List.{List}
+use mathlib.Core.List.{List, [], _∷_}
 use Prim.Native.Nat.{ℕ, _+_, _*_, _≤_, _<_}
 use native.Mathlib.Omega.{arith}
 use lib.ListN.{length, take, drop, getD, length-drop}
@@ -8,9 +8,12 @@ use lib.Seq.{drop-drop, getD-drop, getD-take}
 use Rattle.lists.specs.Runs.{run}
 use Rattle.lists.proofs.Runs.{fits-in, run-length, run-front, run-rest, run-all}
 use Rattle.rules.specs.declared.settings.Settings.{Settings}
+use Rattle.rules.specs.Entries.{Entry}
+use Rattle.rules.specs.State.{Relay}
 use Rattle.rules.specs.Limits.{proxies, buckets, max-relays, max-items, max-waiting}
-use Rattle.codec.specs.Codec.{Codec, Clean, word, _then_, many}
+use Rattle.codec.specs.Codec.{Codec, Clean, enc-two, word, _then_, many}
 use Rattle.codec.proofs.Focus.{clean-part}
+use Rattle.codec.proofs.Loops.{Plain}
 use Rattle.codec.proofs.Round.{CleanIf, Any, clean-word, clean-flag, clean-via, clean-two, flag-part, clean-many, clean-table, clean-slot}
 use Rattle.layout.specs.Disk.{blank-agreed, blank-proxy, blank-copies, blank-brick, blank-place}
 use Rattle.layout.specs.Disk.{entry-reading, relay-reading, settings-reading, head-reading, agreed-reading, proxy-reading, status-reading}
@@ -34,11 +37,32 @@ words-two = any-two clean-word clean-word
 words-four : CleanIf (word then word then word then word) Any
 words-four = any-two clean-word (any-two clean-word words-two)
 
-entry-any : CleanIf entry-codec Any
+pub entry-any : CleanIf entry-codec Any
 entry-any = clean-via entry-reading (λ t. refl) words-two
 
-relay-any : CleanIf relay-codec Any
+pub relay-any : CleanIf relay-codec Any
 relay-any = clean-via relay-reading (λ t. refl) (any-two clean-word words-four)
+
+-- rows fill their words, so tables of them are lists of rows
+abbrev pub entry-row : Entry → List ℕ
+entry-row e = e .block ∷ e .key ∷ []
+
+abbrev pub relay-row : Relay → List ℕ
+relay-row r = r .view ∷ r .bucket ∷ r .order ∷ r .block ∷ r .key ∷ []
+
+pub entry-writes : (e : Entry) (w : List ℕ) → length w ≡ entry-codec .size → entry-codec .enc e w ≡ entry-row e
+unfolding enc-two
+entry-writes e w h = refl
+
+pub relay-writes : (r : Relay) (w : List ℕ) → length w ≡ relay-codec .size → relay-codec .enc r w ≡ relay-row r
+unfolding enc-two
+relay-writes r w h = refl
+
+abbrev pub entry-plain : Plain entry-codec
+entry-plain = record { row = entry-row; writes = entry-writes; any = entry-any }
+
+abbrev pub relay-plain : Plain relay-codec
+relay-plain = record { row = relay-row; writes = relay-writes; any = relay-any }
 
 head-any : CleanIf head-codec Any
 head-any = clean-via head-reading (λ t. refl) (any-two (clean-via settings-reading (λ t. refl) words-four) (any-two clean-word words-two))

@@ -4,7 +4,7 @@ use Prim.Native.Nat.{ℕ, _+_, _*_, _/_}
 use lib.ListN.{take}
 use Rattle.lists.specs.Runs.{run}
 use Rattle.rules.specs.declared.settings.Settings.{Settings}
-use Rattle.rules.specs.Limits.{size-step, proxies, buckets, max-relays, max-items, max-waiting}
+use Rattle.rules.specs.Limits.{proxies, buckets, max-relays, max-items, max-waiting}
 use Rattle.rules.specs.Entries.{Entry}
 use Rattle.rules.specs.Chunks.{Chunk}
 use Rattle.rules.specs.State.{Relay}
@@ -13,6 +13,10 @@ use Rattle.codec.specs.Codec.{Codec, word, flag, via, _then_, many, table, slot
 use Rattle.layout.specs.Disk.{Head, Agreed, Proxy, Status, Copies, Brick, Place, Disk, blank-agreed, blank-proxy, blank-copies, blank-brick, blank-place}
 use Rattle.layout.specs.Disk.{entry-reading, relay-reading, settings-reading, head-reading, agreed-reading, proxy-reading, status-reading}
 use Rattle.layout.specs.Disk.{copies-reading, brick-reading, disk-reading}
+
+-- a word has 8 bytes, so a block is whole words
+abbrev pub word-bytes : ℕ
+word-bytes = 8
 
 -- ---- rows: block, key; view, bucket, order number, block, key
 abbrev pub entry-codec : Codec Entry
@@ -60,7 +64,7 @@ all-copies-codec c = many (buckets c) blank-copies (copies-codec c)
 
 abbrev pub log-codec : Settings → Codec (List Chunk)
 log-codec c =
-    let width = c .size / size-step in
+    let width = c .size / word-bytes in
     record { size = log-size (c .chunks) width; dec = log-dec (c .chunks) width; enc = log-enc (c .chunks) width }
 
 abbrev pub brick-codec : Settings → Codec Brick

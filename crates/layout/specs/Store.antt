@@ -7,13 +7,12 @@ use lib.ListN.{length}
 use Rattle.lists.specs.Tests.{_and_}
 use Rattle.words.specs.Words.{words, unwords}
 use Rattle.rules.specs.declared.settings.Settings.{Settings}
-use Rattle.rules.specs.Limits.{size-step}
 use Rattle.rules.specs.State.{Bucket, State}
 use Rattle.rules.specs.Sound.{sound}
 use Rattle.codec.specs.Codec.{_&_}
 use Rattle.layout.specs.Places.{of}
 use Rattle.layout.specs.Disk.{Agreed, Brick, Disk, blank-brick}
-use Rattle.layout.specs.Layout.{disk-codec, settings-of, store-words}
+use Rattle.layout.specs.Layout.{word-bytes, disk-codec, settings-of, store-words}
 
 -- ---- from places to ids
 unfoldable pub brick-at : Disk → ℕ → Brick
@@ -124,8 +123,8 @@ render-bytes s bs = unwords (render s (words bs))
 
 -- so many bytes are lent for a store of these settings
 abbrev pub store-bytes : Settings → ℕ
-store-bytes c = size-step * store-words c
+store-bytes c = word-bytes * store-words c
 
 -- the bytes are whole words, and those are sound
 unfoldable pub sound-bytes : List ℕ → Bool
-sound-bytes bs = eqb (length bs % size-step) 0 and sound-words (words bs)
+sound-bytes bs = eqb (length bs % word-bytes) 0 and sound-words (words bs)

@@ -7,6 +7,8 @@ ghost use Rattle.layout.specs.Store.{store-bytes};
 use rules::constants;
 use rules::settings::Settings;
 
+pub const WORD_BYTES: usize = 8;
+
 // words of a row: block, key; view, bucket, order number, block, key
 pub const ENTRY_WORDS: usize = 2;
 
@@ -98,7 +100,7 @@ pub fn log_words(settings: Settings) -> usize
     requires { ⌜ Limits settings ⌝ }
     ensures { λ r. ⌜ r ≡ log-words settings ⌝ }
 {
-    1 + 3 * settings.chunks + settings.chunks * (settings.size / Settings::SIZE_STEP)
+    1 + 3 * settings.chunks + settings.chunks * (settings.size / WORD_BYTES)
 }
 
 // Where the log lies in a place.
@@ -147,5 +149,5 @@ pub fn store_bytes(settings: Settings) -> usize
     requires { ⌜ Limits settings ⌝ }
     ensures { λ r. ⌜ r ≡ store-bytes settings ⌝ }
 {
-    Settings::SIZE_STEP * store_words(settings)
+    WORD_BYTES * store_words(settings)
 }

@@ -1,10 +1,11 @@
 -- Laws of lists: elements by their place, and what a map and a test do together.
 use mathlib.Core.Path.{_≡_, refl, ap}
-use mathlib.Core.Bool.{Bool, true, false}
-use mathlib.Core.List.{List, [], _∷_, map}
+use mathlib.Core.Bool.{Bool, cond}
+use mathlib.Core.List.{List, [], _∷_, _++_, map, append-nil}
 use Prim.Native.Nat.{ℕ, zero, suc, _<_}
 use native.Mathlib.Nat.{not-suc-le-zero, le-of-suc-le-suc}
-use lib.ListN.{length, getD}
+use lib.ListN.{length, getD, take}
+use lib.Seq.{take-suc}
 use Rattle.lists.specs.Tests.{only}
 use Rattle.lists.proofs.Tests.{by}
 
@@ -20,3 +21,16 @@ unfolding only
 map-only f p t e [] = refl
 map-only {A} {B} f p t e (x ∷ l) =
     by (p x) (λ q. rw (q, e x, q) (ap (λ (r : List B). f x ∷ r) (map-only f p t e l))) (λ q. rw (q, e x, q) (map-only f p t e l))
+
+pub only-append : {A : Type 0} (p : A → Bool) (k l : List A) → only p (k ++ l) ≡ only p k ++ only p l
+unfolding only
+only-append p [] l = refl
+only-append {A} p (x ∷ k) l = by (p x) (λ q. rw (q, only-append p k l)) (λ q. rw (q, only-append p k l))
+
+-- the elements that a test keeps of one more
+pub only-more : {A : Type 0} (p : A → Bool) (l : List A) (i : ℕ) (d : A) → i < length l
+    → only p (take (suc i) l) ≡ cond (p (getD l i d)) (only p (take i l) ++ getD l i d ∷ []) (only p (take i l))
+unfolding only
+only-more p l i d h =
+    rw (take-suc l i d h, only-append p (take i l) (getD l i d ∷ []))
+    (by (p (getD l i d)) (λ q. rw q) (λ q. rw (q, append-nil)))

@@ -9,10 +9,10 @@ use lib.ListN.{length, take, drop, getD, set, replicate, length-append, length-d
 use lib.Seq.{take-take, take-add, take-all, take-append-le, drop-append-le, drop-cons, drop-drop, take-at, drop-at, set-split}
 use lib.Seq.{paste, length-take-le, take-append-add, drop-append-add}
 use lib.Dec.{ltb}
-use mathlib.Core.Bool.{true}
+use mathlib.Core.Bool.{Bool, true}
 use borrow.Author.Tests.{ltb-true, lt-ltb}
-use Rattle.lists.specs.Tests.{every}
-use Rattle.lists.proofs.Tests.{and-l, and-r, both}
+use Rattle.lists.specs.Tests.{every, only}
+use Rattle.lists.proofs.Tests.{by, and-l, and-r, both}
 use Rattle.lists.specs.Runs.{run, on-run, part, map-parts, enc-all, Sized, none, more, Below}
 
 -- record i of n lies within n records: the one fact on products that offsets need
@@ -157,6 +157,11 @@ module _ {A : Type 0} (enc : A → List ℕ) (size : ℕ) where
   sized-take zero r = none
   sized-take (suc i) none = none
   sized-take (suc i) (more e r) = more e (sized-take i r)
+
+  pub sized-only : (test : A → Bool) {xs : List A} → Sized enc size xs → Sized enc size (only test xs)
+  unfolding only
+  sized-only test none = none
+  sized-only test (more {x} {xs} e r) = by (test x) (λ q. rw q (more e (sized-only test r))) (λ q. rw q (sized-only test r))
 
   pub sized-at : (i : ℕ) (d : A) {xs : List A} → Sized enc size xs → i < length xs → length (enc (getD xs i d)) ≡ size
   sized-at i d none h = absurd (not-suc-le-zero h)

@@ -53,12 +53,17 @@ up-turn w from to n (suc j) h hl hi p =
     )
     (paste-back w (to + j) (from + j) (n - suc j) (omega arith) (omega arith))
 
+-- one word more of a list
+pub put-turn : (w : List ℕ) (at : ℕ) (l : List ℕ) (i : ℕ) → at + length l ≤ length w → i < length l
+    → set (paste w at l i) (at + i) (getD l i 0) ≡ paste w at l (i + 1)
+put-turn w at l i hl hi = rw (add-one i) (paste-suc w at l i 0 (omega arith) hi)
+
 pub fill-turn : (w : List ℕ) (at n v i : ℕ) → at + n ≤ length w → i < n
     → set (paste w at (replicate n v) i) (at + i) v ≡ paste w at (replicate n v) (i + 1)
 fill-turn w at n v i hl hi =
-    let hs : i < length (replicate n v) = rw length-replicate hi in
-    rw (add-one i) (ap (set (paste w at (replicate n v) i) (at + i)) (sym (getD-replicate n i v 0 hi))
-    ∙ paste-suc w at (replicate n v) i 0 (omega arith) hs)
+    let e : length (replicate n v) ≡ n = length-replicate n v in
+    ap (set (paste w at (replicate n v) i) (at + i)) (sym (getD-replicate n i v 0 hi))
+    ∙ put-turn w at (replicate n v) i (omega arith) (omega arith)
 
 pub copy-turn : (d s : List ℕ) (i : ℕ) → length d ≡ length s → i < length s
     → set (take i s ++ drop i d) i (getD s i 0) ≡ take (i + 1) s ++ drop (i + 1) d

@@ -55,6 +55,19 @@ pub fn fill(s: &mut [u8], at: usize, n: usize, v: u64)
     }
 }
 
+// The words from `at` become those of a list.
+pub fn put_words(s: &mut [u8], at: usize, list: &[u64])
+    requires { ⌜ 8 * (at + length (now list)) ≤ length (now s) ⌝ }
+    ensures { λ _. ⌜ words (now (s .exit)) ≡ paste (words (now (s .entry))) at (now (list .entry)) (length (now (list .entry))) ⌝ }
+{
+    let n = list.len();
+    let mut put = 0;
+    while put < n {
+        words::write(s, at + put, list[put]);
+        put += 1;
+    }
+}
+
 // All of src goes to d, which is as long.
 pub fn copy_bytes(d: &mut [u8], src: &[u8])
     requires { ⌜ length (now d) ≡ length (now src) ⌝ }

@@ -1,0 +1,129 @@
+-- Laws of rows in words: by place, one after the other, and a table read and written.
+use mathlib.Core.Path.{_≡_, refl, sym, ap, _∙_}
+use mathlib.Core.List.{List, [], _∷_, _++_, append-assoc, map}
+use Prim.Native.Nat.{ℕ, zero, suc, _+_, _*_, _-_, _≤_, _<_}
+use native.Mathlib.Nat.{suc-mul, zero-mul, add-comm, le-of-suc-le-suc, not-suc-le-zero, mul-le-mul-right}
+use native.Mathlib.Omega.{arith}
+use lib.ListN.{length, take, drop, getD, length-append, length-drop, length-map, take-append-drop}
+use lib.Seq.{take-add, take-at, drop-at, drop-drop, drop-cons, length-take-le}
+use Rattle.lists.specs.Runs.{part, enc-all, Sized, none, more}
+use Rattle.lists.proofs.Runs.{length-enc-all}
+use Rattle.tables.specs.Tables.{table-words, rows, table-dec, table-enc, row}
+
+-- ---- rows by place
+module _ {A : Type 0} (w : ℕ) (read : List ℕ → A) where
+  pub length-rows : (n : ℕ) (ws : List ℕ) → length (rows w read n ws) ≡ n
+  unfolding rows
+  length-rows zero ws = refl
+  length-rows (suc n) ws = ap suc (length-rows n (drop w ws))
+
+  pub rows-take : (p n : ℕ) (ws : List ℕ) → p ≤ n → take p (rows w read n ws) ≡ rows w read p ws
+  unfolding rows
+  rows-take zero n ws h = refl
+  rows-take (suc p) zero ws h = absurd (not-suc-le-zero h)
+  rows-take (suc p) (suc n) ws h = rw (rows-take p n (drop w ws) (le-of-suc-le-suc h))
+
+  pub rows-drop : (p n : ℕ) (ws : List ℕ) → p ≤ n → drop p (rows w read n ws) ≡ rows w read (n - p) (drop (p * w) ws)
+  unfolding rows
+  rows-drop zero n ws h = let e : n - 0 ≡ n = omega arith in rw (e, zero-mul)
+  rows-drop (suc p) zero ws h = absurd (not-suc-le-zero h)
+  rows-drop (suc p) (suc n) ws h =
+      let e : suc n - suc p ≡ n - p = omega arith in
+      rw (rows-drop p n (drop w ws) (le-of-suc-le-suc h), drop-drop (p * w) w ws, e, suc-mul p w, add-comm (p * w) w)
+
+  pub row-at : (n j : ℕ) (ws : List ℕ) (d : A) → j < n → getD (rows w read n ws) j d ≡ read (part w j ws)
+  unfolding rows
+  row-at zero j ws d h = absurd (not-suc-le-zero h)
+  row-at (suc n) zero ws d h = rw zero-mul
+  row-at (suc n) (suc j) ws d h =
+      row-at n j (drop w ws) d (le-of-suc-le-suc h) ∙ rw (drop-drop (j * w) w ws, suc-mul j w, add-comm (j * w) w)
+
+-- ---- rows whose words are what was read: written one after the other they are the words
+module _ {A : Type 0} (w : ℕ) (read : List ℕ → A) (write : A → List ℕ) (exact : (r : List ℕ) → length r ≡ w → write (read r) ≡ r) where
+  pub enc-rows : (n : ℕ) (ws : List ℕ) → n * w ≤ length ws → enc-all write (rows w read n ws) ≡ take (n * w) ws
+  unfolding rows enc-all
+  enc-rows zero ws h = rw zero-mul
+  enc-rows (suc n) ws h =
+      let g : n * w + w ≤ length ws = rw suc-mul at h in
+      rw (
+        exact (take w ws) (length-take-le w ws (omega arith)),
+        enc-rows n (drop w ws) (rw length-drop (omega arith)),
+        suc-mul n w,
+        add-comm (n * w) w,
+        take-add w (n * w) ws,
+      )
+
+  pub sized-rows : (n : ℕ) (ws : List ℕ) → n * w ≤ length ws → Sized write w (rows w read n ws)
+  unfolding rows
+  sized-rows zero ws h = none
+  sized-rows (suc n) ws h =
+      let g : n * w + w ≤ length ws = rw suc-mul at h in
+      let l : length (take w ws) ≡ w = length-take-le w ws (omega arith) in
+      more {x = read (take w ws)} (rw (exact (take w ws) l) l) (sized-rows n (drop w ws) (rw length-drop (omega arith)))
+
+  -- as lists of words
+  pub rows-raw : (n : ℕ) (ws : List ℕ) → n * w ≤ length ws → map write (rows w read n ws) ≡ rows w row n ws
+  unfolding rows
+  rows-raw zero ws h = refl
+  rows-raw (suc n) ws h =
+      let g : n * w + w ≤ length ws = rw suc-mul at h in
+      rw (exact (take w ws) (length-take-le w ws (omega arith)), rows-raw n (drop w ws) (rw length-drop (omega arith)))
+
+-- ---- rows written and read back
+pub rows-back : {A : Type 0} (w : ℕ) (read : List ℕ → A) (write : A → List ℕ) → ((a : A) → read (write a) ≡ a) → {l : List A} → Sized write w l
+    → (ws : List ℕ) → rows w read (length l) (enc-all write l ++ ws) ≡ l
+unfolding rows enc-all
+rows-back w read write back none ws = refl
+rows-back w read write back (more {x} {xs} e s) ws =
+    rw (
+      append-assoc,
+      take-at (write x) (enc-all write xs ++ ws) w e,
+      drop-at (write x) (enc-all write xs ++ ws) w e,
+      back x,
+      rows-back w read write back s ws,
+    )
+
+-- ---- a table
+pub count-cons : (ws : List ℕ) → 0 < length ws → ws ≡ getD ws 0 0 ∷ drop 1 ws
+count-cons ws h = drop-cons ws 0 0 h
+
+-- rows of any type, written as lists of words
+pub enc-all-raw : {A : Type 0} (write : A → List ℕ) (l : List A) → enc-all row (map write l) ≡ enc-all write l
+unfolding enc-all
+enc-all-raw write [] = refl
+enc-all-raw write (x ∷ l) = rw (enc-all-raw write l)
+
+pub enc-raw : {A : Type 0} (w : ℕ) (write : A → List ℕ) (l : List A) (ws : List ℕ) → table-enc w row (map write l) ws ≡ table-enc w write l ws
+unfolding table-enc
+enc-raw w write l ws = rw (length-map, enc-all-raw write l)
+
+module _ (w most : ℕ) (ws : List ℕ) (hl : length ws ≡ table-words w most) where
+  pub tail-length : length (drop 1 ws) ≡ most * w
+  tail-length = length-drop 1 ws ∙ omega arith
+
+  pub in-rows : getD ws 0 0 ≤ most → getD ws 0 0 * w ≤ length (drop 1 ws)
+  in-rows few = rw tail-length (mul-le-mul-right w few)
+
+  module _ {A : Type 0} (read : List ℕ → A) (write : A → List ℕ) where
+    -- the rows read, as lists of words
+    pub dec-raw : ((r : List ℕ) → length r ≡ w → write (read r) ≡ r) → getD ws 0 0 ≤ most → map write (table-dec w read ws) ≡ table-dec w row ws
+    unfolding table-dec
+    dec-raw exact few = rows-raw w read write exact (getD ws 0 0) (drop 1 ws) (in-rows few)
+
+    -- a table's words are its rows written over them
+    pub table-clean : ((r : List ℕ) → length r ≡ w → write (read r) ≡ r) → getD ws 0 0 ≤ most → table-enc w write (table-dec w read ws) ws ≡ ws
+    unfolding table-enc table-dec
+    table-clean exact few =
+        rw (length-rows w read (getD ws 0 0) (drop 1 ws), enc-rows w read write exact (getD ws 0 0) (drop 1 ws) (in-rows few), take-append-drop (getD ws 0 0 * w) (drop 1 ws))
+        (sym (count-cons ws (omega arith)))
+
+    -- rows written are read back
+    pub table-back : ((a : A) → read (write a) ≡ a) → {l : List A} → Sized write w l → table-dec w read (table-enc w write l ws) ≡ l
+    unfolding table-enc table-dec
+    table-back back {l} s = rows-back w read write back s (drop (length l * w) (drop 1 ws))
+
+    pub table-keeps : {l : List A} → Sized write w l → length l ≤ most → length (table-enc w write l ws) ≡ length ws
+    unfolding table-enc
+    table-keeps {l} s h =
+        let m : length l * w ≤ most * w = mul-le-mul-right w h in
+        rw (length-append, length-enc-all write w s, length-drop, tail-length) (omega arith)

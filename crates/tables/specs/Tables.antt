@@ -1,0 +1,91 @@
+-- A table in a run of words: a count, then rows of one width. Rows past the count are not in use and keep what they hold.
+use mathlib.Core.Path.{_≡_}
+use mathlib.Core.Bool.{Bool}
+use mathlib.Core.List.{List, [], _∷_, _++_}
+use Prim.Native.Nat.{ℕ, zero, suc, _+_, _*_, _-_, _≤_, _<_}
+use lib.Dec.{ltb, eqb}
+use lib.ListN.{length, getD, take, drop}
+use Rattle.lists.specs.Tests.{_and_, all-below, only}
+use Rattle.lists.specs.Runs.{enc-all}
+
+-- so many words has a table of at most so many rows
+abbrev pub table-words : ℕ → ℕ → ℕ
+table-words width most = 1 + most * width
+
+-- the first n rows, each read from `width` words
+unfoldable pub rows : {A : Type 0} → ℕ → (List ℕ → A) → ℕ → List ℕ → List A
+rows width read zero ws = []
+rows width read (suc n) ws = read (take width ws) ∷ rows width read n (drop width ws)
+
+-- the rows in use
+unfoldable pub table-dec : {A : Type 0} → ℕ → (List ℕ → A) → List ℕ → List A
+table-dec width read ws = rows width read (getD ws 0 0) (drop 1 ws)
+
+-- rows written over words: the count, the rows one after the other, and past them what was there
+unfoldable pub table-enc : {A : Type 0} → ℕ → (A → List ℕ) → List A → List ℕ → List ℕ
+table-enc width write l ws = length l ∷ (enc-all write l ++ drop (length l * width) (drop 1 ws))
+
+-- a row as the list of its words
+abbrev pub row : List ℕ → List ℕ
+row r = r
+
+-- one row more before place p, and row p gone
+abbrev pub insert-at : {A : Type 0} → ℕ → A → List A → List A
+insert-at p x l = take p l ++ x ∷ drop p l
+
+abbrev pub remove-at : {A : Type 0} → ℕ → List A → List A
+remove-at p l = take p l ++ drop (suc p) l
+
+-- a table while it is gone through for the rows that a test keeps: those of the first i stand in front
+abbrev pub kept : ℕ → (List ℕ → Bool) → ℕ → List ℕ → List (List ℕ)
+kept width test i ws = only test (take i (table-dec width row ws))
+
+unfoldable pub sifting : ℕ → (List ℕ → Bool) → ℕ → List ℕ → List ℕ
+sifting width test i ws =
+    let l = kept width test i ws in getD ws 0 0 ∷ (enc-all row l ++ drop (length l * width) (drop 1 ws))
+
+-- ---- by the first word of each row
+abbrev pub first-at : ℕ → List ℕ → ℕ → ℕ
+first-at width ws i = getD ws (1 + i * width) 0
+
+-- they ascend strictly
+abbrev pub rises-at : ℕ → List ℕ → ℕ → Bool
+rises-at width ws i = ltb (first-at width ws i) (first-at width ws (i + 1))
+
+unfoldable pub ascends : ℕ → List ℕ → Bool
+ascends width ws = all-below (getD ws 0 0 - 1) (rises-at width ws)
+
+-- two tables with the same rows
+abbrev pub same-at : List ℕ → List ℕ → ℕ → Bool
+same-at ws vs i = eqb (getD ws (1 + i) 0) (getD vs (1 + i) 0)
+
+unfoldable pub same-rows : ℕ → List ℕ → List ℕ → Bool
+same-rows width ws vs = eqb (getD ws 0 0) (getD vs 0 0) and all-below (getD ws 0 0 * width) (same-at ws vs)
+
+-- ---- what the functions on a table need and say
+-- len bytes with the words ws are a table of at most so many rows
+pub record IsTable (width most : ℕ) (ws : List ℕ) (len : ℕ) : Type 0 where
+  pub few : getD ws 0 0 ≤ most
+  pub size : len ≡ 8 * table-words width most
+
+-- and its rows are sorted by their first words
+pub record Sorted (width most : ℕ) (ws : List ℕ) (len : ℕ) : Type 0 where
+  pub few : getD ws 0 0 ≤ most
+  pub size : len ≡ 8 * table-words width most
+  pub wide : 1 ≤ width
+  pub rising : (i j : ℕ) → i < j → j < getD ws 0 0 → first-at width ws i < first-at width ws j
+
+-- r is the first place whose row does not begin below x
+pub record Place (width : ℕ) (ws : List ℕ) (x r : ℕ) : Type 0 where
+  pub within : r ≤ getD ws 0 0
+  pub before : (j : ℕ) → j < r → first-at width ws j < x
+  pub after : (j : ℕ) → r ≤ j → j < getD ws 0 0 → x ≤ first-at width ws j
+
+pub record HereAt (width : ℕ) (ws : List ℕ) (x p : ℕ) : Type 0 where
+  pub in-use : p < getD ws 0 0
+  pub same : first-at width ws p ≡ x
+  pub place : Place width ws x p
+
+pub record GapAt (width : ℕ) (ws : List ℕ) (x p : ℕ) : Type 0 where
+  pub place : Place width ws x p
+  pub other : p < getD ws 0 0 → first-at width ws p ≡ x → ⊥

@@ -1,0 +1,158 @@
+// Tables in a lent slice, in 64-bit words: a count, then at most `most` rows of `width` words. Rows past the count keep what they hold. A table may be
+// sorted by the first words of its rows, or be a queue in arrival order.
+ghost use mathlib.Core.Path.{_≡_};
+ghost use mathlib.Core.List.{[]};
+ghost use Prim.Native.Nat.{_+_, _*_, _≤_, _<_};
+ghost use lib.ListN.{length, getD, set};
+ghost use Rattle.lists.specs.Runs.{run, on-run};
+ghost use Rattle.lists.specs.Tests.{all-below};
+ghost use Rattle.words.specs.Words.{words};
+ghost use Rattle.tables.specs.Tables.{table-words, table-dec, table-enc, row, insert-at, remove-at, ascends, same-at, same-rows, IsTable, Sorted, Place};
+ghost use Rattle.tables.specs.Spots.{SpotOf};
+
+// ---- look-up
+
+// Word j of row i.
+pub fn cell(t: &[u8], width: usize, most: usize, i: usize, j: usize) -> u64
+    requires { ⌜ IsTable width most (words (now t)) (length (now t)) ⌝ }
+    requires { ⌜ (i < getD (words (now t)) 0 0) × (j < width) ⌝ }
+    ensures { λ r. ⌜ r ≡ getD (getD (table-dec width row (words (now (t .entry)))) i []) j 0 ⌝ }
+{
+    words::read(t, 1 + words::offset(i, width, most) + j)
+}
+
+// The first place whose row does not begin below x.
+fn place(t: &[u8], width: usize, most: usize, x: u64) -> usize
+    requires { ⌜ Sorted width most (words (now t)) (length (now t)) ⌝ }
+    ensures { λ r. ⌜ Place width (words (now (t .entry))) x r ⌝ }
+{
+    let mut lo = 0;
+    let mut hi = words::read(t, 0) as usize;
+    while lo < hi {
+        let mid = lo + (hi - lo) / 2;
+        let at = words::offset(mid, width, most);
+        if words::read(t, 1 + at) < x {
+            lo = mid + 1;
+        } else {
+            hi = mid;
+        }
+    }
+    lo
+}
+
+// Where the row that begins with x is, or the place before which it would go.
+pub enum Spot {
+    Here(usize),
+    Gap(usize),
+}
+
+pub fn find(t: &[u8], width: usize, most: usize, x: u64) -> Spot
+    requires { ⌜ Sorted width most (words (now t)) (length (now t)) ⌝ }
+    ensures { λ r. ⌜ SpotOf width (words (now (t .entry))) x r ⌝ }
+{
+    let p = place(t, width, most, x);
+    if p < words::read(t, 0) as usize {
+        let at = words::offset(p, width, most);
+        if words::read(t, 1 + at) == x {
+            return Spot::Here(p);
+        }
+        return Spot::Gap(p);
+    }
+    Spot::Gap(p)
+}
+
+// ---- checks
+
+// Do the first words of the rows ascend strictly?
+pub fn is_sorted(t: &[u8], width: usize, most: usize) -> bool
+    requires { ⌜ IsTable width most (words (now t)) (length (now t)) ⌝ }
+    requires { ⌜ 1 ≤ width ⌝ }
+    ensures { λ r. ⌜ r ≡ ascends width (words (now (t .entry))) ⌝ }
+{
+    let n = words::read(t, 0) as usize;
+    let mut i = 0;
+    while i + 1 < n {
+        let at = words::offset(i, width, most);
+        let next = words::offset(i + 1, width, most);
+        if words::read(t, 1 + next) <= words::read(t, 1 + at) {
+            return false;
+        }
+        i += 1;
+    }
+    true
+}
+
+// Do the n words after the first agree?
+fn same_words(a: &[u8], b: &[u8], n: usize) -> bool
+    requires { ⌜ (8 * (1 + n) ≤ length (now a)) × (8 * (1 + n) ≤ length (now b)) ⌝ }
+    ensures { λ r. ⌜ r ≡ all-below n (same-at (words (now (a .entry))) (words (now (b .entry)))) ⌝ }
+{
+    let mut i = 0;
+    while i < n {
+        if words::read(a, 1 + i) != words::read(b, 1 + i) {
+            return false;
+        }
+        i += 1;
+    }
+    true
+}
+
+// Have two tables the same rows?
+pub fn same(a: &[u8], b: &[u8], width: usize, most: usize) -> bool
+    requires { ⌜ IsTable width most (words (now a)) (length (now a)) ⌝ }
+    requires { ⌜ IsTable width most (words (now b)) (length (now b)) ⌝ }
+    ensures { λ r. ⌜ r ≡ same-rows width (words (now (a .entry))) (words (now (b .entry))) ⌝ }
+{
+    let n = words::read(a, 0);
+    if n != words::read(b, 0) {
+        return false;
+    }
+    same_words(a, b, n as usize * width)
+}
+
+// ---- changes
+
+// Word j of row i becomes v.
+pub fn set_cell(t: &mut [u8], width: usize, most: usize, i: usize, j: usize, v: u64)
+    requires { ⌜ IsTable width most (words (now t)) (length (now t)) ⌝ }
+    requires { ⌜ (i < getD (words (now t)) 0 0) × (j < width) ⌝ }
+    ensures { λ _. ⌜ words (now (t .exit)) ≡ table-enc width row (set (table-dec width row (words (now (t .entry)))) i (set (getD (table-dec width row (words (now (t .entry)))) i []) j v)) (words (now (t .entry))) ⌝ }
+{
+    words::write(t, 1 + words::offset(i, width, most) + j, v)
+}
+
+// A row more, before place p; at the end, where p is the count.
+pub fn insert_row(t: &mut [u8], width: usize, most: usize, p: usize, list: &[u64])
+    requires { ⌜ IsTable width most (words (now t)) (length (now t)) ⌝ }
+    requires { ⌜ (p ≤ getD (words (now t)) 0 0) × (getD (words (now t)) 0 0 < most) × (length (now list) ≡ width) ⌝ }
+    ensures { λ _. ⌜ words (now (t .exit)) ≡ table-enc width row (insert-at p (now (list .entry)) (table-dec width row (words (now (t .entry))))) (words (now (t .entry))) ⌝ }
+{
+    let n = words::read(t, 0) as usize;
+    let at = words::offset(p, width, most);
+    let end = words::offset(n, width, most);
+    moves::move_up(t, 1 + at, 1 + at + width, end - at);
+    moves::put_words(t, 1 + at, list);
+    words::write(t, 0, (n + 1) as u64);
+}
+
+// Row p goes.
+pub fn remove_row(t: &mut [u8], width: usize, most: usize, p: usize)
+    requires { ⌜ IsTable width most (words (now t)) (length (now t)) ⌝ }
+    requires { ⌜ p < getD (words (now t)) 0 0 ⌝ }
+    ensures { λ _. ⌜ words (now (t .exit)) ≡ table-enc width row (remove-at p (table-dec width row (words (now (t .entry))))) (words (now (t .entry))) ⌝ }
+{
+    let last = words::read(t, 0) as usize - 1;
+    let at = words::offset(p, width, most);
+    let end = words::offset(last, width, most);
+    moves::move_down(t, 1 + at + width, 1 + at, end - at);
+    words::write(t, 0, last as u64);
+}
+
+// The table from word `from` on is copied to the one from word `to` on: its count and its rows in use.
+pub fn copy_table(s: &mut [u8], from: usize, to: usize, width: usize, most: usize)
+    requires { ⌜ (8 * (from + table-words width most) ≤ length (now s)) × (8 * (to + table-words width most) ≤ length (now s)) × (getD (words (now s)) from 0 ≤ most) ⌝ }
+    ensures { λ _. ⌜ words (now (s .exit)) ≡ on-run to (table-words width most) (table-enc width row (table-dec width row (run from (table-words width most) (words (now (s .entry)))))) (words (now (s .entry))) ⌝ }
+{
+    let n = words::read(s, from) as usize;
+    moves::move_words(s, from, to, 1 + n * width);
+}
