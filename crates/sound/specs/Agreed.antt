@@ -10,7 +10,8 @@ use Rattle.rules.specs.declared.settings.Settings.{Settings}
 use Rattle.rules.specs.Limits.{max-number}
 use Rattle.rules.specs.Sound.{sound-pair}
 use Rattle.rules.proofs.Limits.{Limits}
-use Rattle.layout.specs.Layout.{agreed-words, store-words, agreed-part, primary-at, backup-at, last-primary-at, last-backup-at, ready-at, fetched-at, order-at, taken-at}
+use Rattle.layout.specs.Layout.{agreed-words, store-words, agreed-part}
+use Rattle.layout.specs.Layout.{primary-at, backup-at, last-primary-at, last-backup-at, ready-at, fetched-at, order-at, taken-at}
 
 unfoldable pub agreed-good : ℕ → List ℕ → Bool
 agreed-good given w =

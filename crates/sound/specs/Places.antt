@@ -11,7 +11,8 @@ use Rattle.rules.specs.declared.settings.Settings.{Settings}
 use Rattle.rules.specs.Limits.{buckets, max-waiting}
 use Rattle.rules.specs.Numbers.{sequences}
 use Rattle.rules.proofs.Limits.{Limits}
-use Rattle.layout.specs.Layout.{buffer-codec, all-copies-codec, log-words, place-words, store-words, place-at, place-part, up-at, member-at, began-at, next-at, ceiling-at, buffer-at, all-copies-at, log-at}
+use Rattle.layout.specs.Layout.{buffer-codec, all-copies-codec, log-words, place-words, store-words, place-at, place-part}
+use Rattle.layout.specs.Layout.{up-at, member-at, began-at, next-at, ceiling-at, buffer-at, all-copies-at, log-at}
 use Rattle.sound.specs.declared.rows.Whose.the-variants.{Anyone}
 use Rattle.sound.specs.Rows.{ids, table-good}
 use Rattle.sound.specs.Copies.{copies-at-good}

@@ -1,6 +1,7 @@
 //! Random settings and random sound stores; words that nothing uses hold random bytes.
 use super::model::*;
 use crate::random::Random;
+use std::collections::HashSet;
 
 pub fn small_settings(r: &mut Random) -> Settings {
     Settings::new(r.among(3, 5), 8 * r.among(1, 2), r.among(2, 4), r.among(4, 9))
@@ -30,15 +31,9 @@ impl Maker<'_> {
         }
     }
 
-    fn block(&mut self, mine: &dyn Fn(u64) -> bool, make: &dyn Fn(u64) -> u64) -> u64 {
-        let b = make(self.r.next()) % BLOCKS;
-        assert!(mine(b));
-        b
-    }
-
     /// A table with `count` rows of different blocks, ascending.
     fn table(&mut self, at: usize, count: u64, make: &dyn Fn(u64) -> u64) {
-        let mut blocks: Vec<u64> = (0..count).map(|_| self.block(&|_| true, make)).collect();
+        let mut blocks: Vec<u64> = (0..count).map(|_| make(self.r.next()) % BLOCKS).collect();
         blocks.sort_unstable();
         blocks.dedup();
         self.put(at, blocks.len() as u64);
@@ -58,13 +53,8 @@ impl Maker<'_> {
 
     fn log(&mut self, at: usize, count: u64) {
         let l = self.s.chunks as usize;
-        let mut keys: Vec<u64> = Vec::new();
-        for _ in 0..count {
-            let k = self.key();
-            if !keys.contains(&k) {
-                keys.push(k);
-            }
-        }
+        let mut seen = HashSet::new();
+        let keys: Vec<u64> = (0..count).map(|_| self.key()).filter(|&k| seen.insert(k)).collect();
         self.put(at, keys.len() as u64);
         let mut order: Vec<usize> = (0..keys.len()).collect();
         order.sort_unstable_by_key(|&i| keys[i]);
