@@ -5,9 +5,9 @@ use Prim.Native.Nat.{ℕ, zero, suc, _+_, _*_, _-_, _≤_, _<_}
 use native.Mathlib.Nat.{suc-mul, zero-mul, add-comm, zero-add, not-suc-le-zero, le-of-suc-le-suc, le-of-lt, mul-le-mul-right}
 use native.Mathlib.Numerals.{add-one, sub-one}
 use native.Mathlib.Omega.{arith}
-use lib.ListN.{length, take, drop, getD, set, replicate, length-append, length-drop, take-append-drop}
+use lib.ListN.{length, take, drop, getD, set, replicate, length-append, length-drop, take-append-drop, List·getD-append}
 use lib.Seq.{take-take, take-add, take-all, take-append-le, drop-append-le, drop-cons, drop-drop, take-at, drop-at, set-split}
-use lib.Seq.{paste, length-take-le, take-append-add, drop-append-add}
+use lib.Seq.{paste, getD-take, length-take-le, take-append-add, drop-append-add}
 use lib.Dec.{ltb}
 use mathlib.Core.Bool.{Bool, true}
 use borrow.Author.Tests.{ltb-true, lt-ltb}
@@ -93,10 +93,21 @@ module _ (a k : ℕ) (f : List ℕ → List ℕ) where
       let two : drop c (drop k (drop a w)) ≡ drop (a + (k + c)) w = drop-drop c k (drop a w) ∙ drop-drop (k + c) a w in
       rw s (ap (take n) (one ∙ two))
 
+-- an element before it
+pub on-at-before : (a k : ℕ) (f : List ℕ → List ℕ) (w : List ℕ) (j : ℕ) → a ≤ length w → j < a → getD (on-run a k f w) j 0 ≡ getD w j 0
+unfolding on-run
+on-at-before a k f w j h p =
+    List·getD-append (take a w) (f (run a k w) ++ drop k (drop a w)) 0 j (rw (length-take-le a w h) p) ∙ getD-take a w j 0 p
+
 -- two changes that agree on the run
 pub on-by : (a n : ℕ) (f g : List ℕ → List ℕ) (w : List ℕ) → f (run a n w) ≡ g (run a n w) → on-run a n f w ≡ on-run a n g w
 unfolding on-run
 on-by a n f g w e = rw e
+
+-- a change that leaves the run as it is
+pub on-id : (a n : ℕ) (f : List ℕ → List ℕ) (w : List ℕ) → f (run a n w) ≡ run a n w → on-run a n f w ≡ w
+unfolding on-run
+on-id a n f w e = rw (e, take-append-drop n (drop a w), take-append-drop a w)
 
 -- one change of a run after another
 pub on-twice : (a n : ℕ) (f g : List ℕ → List ℕ) (w : List ℕ) → a + n ≤ length w → length (f (run a n w)) ≡ n

@@ -5,7 +5,7 @@ use Prim.Native.Nat.{ℕ, zero, suc, _+_, _*_, _-_, _≤_, _<_}
 use native.Mathlib.Nat.{suc-mul, zero-mul, add-comm, le-of-suc-le-suc, not-suc-le-zero, mul-le-mul-right}
 use native.Mathlib.Omega.{arith}
 use lib.ListN.{length, take, drop, getD, length-append, length-drop, length-map, take-append-drop}
-use lib.Seq.{take-add, take-at, drop-at, drop-drop, drop-cons, length-take-le}
+use lib.Seq.{drop-append-add, take-add, take-at, drop-at, drop-drop, drop-cons, length-take-le}
 use Rattle.lists.specs.Runs.{part, enc-all, Sized, none, more}
 use Rattle.lists.proofs.Runs.{length-enc-all}
 use Rattle.tables.specs.Tables.{table-words, rows, table-dec, table-enc, row}
@@ -121,6 +121,19 @@ module _ (w most : ℕ) (ws : List ℕ) (hl : length ws ≡ table-words w most) 
     pub table-back : ((a : A) → read (write a) ≡ a) → {l : List A} → Sized write w l → table-dec w read (table-enc w write l ws) ≡ l
     unfolding table-enc table-dec
     table-back back {l} s = rows-back w read write back s (drop (length l * w) (drop 1 ws))
+
+    -- over fewer rows
+    pub table-over : {k : List A} → Sized write w k → (l : List A) → length k ≤ length l → table-enc w write l (table-enc w write k ws) ≡ table-enc w write l ws
+    unfolding table-enc
+    table-over {k} s l h =
+        let m : length k * w ≤ length l * w = mul-le-mul-right w h in
+        let e : length (enc-all write k) ≡ length k * w = length-enc-all write w s in
+        let q : length l * w ≡ length (enc-all write k) + (length l * w - length k * w) = omega arith in
+        let z : length k * w + (length l * w - length k * w) ≡ length l * w = omega arith in
+        ap (λ (v : List ℕ). length l ∷ (enc-all write l ++ v))
+        (ap (λ (i : ℕ). drop i (enc-all write k ++ drop (length k * w) (drop 1 ws))) q
+        ∙ drop-append-add (enc-all write k) (drop (length k * w) (drop 1 ws)) (length l * w - length k * w)
+        ∙ drop-drop (length l * w - length k * w) (length k * w) (drop 1 ws) ∙ ap (λ (i : ℕ). drop i (drop 1 ws)) z)
 
     pub table-keeps : {l : List A} → Sized write w l → length l ≤ most → length (table-enc w write l ws) ≡ length ws
     unfolding table-enc

@@ -1,0 +1,4 @@
+pub mod Sorted
+pub mod Words
+pub mod Buffer
+pub mod Drained

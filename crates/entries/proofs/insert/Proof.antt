@@ -1,0 +1,73 @@
+use mathlib.Core.Path.{refl, sym, _∙_}
+use Prim.Native.Nat.{_-_, _<_}
+use native.Mathlib.Omega.{arith}
+use lib.ListN.{length, getD}
+use borrow.Author.Tests.{ltb-true}
+use Rattle.words.specs.Words.{words}
+use Rattle.words.proofs.Laws.{length-words}
+use Rattle.tables.specs.Tables.{HereAt, GapAt}
+use Rattle.entries.specs.Words.{entries}
+use Rattle.entries.proofs.Words.{entries-length, has-gap, put-here, put-gap, takes-room}
+use borrow.Author.Needs.{needs}
+use Rattle.entries.proofs.insert.Statement.{statement}
+use Rattle.entries.proofs.insert.Tie as tie
+
+find-requires : tie.Need-find-requires
+find-requires c κs = search needs
+
+enum-known-p : tie.Need-enum-known-p
+enum-known-p c = search needs
+
+set-cell-requires : tie.Need-set-cell-requires
+set-cell-requires c κs =
+    let s = c .before .before .before .before .before .before .before in
+    let h : HereAt 2 (words (s .args .t .now)) (s .args .b) (c .before .before .p .given .0 .0) = rw (c .before .before .p .given .1) at (c .before .before .before .before .find .ensures) in
+    (record { few = s .pre .0 .few; size = s .pre .0 .size }, (h .in-use, omega arith))
+
+enum-known-p-2 : tie.Need-enum-known-p-2
+enum-known-p-2 c = search needs
+
+slice-aggregate-insert-row : tie.Need-slice-aggregate-insert-row
+slice-aggregate-insert-row c = search needs
+
+insert-row-requires : tie.Need-insert-row-requires
+insert-row-requires c κs =
+    let s = c .before .before .before .before .before .before .before .before in
+    let g : GapAt 2 (words (s .args .t .now)) (s .args .b) (c .before .before .before .p2 .given .0 .0) = rw (c .before .before .before .p2 .given .1) at (c .before .before .before .before .before .find .ensures) in
+    let n = has-gap (s .args .most) (words (s .args .t .now)) (length (s .args .t .now)) (length-words (s .args .t .now) ∙ omega arith) (s .pre .0) (s .args .b) (c .before .before .before .p2 .given .0 .0) g in
+    let r : getD (words (s .args .t .now)) 0 0 < s .args .most =
+    rw (← entries-length (s .args .most) (words (s .args .t .now)) (length-words (s .args .t .now) ∙ omega arith) (s .pre .0 .few)) (ltb-true _ _ (sym (takes-room (s .args .most) (entries (words (s .args .t .now))) (s .args .b) n) ∙ s .pre .1)) in
+    (record { few = s .pre .0 .few; size = s .pre .0 .size }, (g .place .within, r, refl))
+
+same-length : tie.Need-same-length
+same-length c = search needs
+
+returns : tie.Need-returns
+returns c =
+    let s = c .before .before .before .before .before .before .before .before .before .before in
+    let h : HereAt 2 (words (s .args .t .now)) (s .args .b) (c .before .before .before .before .before .p .given .0 .0) = rw (c .before .before .before .before .before .p .given .1) at (c .before .before .before .before .before .before .before .find .ensures) in
+    c .before .before .set-cell .ensures ∙ put-here (s .args .most) (words (s .args .t .now)) (length (s .args .t .now)) (length-words (s .args .t .now) ∙ omega arith) (s .pre .0) (s .args .b) (c .before .before .before .before .before .p .given .0 .0) h (s .args .k)
+
+same-length-2 : tie.Need-same-length-2
+same-length-2 c = search needs
+
+returns-2 : tie.Need-returns-2
+returns-2 c =
+    let s = c .before .before .before .before .before .before .before .before .before .before .before in
+    let g : GapAt 2 (words (s .args .t .now)) (s .args .b) (c .before .before .before .before .before .before .p2 .given .0 .0) = rw (c .before .before .before .before .before .before .p2 .given .1) at (c .before .before .before .before .before .before .before .before .find .ensures) in
+    c .before .before .insert-row .ensures ∙ put-gap (s .args .most) (words (s .args .t .now)) (length (s .args .t .now)) (length-words (s .args .t .now) ∙ omega arith) (s .pre .0) (s .args .b) (c .before .before .before .before .before .before .p2 .given .0 .0) g (s .args .k)
+
+pub insert-spec : {M : Type 1} → statement M
+insert-spec =
+    tie.close
+    (tie.spec
+    find-requires
+    enum-known-p
+    set-cell-requires
+    enum-known-p-2
+    slice-aggregate-insert-row
+    insert-row-requires
+    same-length
+    returns
+    same-length-2
+    returns-2)

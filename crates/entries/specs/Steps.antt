@@ -1,0 +1,39 @@
+-- What a step over a buffer's entries leaves: cited by the contracts of inner functions.
+use mathlib.Core.Bool.{Bool, not, cond}
+use mathlib.Core.List.{List}
+use Prim.Native.Nat.{ℕ, _+_, _*_, _≤_}
+use lib.Dec.{eqb}
+use lib.ListN.{getD, drop}
+use lib.Seq.{paste}
+use Rattle.rules.specs.Numbers.{bucket-of}
+use Rattle.rules.specs.Entries.{Entry, entry, insert, takes}
+use Rattle.lists.specs.Runs.{run, on-run}
+use Rattle.tables.specs.Tables.{first-at, Sorted}
+use Rattle.entries.specs.Words.{entry-words, entries-words, entries, write-entries}
+
+-- entry i, where it is not of the bucket, at place o
+unfoldable pub sifted : ℕ → ℕ → ℕ → ℕ → List ℕ → List ℕ
+sifted count g i o ws =
+    cond (eqb (bucket-of count (first-at entry-words ws i)) g) ws (paste ws (1 + o * entry-words) (drop (1 + i * entry-words) ws) entry-words)
+
+-- a row that stays in a buffer: its block is not of the bucket
+abbrev pub stays : ℕ → ℕ → List ℕ → Bool
+stays count g r = not (eqb (bucket-of count (getD r 0 0)) g)
+
+-- ---- entries that move from a buffer into a copy
+-- one entry, dropped where it is new and finds the copy full
+abbrev pub take-in : ℕ → List Entry → Entry → List Entry
+take-in most l e = cond (takes most l (e .block)) (insert l (e .block) (e .key)) l
+
+-- the entry at a word, where it is of the bucket, taken into the copy
+unfoldable pub drained-at : ℕ → ℕ → ℕ → ℕ → ℕ → List ℕ → List ℕ
+drained-at count g at copy most ws =
+    let e = entry (getD ws at 0) (getD ws (at + 1) 0) in
+    cond (eqb (bucket-of count (e .block)) g) (on-run copy (entries-words most) (λ c. write-entries (take-in most (entries c) e) c) ws) ws
+
+-- a buffer lies before a sorted copy
+pub record Drains (buffer waiting copy most : ℕ) (ws : List ℕ) (len : ℕ) : Type 0 where
+  pub apart : buffer + entries-words waiting ≤ copy
+  pub room : 8 * (copy + entries-words most) ≤ len
+  pub few : getD ws buffer 0 ≤ waiting
+  pub sorted : Sorted entry-words most (run copy (entries-words most) ws) (8 * entries-words most)

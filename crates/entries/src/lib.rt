@@ -1,0 +1,256 @@
+// Entries (block, key) in a lent slice, in 64-bit words: a count, then at most `most` rows. Bucket copies and items are sorted by block; an append buffer
+// is in arrival order. Rows past the count keep what they hold.
+ghost use mathlib.Core.Path.{_≡_};
+ghost use mathlib.Core.Bool.{true, not, cond};
+ghost use mathlib.Core.List.{[], _∷_, _++_};
+ghost use Prim.Native.Nat.{_+_, _*_, _≤_, _<_};
+ghost use lib.ListN.{length, getD};
+ghost use Rattle.lists.specs.Tests.{only};
+ghost use Rattle.lists.specs.Runs.{run, on-run};
+ghost use Rattle.words.specs.Words.{words};
+ghost use Rattle.rules.specs.Limits.{buckets};
+ghost use Rattle.rules.specs.Entries.{entry, look, has, insert, remove, takes, waits-for, drain, ascending};
+ghost use Rattle.rules.specs.Sound.{same-entries};
+ghost use lib.Dec.{eqb};
+ghost use Rattle.rules.specs.Numbers.{bucket-of};
+ghost use Rattle.tables.specs.Tables.{first-at, IsTable, Sorted};
+ghost use Rattle.entries.specs.Words.{entry-words, entries-words, entries, write-entries, entry-at};
+ghost use Rattle.entries.specs.Steps.{sifted, drained-at, Drains};
+use rules::numbers::BlockNumber;
+use rules::settings::Settings;
+use tables::Spot;
+
+// words in a row: the block, the key
+const ENTRY_WORDS: usize = 2;
+
+const KEY: usize = 1;
+
+// ---- look-up
+
+// The block and the key of entry i.
+pub fn block_at(t: &[u8], most: usize, i: usize) -> u64
+    requires { ⌜ IsTable entry-words most (words (now t)) (length (now t)) ⌝ }
+    requires { ⌜ i < getD (words (now t)) 0 0 ⌝ }
+    ensures { λ r. ⌜ r ≡ entry-at (entries (words (now (t .entry)))) i .block ⌝ }
+{
+    words::read(t, 1 + i * ENTRY_WORDS)
+}
+
+pub fn key_at(t: &[u8], most: usize, i: usize) -> u64
+    requires { ⌜ IsTable entry-words most (words (now t)) (length (now t)) ⌝ }
+    requires { ⌜ i < getD (words (now t)) 0 0 ⌝ }
+    ensures { λ r. ⌜ r ≡ entry-at (entries (words (now (t .entry)))) i .key ⌝ }
+{
+    words::read(t, 2 + i * ENTRY_WORDS)
+}
+
+// The key of a block; 0 means no mapping.
+pub fn look(t: &[u8], most: usize, b: u64) -> u64
+    requires { ⌜ Sorted entry-words most (words (now t)) (length (now t)) ⌝ }
+    ensures { λ r. ⌜ r ≡ look (entries (words (now (t .entry)))) b ⌝ }
+{
+    match tables::find(t, ENTRY_WORDS, most, b) {
+        Spot::Here(p) => key_at(t, most, p),
+        Spot::Gap(_) => 0,
+    }
+}
+
+// Is there an entry for the block?
+pub fn has(t: &[u8], most: usize, b: u64) -> bool
+    requires { ⌜ Sorted entry-words most (words (now t)) (length (now t)) ⌝ }
+    ensures { λ r. ⌜ r ≡ has (entries (words (now (t .entry)))) b ⌝ }
+{
+    match tables::find(t, ENTRY_WORDS, most, b) {
+        Spot::Here(_) => true,
+        Spot::Gap(_) => false,
+    }
+}
+
+// The same in a table that need not be sorted.
+pub fn waits(t: &[u8], most: usize, b: u64) -> bool
+    requires { ⌜ IsTable entry-words most (words (now t)) (length (now t)) ⌝ }
+    ensures { λ r. ⌜ r ≡ has (entries (words (now (t .entry)))) b ⌝ }
+{
+    let n = words::read(t, 0) as usize;
+    let mut i = 0;
+    while i < n {
+        if block_at(t, most, i) == b {
+            return true;
+        }
+        i += 1;
+    }
+    false
+}
+
+// May the table take the block?
+pub fn takes(t: &[u8], most: usize, b: u64) -> bool
+    requires { ⌜ Sorted entry-words most (words (now t)) (length (now t)) ⌝ }
+    ensures { λ r. ⌜ r ≡ takes most (entries (words (now (t .entry)))) b ⌝ }
+{
+    if has(t, most, b) {
+        return true;
+    }
+    (words::read(t, 0) as usize) < most
+}
+
+// ---- checks
+
+// Do the blocks ascend strictly?
+pub fn is_ascending(t: &[u8], most: usize) -> bool
+    requires { ⌜ IsTable entry-words most (words (now t)) (length (now t)) ⌝ }
+    ensures { λ r. ⌜ r ≡ ascending 0 (entries (words (now (t .entry)))) ⌝ }
+{
+    tables::is_sorted(t, ENTRY_WORDS, most)
+}
+
+// Have two tables the same entries?
+pub fn same(a: &[u8], b: &[u8], most: usize) -> bool
+    requires { ⌜ IsTable entry-words most (words (now a)) (length (now a)) ⌝ }
+    requires { ⌜ IsTable entry-words most (words (now b)) (length (now b)) ⌝ }
+    ensures { λ r. ⌜ r ≡ same-entries (entries (words (now (a .entry)))) (entries (words (now (b .entry)))) ⌝ }
+{
+    tables::same(a, b, ENTRY_WORDS, most)
+}
+
+// ---- changes of a sorted table
+
+// The block gets the key, at its place in the order.
+pub fn insert(t: &mut [u8], most: usize, b: u64, k: u64)
+    requires { ⌜ Sorted entry-words most (words (now t)) (length (now t)) ⌝ }
+    requires { ⌜ takes most (entries (words (now t))) b ≡ true ⌝ }
+    ensures { λ _. ⌜ words (now (t .exit)) ≡ write-entries (insert (entries (words (now (t .entry)))) b k) (words (now (t .entry))) ⌝ }
+{
+    match tables::find(t, ENTRY_WORDS, most, b) {
+        Spot::Here(p) => tables::set_cell(t, ENTRY_WORDS, most, p, KEY, k),
+        Spot::Gap(p) => {
+            let row = [b, k];
+            tables::insert_row(t, ENTRY_WORDS, most, p, &row)
+        }
+    }
+}
+
+// The same, but a new block that finds the table full is dropped.
+pub fn insert_or_drop(t: &mut [u8], most: usize, b: u64, k: u64)
+    requires { ⌜ Sorted entry-words most (words (now t)) (length (now t)) ⌝ }
+    ensures { λ _. ⌜ words (now (t .exit)) ≡ write-entries (cond (takes most (entries (words (now (t .entry)))) b) (insert (entries (words (now (t .entry)))) b k) (entries (words (now (t .entry))))) (words (now (t .entry))) ⌝ }
+{
+    if takes(t, most, b) {
+        insert(t, most, b, k);
+        return;
+    }
+}
+
+// The block's entry goes.
+pub fn remove(t: &mut [u8], most: usize, b: u64)
+    requires { ⌜ Sorted entry-words most (words (now t)) (length (now t)) ⌝ }
+    ensures { λ _. ⌜ words (now (t .exit)) ≡ write-entries (remove (entries (words (now (t .entry)))) b) (words (now (t .entry))) ⌝ }
+{
+    match tables::find(t, ENTRY_WORDS, most, b) {
+        Spot::Here(p) => tables::remove_row(t, ENTRY_WORDS, most, p),
+        Spot::Gap(_) => {}
+    }
+}
+
+// ---- changes of any table
+
+// No entries.
+pub fn clear(t: &mut [u8], most: usize)
+    requires { ⌜ length (now t) ≡ 8 * entries-words most ⌝ }
+    ensures { λ _. ⌜ words (now (t .exit)) ≡ write-entries [] (words (now (t .entry))) ⌝ }
+{
+    words::write(t, 0, 0);
+}
+
+// An entry at the end.
+pub fn append(t: &mut [u8], most: usize, b: u64, k: u64)
+    requires { ⌜ IsTable entry-words most (words (now t)) (length (now t)) ⌝ }
+    requires { ⌜ getD (words (now t)) 0 0 < most ⌝ }
+    ensures { λ _. ⌜ words (now (t .exit)) ≡ write-entries (entries (words (now (t .entry))) ++ entry b k ∷ []) (words (now (t .entry))) ⌝ }
+{
+    let n = words::read(t, 0) as usize;
+    let last = [b, k];
+    tables::insert_row(t, ENTRY_WORDS, most, n, &last);
+}
+
+// The table from word `from` on is copied to the one from word `to` on: its count and its entries.
+pub fn copy(s: &mut [u8], from: usize, to: usize, most: usize)
+    requires { ⌜ (8 * (from + entries-words most) ≤ length (now s)) × (8 * (to + entries-words most) ≤ length (now s)) × (getD (words (now s)) from 0 ≤ most) ⌝ }
+    ensures { λ _. ⌜ words (now (s .exit)) ≡ on-run to (entries-words most) (write-entries (entries (run from (entries-words most) (words (now (s .entry)))))) (words (now (s .entry))) ⌝ }
+{
+    tables::copy_table(s, from, to, ENTRY_WORDS, most);
+}
+
+// ---- a bucket's entries in a buffer
+
+// Is the block of the bucket?
+fn of_bucket(b: u64, settings: Settings, g: u64) -> bool
+    ensures { λ r. ⌜ r ≡ eqb (bucket-of (buckets settings) b) g ⌝ }
+{
+    let block = BlockNumber(b);
+    block.bucket(settings) == g
+}
+
+// Entry i, where it is not of the bucket, goes to place o.
+fn sift_at(t: &mut [u8], most: usize, settings: Settings, g: u64, i: usize, o: usize) -> usize
+    requires { ⌜ (o ≤ i) × (i < most) × (length (now t) ≡ 8 * entries-words most) ⌝ }
+    ensures { λ r. ⌜ (words (now (t .exit)) ≡ sifted (buckets settings) g i o (words (now (t .entry)))) × (r ≡ cond (eqb (bucket-of (buckets settings) (first-at entry-words (words (now (t .entry))) i)) g) o (o + 1)) ⌝ }
+{
+    let b = words::read(t, 1 + i * ENTRY_WORDS);
+    if of_bucket(b, settings, g) {
+        return o;
+    }
+    moves::move_down(t, 1 + i * ENTRY_WORDS, 1 + o * ENTRY_WORDS, ENTRY_WORDS);
+    o + 1
+}
+
+// The bucket's entries go; the others stay in their order.
+pub fn drop_bucket(t: &mut [u8], most: usize, settings: Settings, g: u64)
+    requires { ⌜ IsTable entry-words most (words (now t)) (length (now t)) ⌝ }
+    ensures { λ _. ⌜ words (now (t .exit)) ≡ write-entries (only (λ e. not (waits-for (buckets settings) g e)) (entries (words (now (t .entry))))) (words (now (t .entry))) ⌝ }
+{
+    let n = words::read(t, 0) as usize;
+    let mut o = 0;
+    let mut i = 0;
+    while i < n {
+        o = sift_at(t, most, settings, g, i, o);
+        i += 1;
+    }
+    words::write(t, 0, o as u64);
+}
+
+// The entry at word `at`, where it is of the bucket, goes into the copy at word `copy`.
+fn drain_at(s: &mut [u8], at: usize, copy: usize, most: usize, settings: Settings, g: u64)
+    requires { ⌜ (8 * (at + 2) ≤ length (now s)) × (8 * (copy + entries-words most) ≤ length (now s)) ⌝ }
+    requires { ⌜ Sorted entry-words most (run copy (entries-words most) (words (now s))) (8 * entries-words most) ⌝ }
+    ensures { λ _. ⌜ words (now (s .exit)) ≡ drained-at (buckets settings) g at copy most (words (now (s .entry))) ⌝ }
+{
+    let b = words::read(s, at);
+    let k = words::read(s, at + 1);
+    if of_bucket(b, settings, g) {
+        let start = 8 * copy;
+        let size = 8 * (1 + most * ENTRY_WORDS);
+        insert_or_drop(&mut s[start..start + size], most, b, k);
+        return;
+    }
+}
+
+// The bucket's entries of the buffer at word `buffer` move into the copy at word `copy`, in arrival order; a new block that finds it full is dropped.
+pub fn drain(
+    s: &mut [u8],
+    buffer: usize,
+    waiting: usize,
+    copy: usize,
+    most: usize,
+    settings: Settings,
+    g: u64,
+)
+    requires { ⌜ Drains buffer waiting copy most (words (now s)) (length (now s)) ⌝ }
+    ensures { λ _. ⌜ words (now (s .exit)) ≡ on-run copy (entries-words most) (write-entries (drain most (entries (run copy (entries-words most) (words (now (s .entry))))) (only (waits-for (buckets settings) g) (entries (run buffer (entries-words waiting) (words (now (s .entry)))))))) (words (now (s .entry))) ⌝ }
+{
+    let n = words::read(s, buffer) as usize;
+    let mut i = 0;
+    while i < n {
+        drain_at(s, buffer + (1 + i * ENTRY_WORDS), copy, most, settings, g);
+        i += 1;
+    }
+}

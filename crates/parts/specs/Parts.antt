@@ -1,0 +1,23 @@
+-- What the records of the code stand for.
+use Rattle.parts.specs.declared.agreed.Agreed.{Agreed}
+use Rattle.parts.specs.declared.head.Head.{Head}
+use Rattle.parts.specs.declared.status.Status.{Status}
+use Rattle.layout.specs.Disk as disk
+
+abbrev pub head-of : Head → disk.Head
+head-of h = record { settings = h .settings; view = h .view; given = h .given; started = h .started }
+
+abbrev pub agreed-of : Agreed → disk.Agreed
+agreed-of a = record {
+  primary = a .primary;
+  backup = a .backup;
+  last-primary = a .«last_primary»;
+  last-backup = a .«last_backup»;
+  ready = a .ready;
+  fetched = a .fetched;
+  order = a .order;
+  taken = a .taken;
+}
+
+abbrev pub status-of : Status → disk.Status
+status-of s = record { up = s .up; member = s .member; began = s .began; next = s .next; ceiling = s .ceiling }

@@ -1,0 +1,50 @@
+// The header: the settings, the view, the highest id given, the number of bricks that the view began with.
+ghost use mathlib.Core.Path.{_≡_};
+ghost use Prim.Native.Nat.{_*_};
+ghost use lib.ListN.{length};
+ghost use Rattle.words.specs.Words.{words};
+ghost use Rattle.layout.specs.Layout.{head-codec, head-words};
+ghost use Rattle.parts.specs.Parts.{head-of};
+use layout::sizes;
+use rules::settings::Settings;
+
+pub struct Head {
+    pub settings: Settings,
+    pub view: u64,
+    pub given: u64,
+    pub started: u64,
+}
+
+pub fn read(part: &[u8]) -> Head
+    requires { ⌜ length (now part) ≡ 8 * head-words ⌝ }
+    ensures { λ r. ⌜ head-of r ≡ head-codec .dec (words (now (part .entry))) ⌝ }
+{
+    let settings = Settings {
+        places: words::read(part, 0) as usize,
+        size: words::read(part, 1) as usize,
+        entries: words::read(part, 2) as usize,
+        chunks: words::read(part, 3) as usize,
+    };
+    Head {
+        settings,
+        view: words::read(part, sizes::VIEW_AT),
+        given: words::read(part, sizes::GIVEN_AT),
+        started: words::read(part, sizes::STARTED_AT),
+    }
+}
+
+pub fn write(part: &mut [u8], head: Head)
+    requires { ⌜ length (now part) ≡ 8 * head-words ⌝ }
+    ensures { λ _. ⌜ words (now (part .exit)) ≡ head-codec .enc (head-of head) (words (now (part .entry))) ⌝ }
+{
+    let list = [
+        head.settings.places as u64,
+        head.settings.size as u64,
+        head.settings.entries as u64,
+        head.settings.chunks as u64,
+        head.view,
+        head.given,
+        head.started,
+    ];
+    moves::put_words(part, 0, &list);
+}
