@@ -46,6 +46,7 @@ module _ (most : ℕ) (ws : List ℕ) (hl : length ws ≡ entries-words most) (f
       → set (sifting 2 (stays count g) i ws) 0 o ≡ write-entries (only (λ e. not (waits-for count g e)) (entries ws)) ws
   unfolding waits-for
   buffer-end i o ei eo =
-      rw eo (sift-end 2 most ws hl few (stays count g) i ei) ∙ keep-rows most ws hl few (stays count g) (λ e. not (eqb (bucket-of count (e .block)) g)) (λ e. refl)
+      rw eo (sift-end 2 most ws hl few (stays count g) i ei) ∙ keep-rows most ws hl few (stays count g) (λ e. not (eqb (bucket-of count (e .block)) g))
+      (λ e. refl)
 
 -- a copied table, as entries

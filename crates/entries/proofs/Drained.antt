@@ -19,7 +19,8 @@ use Rattle.tables.specs.Tables.{Sorted}
 use Rattle.entries.specs.Words.{entries-words, entries, write-entries, entry-at}
 use Rattle.entries.specs.Steps.{take-in, drained-at, Drains}
 use Rattle.entries.proofs.Sorted.{take-grows, drain-more, drain-ascends, drain-few}
-use Rattle.entries.proofs.Words.{entries-back, entries-keeps, entries-over, entries-clean, entries-length, entries-count, at-words, sorted-of, sorted-ascends}
+use Rattle.entries.proofs.Words.{entries-back, entries-keeps, entries-over, entries-clean, entries-length, entries-count, at-words, sorted-of}
+use Rattle.entries.proofs.Words.{sorted-ascends}
 
 -- the copy after the first i entries of the buffer
 abbrev pub drained : ℕ → ℕ → ℕ → ℕ → ℕ → ℕ → List ℕ → ℕ → List Entry
@@ -80,12 +81,14 @@ module _ (count g buffer waiting copy most : ℕ) (ws : List ℕ) where
             (rw (entries-back most part part-length (after i)) after-ascends))
 
         -- one entry taken in
-        taken : (e : Entry) → on-run copy size (λ c. write-entries (take-in most (entries c) e) c) v ≡ on-run copy size (write-entries (take-in most (after i) e)) ws
+        taken : (e : Entry) → on-run copy size (λ c. write-entries (take-in most (entries c) e) c) v
+            ≡ on-run copy size (write-entries (take-in most (after i) e)) ws
         taken e =
             let f : List ℕ → List ℕ = λ c. write-entries (take-in most (entries c) e) c in
             ap (on-run copy size f) ev ∙ sym (on-twice copy size (write-entries (after i)) f ws hw written)
             ∙ on-by copy size (λ c. f (write-entries (after i) c)) (write-entries (take-in most (after i) e)) ws
-            (rw (entries-back most part part-length (after i)) (entries-over most part part-length (after i) (take-in most (after i) e) (take-grows most (after i) e after-ascends)))
+            (rw (entries-back most part part-length (after i))
+            (entries-over most part part-length (after i) (take-in most (after i) e) (take-grows most (after i) e after-ascends)))
 
         module _ (at : ℕ) (ea : at ≡ buffer + (1 + i * 2)) (h : i < getD ws buffer 0) where
           abbrev next : Entry
@@ -109,7 +112,8 @@ module _ (count g buffer waiting copy most : ℕ) (ws : List ℕ) where
           yes q =
               let z : waits-for count g (entry-at (entries queue) i) ≡ true = rw next-is q in
               ap (drain most (entries part)) (only-more (waits-for count g) (entries queue) i (entry 0 0) in-queue ∙ rw z)
-              ∙ drain-more most (entries part) (only (waits-for count g) (take i (entries queue))) (entry-at (entries queue) i) ∙ ap (take-in most (after i)) next-is
+              ∙ drain-more most (entries part) (only (waits-for count g) (take i (entries queue))) (entry-at (entries queue) i)
+              ∙ ap (take-in most (after i)) next-is
 
           no : eqb (bucket-of count (getD v at 0)) g ≡ false → after (suc i) ≡ after i
           unfolding waits-for

@@ -2,24 +2,24 @@
 use mathlib.Core.Path.{_≡_, refl, sym, ap, _∙_}
 use mathlib.Core.Logic.{_≢_}
 use mathlib.Core.Bool.{Bool, true, false}
-use mathlib.Core.List.{List, [], _∷_, _++_, map}
-use Prim.Native.Nat.{ℕ, zero, suc, _+_, _*_, _-_, _≤_, _<_}
+use mathlib.Core.List.{List, [], _∷_, _++_}
+use Prim.Native.Nat.{ℕ, _+_, _*_, _-_, _≤_, _<_}
 use native.Mathlib.Nat.{le-refl, add-zero}
 use native.Mathlib.Omega.{arith}
 use lib.Dec.{ltb, eqb}
-use lib.ListN.{length, getD, take, drop, set, drop-of-length-le}
-use lib.Seq.{take-all, getD-take, getD-drop, ext-getD}
+use lib.ListN.{length, getD, take, drop, set}
+use lib.Seq.{getD-take, getD-drop, ext-getD}
 use borrow.Author.Tests.{ltb-true, lt-ltb, eqb-true, eq-eqb}
 use Rattle.lists.specs.Tests.{_and_, _or_, all-below, only}
 use Rattle.lists.specs.Runs.{run, on-run, enc-all, Sized, none, more}
 use Rattle.lists.proofs.Tests.{by-eq, by-lt, same-test, both, and-l, and-r, all-true, all-at}
 use Rattle.lists.proofs.Runs.{run-length, on-by}
-use Rattle.lists.proofs.Lists.{getD-map-in, map-only}
 use Rattle.lists.proofs.Ascending.{rising-from}
 use Rattle.rules.specs.Entries.{Entry, entry, look, has, insert, remove, takes, ascending}
 use Rattle.rules.specs.Sound.{same-entries}
 use Rattle.tables.specs.Tables.{table-dec, table-enc, row, insert-at, remove-at, first-at, rises-at, ascends, same-at, same-rows, Sorted, Place, HereAt, GapAt}
-use Rattle.tables.proofs.Rows.{length-rows, row-at, enc-rows, enc-raw, dec-raw, in-rows, table-clean, table-back, table-over, table-keeps, count-cons}
+use Rattle.tables.proofs.Rows.{row-at, enc-rows, in-rows, table-clean, table-back, table-over, table-keeps, count-cons}
+use Rattle.tables.proofs.Typed.{typed, typed-rows, typed-length, typed-insert, typed-append, typed-remove, typed-only, typed-at, typed-set}
 use Rattle.entries.specs.Words.{entries-words, entry-of, row-of, entries, write-entries, entry-at}
 use Rattle.entries.proofs.Sorted.{look-at, look-none, has-at, has-none, insert-gap, insert-here, remove-none, remove-here}
 use Rattle.entries.proofs.Sorted.{ascending-of, ascending-rises, same-self, same-is}
@@ -34,28 +34,6 @@ exact (a ∷ b ∷ c ∷ r) h = let z : _≡_ {A = ℕ} 0 1 = omega arith in abs
 pub sized-entries : (l : List Entry) → Sized row-of 2 l
 sized-entries [] = none
 sized-entries (e ∷ l) = more refl (sized-entries l)
-
--- ---- lists of rows
-map-insert : {A B : Type 0} (f : A → B) (p : ℕ) (x : A) (l : List A) → map f (insert-at p x l) ≡ insert-at p (f x) (map f l)
-map-insert f zero x l = refl
-map-insert f (suc p) x [] = refl
-map-insert {A} {B} f (suc p) x (y ∷ l) = ap (λ (r : List B). f y ∷ r) (map-insert f p x l)
-
-map-remove : {A B : Type 0} (f : A → B) (p : ℕ) (l : List A) → map f (remove-at p l) ≡ remove-at p (map f l)
-map-remove f zero [] = refl
-map-remove f zero (y ∷ l) = refl
-map-remove f (suc p) [] = refl
-map-remove {A} {B} f (suc p) (y ∷ l) = ap (λ (r : List B). f y ∷ r) (map-remove f p l)
-
-map-set : {A B : Type 0} (f : A → B) (p : ℕ) (x : A) (l : List A) → map f (set l p x) ≡ set (map f l) p (f x)
-map-set f p x [] = refl
-map-set f zero x (y ∷ l) = refl
-map-set {A} {B} f (suc p) x (y ∷ l) = ap (λ (r : List B). f y ∷ r) (map-set f p x l)
-
--- rows that are entries, written
-as-entries : (l : List Entry) (rs : List (List ℕ)) → rs ≡ map row-of l → (ws : List ℕ) → table-enc 2 row rs ws ≡ write-entries l ws
-unfolding write-entries
-as-entries l rs e ws = rw e (enc-raw 2 row-of l ws)
 
 module _ (most : ℕ) (ws : List ℕ) (hl : length ws ≡ entries-words most) where
   -- ---- written and read
@@ -77,13 +55,9 @@ module _ (most : ℕ) (ws : List ℕ) (hl : length ws ≡ entries-words most) wh
     unfolding entries write-entries
     entries-clean = table-clean 2 most ws hl entry-of row-of exact few
 
-    entries-raw : table-dec 2 row ws ≡ map row-of (entries ws)
-    unfolding entries
-    entries-raw = sym (dec-raw 2 most ws hl entry-of row-of exact few)
-
     pub entries-length : length (entries ws) ≡ getD ws 0 0
-    unfolding entries table-dec
-    entries-length = length-rows 2 entry-of (getD ws 0 0) (drop 1 ws)
+    unfolding entries
+    entries-length = typed-length 2 entry-of row-of exact most ws hl few
 
     pub at-words : (i : ℕ) → i < getD ws 0 0 → entry-at (entries ws) i ≡ entry (getD ws (1 + i * 2) 0) (getD ws (2 + i * 2) 0)
     unfolding entries table-dec
@@ -110,26 +84,25 @@ module _ (most : ℕ) (ws : List ℕ) (hl : length ws ≡ entries-words most) wh
 
     -- ---- rows put in, set, taken out, kept
     pub put-row : (p b k : ℕ) → table-enc 2 row (insert-at p (b ∷ k ∷ []) (table-dec 2 row ws)) ws ≡ write-entries (insert-at p (entry b k) (entries ws)) ws
-    put-row p b k =
-        as-entries (insert-at p (entry b k) (entries ws)) (insert-at p (b ∷ k ∷ []) (table-dec 2 row ws))
-        (rw entries-raw (sym (map-insert row-of p (entry b k) (entries ws)))) ws
+    unfolding entries write-entries
+    put-row p b k = typed-insert 2 entry-of row-of exact most ws hl few p (entry b k)
 
     pub set-key : (p k : ℕ) → p < getD ws 0 0
         → table-enc 2 row (set (table-dec 2 row ws) p (set (getD (table-dec 2 row ws) p []) 1 k)) ws
         ≡ write-entries (set (entries ws) p (entry (entry-at (entries ws) p .block) k)) ws
+    unfolding entries write-entries
     set-key p k h =
-        as-entries (set (entries ws) p (entry (entry-at (entries ws) p .block) k)) (set (table-dec 2 row ws) p (set (getD (table-dec 2 row ws) p []) 1 k))
-        (rw (entries-raw, getD-map-in row-of (entries ws) p [] (entry 0 0) (rw entries-length h))
-        (sym (map-set row-of p (entry (entry-at (entries ws) p .block) k) (entries ws)))) ws
+        let l = table-dec 2 entry-of ws in
+        rw (typed-at 2 entry-of row-of exact most ws hl few p (entry 0 0) h) (typed-set 2 entry-of row-of exact most ws hl few p (entry (entry-at l p .block) k))
 
     pub drop-row : (p : ℕ) → table-enc 2 row (remove-at p (table-dec 2 row ws)) ws ≡ write-entries (remove-at p (entries ws)) ws
-    drop-row p =
-        as-entries (remove-at p (entries ws)) (remove-at p (table-dec 2 row ws)) (rw entries-raw (sym (map-remove row-of p (entries ws)))) ws
+    unfolding entries write-entries
+    drop-row p = typed-remove 2 entry-of row-of exact most ws hl few p
 
     pub keep-rows : (test : List ℕ → Bool) (p : Entry → Bool) → ((e : Entry) → test (row-of e) ≡ p e)
         → table-enc 2 row (only test (table-dec 2 row ws)) ws ≡ write-entries (only p (entries ws)) ws
-    keep-rows test p e =
-        as-entries (only p (entries ws)) (only test (table-dec 2 row ws)) (rw entries-raw (sym (map-only row-of p test e (entries ws)))) ws
+    unfolding entries write-entries
+    keep-rows test p e = typed-only 2 entry-of row-of exact most ws hl few test p e
 
 -- ---- a sorted table
 module _ (most : ℕ) (ws : List ℕ) (len : ℕ) (hl : length ws ≡ entries-words most) (s : Sorted 2 most ws len) where
@@ -150,7 +123,8 @@ module _ (most : ℕ) (ws : List ℕ) (len : ℕ) (hl : length ws ≡ entries-wo
     pub has-here : has (entries ws) b ≡ true
     has-here = has-at b (entries ws) p here-in here-block
 
-    pub put-here : (k : ℕ) → table-enc 2 row (set (table-dec 2 row ws) p (set (getD (table-dec 2 row ws) p []) 1 k)) ws ≡ write-entries (insert (entries ws) b k) ws
+    pub put-here : (k : ℕ) → table-enc 2 row (set (table-dec 2 row ws) p (set (getD (table-dec 2 row ws) p []) 1 k)) ws
+        ≡ write-entries (insert (entries ws) b k) ws
     put-here k =
         set-key most ws hl (s .few) p k (h .in-use)
         ∙ rw here-block (ap (λ (l : List Entry). write-entries l ws) (sym (insert-here b k (entries ws) p here-in (below b p (h .place)) here-block)))
@@ -159,7 +133,8 @@ module _ (most : ℕ) (ws : List ℕ) (len : ℕ) (hl : length ws ≡ entries-wo
     remove-leaves =
         drop-row most ws hl (s .few) p
         ∙ ap (λ (l : List Entry). write-entries l ws) (sym (remove-here b (entries ws) p here-in
-        (λ j q n e. let i : j < getD ws 0 0 = rw (entries-length most ws hl (s .few)) at q in apart j i n (sym (block-at most ws hl (s .few) j i) ∙ e)) here-block))
+        (λ j q n e. let i : j < getD ws 0 0 = rw (entries-length most ws hl (s .few)) at q in apart j i n (sym (block-at most ws hl (s .few) j i)
+        ∙ e)) here-block))
       where
         apart : (j : ℕ) → j < getD ws 0 0 → j ≢ p → first-at 2 ws j ≢ b
         apart j q n e =
@@ -178,7 +153,8 @@ module _ (most : ℕ) (ws : List ℕ) (len : ℕ) (hl : length ws ≡ entries-wo
         let f : first-at 2 ws j ≡ b = sym (block-at most ws hl (s .few) j i) ∙ e in
         by-lt j p (λ _ l. let z = g .place .before j l in omega arith)
         (λ _ l. let a = gap-after (omega arith) in
-        by-eq j p (λ _ u. let v : first-at 2 ws j ≡ first-at 2 ws p = rw u in omega arith) (λ _ u. let k : p < j = omega arith in let z = s .rising p j k i in omega arith))
+        by-eq j p (λ _ u. let v : first-at 2 ws j ≡ first-at 2 ws p = rw u in omega arith)
+        (λ _ u. let k : p < j = omega arith in let z = s .rising p j k i in omega arith))
 
     pub look-gap : look (entries ws) b ≡ 0
     look-gap = look-none b (entries ws) gap-apart
@@ -200,25 +176,30 @@ module _ (most : ℕ) (ws : List ℕ) (len : ℕ) (hl : length ws ≡ entries-wo
 module _ (most : ℕ) (ws : List ℕ) (hl : length ws ≡ entries-words most) (few : getD ws 0 0 ≤ most) where
   pub rises-of : ascending 0 (entries ws) ≡ true → (i j : ℕ) → i < j → j < getD ws 0 0 → first-at 2 ws i < first-at 2 ws j
   rises-of y i j p h =
-      rw (block-at most ws hl few i (omega arith), block-at most ws hl few j h) at (ascending-rises 0 (entries ws) y i j p (rw (entries-length most ws hl few) h))
+      rw (block-at most ws hl few i (omega arith), block-at most ws hl few j h) at
+      (ascending-rises 0 (entries ws) y i j p (rw (entries-length most ws hl few) h))
 
   pub ascending-is : ascends 2 ws ≡ ascending 0 (entries ws)
   unfolding ascends
   ascending-is =
       same-test (all-below (getD ws 0 0 - 1) (rises-at 2 ws)) (ascending 0 (entries ws))
-      (λ y. let up = rising-from (first-at 2 ws) (getD ws 0 0) (λ i h. ltb-true (first-at 2 ws i) (first-at 2 ws (i + 1)) (all-at (getD ws 0 0 - 1) (rises-at 2 ws) y i h)) in
+      (λ y. let up = rising-from (first-at 2 ws) (getD ws 0 0)
+      (λ i h. ltb-true (first-at 2 ws i) (first-at 2 ws (i + 1)) (all-at (getD ws 0 0 - 1) (rises-at 2 ws) y i h)) in
       ascending-of 0 (entries ws) (λ i h. omega arith) (λ i j p h. let q : j < getD ws 0 0 = rw (entries-length most ws hl few) at h in
       rw (block-at most ws hl few i (omega arith), block-at most ws hl few j q) (up i j p q)))
-      (λ y. all-true (getD ws 0 0 - 1) (rises-at 2 ws) (λ i h. lt-ltb (first-at 2 ws i) (first-at 2 ws (i + 1)) (rises-of y i (i + 1) (omega arith) (omega arith))))
+      (λ y. all-true (getD ws 0 0 - 1) (rises-at 2 ws) (λ i h. lt-ltb (first-at 2 ws i) (first-at 2 ws (i + 1))
+      (rises-of y i (i + 1) (omega arith) (omega arith))))
 
-module _ (most : ℕ) (ws vs : List ℕ) (hl : length ws ≡ entries-words most) (hv : length vs ≡ entries-words most) (few : getD ws 0 0 ≤ most) (fewv : getD vs 0 0 ≤ most) where
+module _ (most : ℕ) (ws vs : List ℕ) (hl : length ws ≡ entries-words most) (hv : length vs ≡ entries-words most) (few : getD ws 0 0 ≤ most)
+    (fewv : getD vs 0 0 ≤ most) where
   words-same : getD ws 0 0 ≡ getD vs 0 0 → all-below (getD ws 0 0 * 2) (same-at ws vs) ≡ true → entries ws ≡ entries vs
   words-same e y =
       ext-getD (entry 0 0) (entries ws) (entries vs) (entries-length most ws hl few ∙ e ∙ sym (entries-length most vs hv fewv))
       (λ i h. let q : i < getD ws 0 0 = rw (entries-length most ws hl few) at h in
       let a : getD ws (1 + i * 2) 0 ≡ getD vs (1 + i * 2) 0 = eqb-true _ _ (all-at (getD ws 0 0 * 2) (same-at ws vs) y (i * 2) (omega arith)) in
       let z : 1 + (i * 2 + 1) ≡ 2 + i * 2 = omega arith in
-      let b : getD ws (2 + i * 2) 0 ≡ getD vs (2 + i * 2) 0 = rw z at (eqb-true (getD ws (1 + (i * 2 + 1)) 0) (getD vs (1 + (i * 2 + 1)) 0) (all-at (getD ws 0 0 * 2) (same-at ws vs) y (i * 2 + 1) (omega arith))) in
+      let b : getD ws (2 + i * 2) 0 ≡ getD vs (2 + i * 2) 0 = rw z at
+      (eqb-true (getD ws (1 + (i * 2 + 1)) 0) (getD vs (1 + (i * 2 + 1)) 0) (all-at (getD ws 0 0 * 2) (same-at ws vs) y (i * 2 + 1) (omega arith))) in
       at-words most ws hl few i q ∙ rw (a, b) (sym (at-words most vs hv fewv i (rw (← e) q))))
 
   entries-same : entries ws ≡ entries vs → (i : ℕ) → i < getD ws 0 0 * 2 → same-at ws vs i ≡ true
@@ -257,21 +238,20 @@ no-entries most ws hl = ap (λ (v : List ℕ). set v 0 0) (count-cons ws (omega 
 
 pub append-leaves : (most : ℕ) (ws : List ℕ) (hl : length ws ≡ entries-words most) (few : getD ws 0 0 ≤ most) (n b k : ℕ) → n ≡ getD ws 0 0
     → table-enc 2 row (insert-at n (b ∷ k ∷ []) (table-dec 2 row ws)) ws ≡ write-entries (entries ws ++ entry b k ∷ []) ws
-append-leaves most ws hl few n b k e =
-    let l : length (entries ws) ≤ n = rw (entries-length most ws hl few, e) (le-refl (getD ws 0 0)) in
-    put-row most ws hl few n b k
-    ∙ ap (λ (r : List Entry). write-entries r ws) (rw (take-all n (entries ws) l, drop-of-length-le (entries ws) l))
+unfolding entries write-entries
+append-leaves most ws hl few n b k e = typed-append 2 entry-of row-of exact most ws hl few n (entry b k) e
 
 -- ---- a table copied over another
 pub copy-leaves : (most from to : ℕ) (ws : List ℕ) → from + entries-words most ≤ length ws → getD ws from 0 ≤ most
     → on-run to (entries-words most) (table-enc 2 row (table-dec 2 row (run from (entries-words most) ws))) ws
     ≡ on-run to (entries-words most) (write-entries (entries (run from (entries-words most) ws))) ws
+unfolding entries write-entries
 copy-leaves most from to ws h few =
     let t = run from (entries-words most) ws in
     let l : length t ≡ entries-words most = run-length from (entries-words most) ws h in
     let c : getD t 0 0 ≡ getD ws from 0 = getD-take (entries-words most) (drop from ws) 0 0 (omega arith) ∙ getD-drop from ws 0 0 ∙ rw (add-zero from) in
-    on-by to (entries-words most) (table-enc 2 row (table-dec 2 row t)) (write-entries (entries t)) ws
-    (as-entries (entries t) (table-dec 2 row t) (entries-raw most t l (rw c few)) (run to (entries-words most) ws))
+    on-by to (entries-words most) (table-enc 2 row (table-dec 2 row t)) (table-enc 2 row-of (table-dec 2 entry-of t)) ws
+    (typed 2 row-of (table-dec 2 entry-of t) (table-dec 2 row t) (typed-rows 2 entry-of row-of exact most t l (rw c few)) (run to (entries-words most) ws))
 
 -- ---- a sorted table, by its entries
 pub entries-count : (l : List Entry) (ws : List ℕ) → getD (write-entries l ws) 0 0 ≡ length l

@@ -1,4 +1,5 @@
 -- What a step over a buffer's entries leaves: cited by the contracts of inner functions.
+use mathlib.Core.Path.{_≡_}
 use mathlib.Core.Bool.{Bool, not, cond}
 use mathlib.Core.List.{List}
 use Prim.Native.Nat.{ℕ, _+_, _*_, _≤_}
@@ -6,7 +7,8 @@ use lib.Dec.{eqb}
 use lib.ListN.{getD, drop}
 use lib.Seq.{paste}
 use Rattle.rules.specs.Numbers.{bucket-of}
-use Rattle.rules.specs.Entries.{Entry, entry, insert, takes}
+use Rattle.rules.specs.Entries.{Entry, entry, insert, takes, waits-for, drain}
+use Rattle.lists.specs.Tests.{only}
 use Rattle.lists.specs.Runs.{run, on-run}
 use Rattle.tables.specs.Tables.{first-at, Sorted}
 use Rattle.entries.specs.Words.{entry-words, entries-words, entries, write-entries}
@@ -15,6 +17,10 @@ use Rattle.entries.specs.Words.{entry-words, entries-words, entries, wri
 unfoldable pub sifted : ℕ → ℕ → ℕ → ℕ → List ℕ → List ℕ
 sifted count g i o ws =
     cond (eqb (bucket-of count (first-at entry-words ws i)) g) ws (paste ws (1 + o * entry-words) (drop (1 + i * entry-words) ws) entry-words)
+
+pub record SiftStep (count g i o : ℕ) (ws vs : List ℕ) (r : ℕ) : Type 0 where
+  pub words : vs ≡ sifted count g i o ws
+  pub next : r ≡ cond (eqb (bucket-of count (first-at entry-words ws i)) g) o (o + 1)
 
 -- a row that stays in a buffer: its block is not of the bucket
 abbrev pub stays : ℕ → ℕ → List ℕ → Bool
@@ -30,6 +36,12 @@ unfoldable pub drained-at : ℕ → ℕ → ℕ → ℕ → ℕ → List ℕ →
 drained-at count g at copy most ws =
     let e = entry (getD ws at 0) (getD ws (at + 1) 0) in
     cond (eqb (bucket-of count (e .block)) g) (on-run copy (entries-words most) (λ c. write-entries (take-in most (entries c) e) c) ws) ws
+
+-- the words when the bucket's entries of the buffer have moved into the copy
+abbrev pub drained-words : ℕ → ℕ → ℕ → ℕ → ℕ → ℕ → List ℕ → List ℕ
+drained-words count g buffer waiting copy most ws =
+    let mine = only (waits-for count g) (entries (run buffer (entries-words waiting) ws)) in
+    on-run copy (entries-words most) (write-entries (drain most (entries (run copy (entries-words most) ws)) mine)) ws
 
 -- a buffer lies before a sorted copy
 pub record Drains (buffer waiting copy most : ℕ) (ws : List ℕ) (len : ℕ) : Type 0 where

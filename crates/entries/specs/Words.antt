@@ -2,6 +2,7 @@
 use mathlib.Core.List.{List, [], _∷_}
 use Prim.Native.Nat.{ℕ}
 use lib.ListN.{getD}
+use Rattle.lists.specs.Runs.{run, on-run}
 use Rattle.rules.specs.Entries.{Entry, entry}
 use Rattle.tables.specs.Tables.{table-words, table-dec, table-enc}
 
@@ -29,3 +30,11 @@ write-entries l ws = table-enc entry-words row-of l ws
 
 abbrev pub entry-at : List Entry → ℕ → Entry
 entry-at l i = getD l i (entry 0 0)
+
+-- a table's words with its entries changed
+abbrev pub change-entries : (List Entry → List Entry) → List ℕ → List ℕ
+change-entries f ws = write-entries (f (entries ws)) ws
+
+-- the table at word `from` over the one at word `to`
+abbrev pub copied-entries : ℕ → ℕ → ℕ → List ℕ → List ℕ
+copied-entries most from to ws = on-run to (entries-words most) (write-entries (entries (run from (entries-words most) ws))) ws

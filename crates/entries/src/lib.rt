@@ -1,21 +1,21 @@
 // Entries (block, key) in a lent slice, in 64-bit words: a count, then at most `most` rows. Bucket copies and items are sorted by block; an append buffer
 // is in arrival order. Rows past the count keep what they hold.
 ghost use mathlib.Core.Path.{_≡_};
-ghost use mathlib.Core.Bool.{true, not, cond};
+ghost use mathlib.Core.Bool.{true, not};
 ghost use mathlib.Core.List.{[], _∷_, _++_};
 ghost use Prim.Native.Nat.{_+_, _*_, _≤_, _<_};
 ghost use lib.ListN.{length, getD};
 ghost use Rattle.lists.specs.Tests.{only};
-ghost use Rattle.lists.specs.Runs.{run, on-run};
+ghost use Rattle.lists.specs.Runs.{run};
 ghost use Rattle.words.specs.Words.{words};
 ghost use Rattle.rules.specs.Limits.{buckets};
-ghost use Rattle.rules.specs.Entries.{entry, look, has, insert, remove, takes, waits-for, drain, ascending};
+ghost use Rattle.rules.specs.Entries.{entry, look, has, insert, remove, takes, waits-for, ascending};
 ghost use Rattle.rules.specs.Sound.{same-entries};
 ghost use lib.Dec.{eqb};
 ghost use Rattle.rules.specs.Numbers.{bucket-of};
-ghost use Rattle.tables.specs.Tables.{first-at, IsTable, Sorted};
-ghost use Rattle.entries.specs.Words.{entry-words, entries-words, entries, write-entries, entry-at};
-ghost use Rattle.entries.specs.Steps.{sifted, drained-at, Drains};
+ghost use Rattle.tables.specs.Tables.{TwoTables, IsTable, Sorted};
+ghost use Rattle.entries.specs.Words.{entry-words, entries-words, entries, change-entries, copied-entries, entry-at};
+ghost use Rattle.entries.specs.Steps.{SiftStep, take-in, drained-at, drained-words, Drains};
 use rules::numbers::BlockNumber;
 use rules::settings::Settings;
 use tables::Spot;
@@ -118,7 +118,7 @@ pub fn same(a: &[u8], b: &[u8], most: usize) -> bool
 pub fn insert(t: &mut [u8], most: usize, b: u64, k: u64)
     requires { ⌜ Sorted entry-words most (words (now t)) (length (now t)) ⌝ }
     requires { ⌜ takes most (entries (words (now t))) b ≡ true ⌝ }
-    ensures { λ _. ⌜ words (now (t .exit)) ≡ write-entries (insert (entries (words (now (t .entry)))) b k) (words (now (t .entry))) ⌝ }
+    ensures { λ _. ⌜ words (now (t .exit)) ≡ change-entries (λ l. insert l b k) (words (now (t .entry))) ⌝ }
 {
     match tables::find(t, ENTRY_WORDS, most, b) {
         Spot::Here(p) => tables::set_cell(t, ENTRY_WORDS, most, p, KEY, k),
@@ -132,7 +132,7 @@ pub fn insert(t: &mut [u8], most: usize, b: u64, k: u64)
 // The same, but a new block that finds the table full is dropped.
 pub fn insert_or_drop(t: &mut [u8], most: usize, b: u64, k: u64)
     requires { ⌜ Sorted entry-words most (words (now t)) (length (now t)) ⌝ }
-    ensures { λ _. ⌜ words (now (t .exit)) ≡ write-entries (cond (takes most (entries (words (now (t .entry)))) b) (insert (entries (words (now (t .entry)))) b k) (entries (words (now (t .entry))))) (words (now (t .entry))) ⌝ }
+    ensures { λ _. ⌜ words (now (t .exit)) ≡ change-entries (λ l. take-in most l (entry b k)) (words (now (t .entry))) ⌝ }
 {
     if takes(t, most, b) {
         insert(t, most, b, k);
@@ -143,7 +143,7 @@ pub fn insert_or_drop(t: &mut [u8], most: usize, b: u64, k: u64)
 // The block's entry goes.
 pub fn remove(t: &mut [u8], most: usize, b: u64)
     requires { ⌜ Sorted entry-words most (words (now t)) (length (now t)) ⌝ }
-    ensures { λ _. ⌜ words (now (t .exit)) ≡ write-entries (remove (entries (words (now (t .entry)))) b) (words (now (t .entry))) ⌝ }
+    ensures { λ _. ⌜ words (now (t .exit)) ≡ change-entries (λ l. remove l b) (words (now (t .entry))) ⌝ }
 {
     match tables::find(t, ENTRY_WORDS, most, b) {
         Spot::Here(p) => tables::remove_row(t, ENTRY_WORDS, most, p),
@@ -156,7 +156,7 @@ pub fn remove(t: &mut [u8], most: usize, b: u64)
 // No entries.
 pub fn clear(t: &mut [u8], most: usize)
     requires { ⌜ length (now t) ≡ 8 * entries-words most ⌝ }
-    ensures { λ _. ⌜ words (now (t .exit)) ≡ write-entries [] (words (now (t .entry))) ⌝ }
+    ensures { λ _. ⌜ words (now (t .exit)) ≡ change-entries (λ l. []) (words (now (t .entry))) ⌝ }
 {
     words::write(t, 0, 0);
 }
@@ -165,7 +165,7 @@ pub fn clear(t: &mut [u8], most: usize)
 pub fn append(t: &mut [u8], most: usize, b: u64, k: u64)
     requires { ⌜ IsTable entry-words most (words (now t)) (length (now t)) ⌝ }
     requires { ⌜ getD (words (now t)) 0 0 < most ⌝ }
-    ensures { λ _. ⌜ words (now (t .exit)) ≡ write-entries (entries (words (now (t .entry))) ++ entry b k ∷ []) (words (now (t .entry))) ⌝ }
+    ensures { λ _. ⌜ words (now (t .exit)) ≡ change-entries (λ l. l ++ entry b k ∷ []) (words (now (t .entry))) ⌝ }
 {
     let n = words::read(t, 0) as usize;
     let last = [b, k];
@@ -174,8 +174,8 @@ pub fn append(t: &mut [u8], most: usize, b: u64, k: u64)
 
 // The table from word `from` on is copied to the one from word `to` on: its count and its entries.
 pub fn copy(s: &mut [u8], from: usize, to: usize, most: usize)
-    requires { ⌜ (8 * (from + entries-words most) ≤ length (now s)) × (8 * (to + entries-words most) ≤ length (now s)) × (getD (words (now s)) from 0 ≤ most) ⌝ }
-    ensures { λ _. ⌜ words (now (s .exit)) ≡ on-run to (entries-words most) (write-entries (entries (run from (entries-words most) (words (now (s .entry)))))) (words (now (s .entry))) ⌝ }
+    requires { ⌜ TwoTables entry-words most from to (words (now s)) (length (now s)) ⌝ }
+    ensures { λ _. ⌜ words (now (s .exit)) ≡ copied-entries most from to (words (now (s .entry))) ⌝ }
 {
     tables::copy_table(s, from, to, ENTRY_WORDS, most);
 }
@@ -193,7 +193,7 @@ fn of_bucket(b: u64, settings: Settings, g: u64) -> bool
 // Entry i, where it is not of the bucket, goes to place o.
 fn sift_at(t: &mut [u8], most: usize, settings: Settings, g: u64, i: usize, o: usize) -> usize
     requires { ⌜ (o ≤ i) × (i < most) × (length (now t) ≡ 8 * entries-words most) ⌝ }
-    ensures { λ r. ⌜ (words (now (t .exit)) ≡ sifted (buckets settings) g i o (words (now (t .entry)))) × (r ≡ cond (eqb (bucket-of (buckets settings) (first-at entry-words (words (now (t .entry))) i)) g) o (o + 1)) ⌝ }
+    ensures { λ r. ⌜ SiftStep (buckets settings) g i o (words (now (t .entry))) (words (now (t .exit))) r ⌝ }
 {
     let b = words::read(t, 1 + i * ENTRY_WORDS);
     if of_bucket(b, settings, g) {
@@ -206,7 +206,7 @@ fn sift_at(t: &mut [u8], most: usize, settings: Settings, g: u64, i: usize, o: u
 // The bucket's entries go; the others stay in their order.
 pub fn drop_bucket(t: &mut [u8], most: usize, settings: Settings, g: u64)
     requires { ⌜ IsTable entry-words most (words (now t)) (length (now t)) ⌝ }
-    ensures { λ _. ⌜ words (now (t .exit)) ≡ write-entries (only (λ e. not (waits-for (buckets settings) g e)) (entries (words (now (t .entry))))) (words (now (t .entry))) ⌝ }
+    ensures { λ _. ⌜ words (now (t .exit)) ≡ change-entries (only (λ e. not (waits-for (buckets settings) g e))) (words (now (t .entry))) ⌝ }
 {
     let n = words::read(t, 0) as usize;
     let mut o = 0;
@@ -245,7 +245,7 @@ pub fn drain(
     g: u64,
 )
     requires { ⌜ Drains buffer waiting copy most (words (now s)) (length (now s)) ⌝ }
-    ensures { λ _. ⌜ words (now (s .exit)) ≡ on-run copy (entries-words most) (write-entries (drain most (entries (run copy (entries-words most) (words (now (s .entry))))) (only (waits-for (buckets settings) g) (entries (run buffer (entries-words waiting) (words (now (s .entry)))))))) (words (now (s .entry))) ⌝ }
+    ensures { λ _. ⌜ words (now (s .exit)) ≡ drained-words (buckets settings) g buffer waiting copy most (words (now (s .entry))) ⌝ }
 {
     let n = words::read(s, buffer) as usize;
     let mut i = 0;

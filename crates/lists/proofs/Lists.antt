@@ -9,6 +9,10 @@ use lib.Seq.{take-suc}
 use Rattle.lists.specs.Tests.{only}
 use Rattle.lists.proofs.Tests.{by}
 
+-- two lists with the same first element and the same rest
+pub same-cons : {A : Type 0} {x y : A} {xs ys : List A} → x ≡ y → xs ≡ ys → x ∷ xs ≡ y ∷ ys
+same-cons p q = cc
+
 -- an element by its place, whatever stands for none
 pub getD-map-in : {A B : Type 0} (f : A → B) (l : List A) (i : ℕ) (e : B) (d : A) → i < length l → getD (map f l) i e ≡ f (getD l i d)
 getD-map-in f [] i e d h = absurd (not-suc-le-zero h)

@@ -1,6 +1,5 @@
 -- What stores leave of a log's words: a chunk more, another saved word.
-use mathlib.Core.Path.{_≡_, refl, sym, ap, _∙_}
-use mathlib.Core.Logic.{_≢_}
+use mathlib.Core.Path.{_≡_, refl, ap, _∙_}
 use mathlib.Core.List.{List, [], _∷_, _++_, append-nil, map}
 use Prim.Native.Nat.{ℕ, zero, suc, _+_, _*_, _-_, _≤_, _<_}
 use native.Mathlib.Nat.{le-refl, not-suc-le-zero, le-of-suc-le-suc}
@@ -8,14 +7,14 @@ use native.Mathlib.Omega.{arith}
 use lib.ListN.{length, take, drop, getD, set, length-append, length-drop, length-set, List·getD-append}
 use lib.Seq.{paste, length-paste, getD-append-seam}
 use Rattle.lists.specs.Runs.{enc-all, Sized, none, more}
-use Rattle.lists.proofs.Tests.{by-eq}
 use Rattle.lists.proofs.Runs.{enc-all-append}
 use Rattle.log.specs.Positions.{positions}
 use Rattle.log.specs.Log.{Stored, stored, row-of, cell-of, stored-at, key-at, positions-of, rows-in, positions-in, cells-in, lay, over, write-log}
-use Rattle.log.specs.Log.{Place, Fits, Good, Lacks}
+use Rattle.log.specs.Log.{Place, Fits}
 use Rattle.log.specs.Steps.{with-saved, put-saved, tag, entered}
 use Rattle.log.proofs.Positions as order
-use Rattle.log.proofs.Regions.{over-two, over-more, over-insert, over-set, lay-row, lay-position, lay-paste, lay-shift, length-rows, length-positions, regions}
+use Rattle.log.proofs.Regions.{over-two, over-more, over-insert, over-set, lay-row, lay-position, lay-paste, lay-shift, length-rows}
+use Rattle.log.proofs.Regions.{length-positions, regions}
 use Rattle.log.proofs.Chunks.{length-row-words, length-positions-of, length-cells-in, over-rows, over-position, write-by}
 
 -- ---- a chunk more
@@ -78,12 +77,16 @@ module _ (L w : ℕ) (ys : List Stored) (ws : List ℕ) (hl : length ws ≡ 1 + 
         (λ h. rw (write-by L w ys ws hl fit p h) at (pl .after p (le-refl p) h))
 
     entered-regions : entered L (length ys) p (x .key) (x .saved) (write-log L ys ws)
-        ≡ lay (length ys + 1) (over (enc-all row-of (ys ++ x ∷ [])) (rows-in L ws)) (over (positions-of (ys ++ x ∷ [])) (positions-in L ws)) (over (enc-all cell-of ys) (cells-in L ws))
+        ≡ lay (length ys + 1) (over (enc-all row-of (ys ++ x ∷ [])) (rows-in L ws)) (over (positions-of (ys ++ x ∷ [])) (positions-in L ws))
+        (over (enc-all cell-of ys) (cells-in L ws))
     unfolding write-log
     entered-regions =
-        let r = over-two (enc-all row-of ys) (rows-in L ws) (x .key) (x .saved) (2 * length ys) (length-row-words ys) (rw (length-rows L w ws hl) (omega arith)) in
-        let i = over-insert (positions-of ys) (positions-in L ws) p (length ys) (length ys) (length-positions-of ys) (rw (length-positions L w ws hl) room) (pl .within) in
-        entered-lay L (length ys) p (x .key) (x .saved) (length ys) (over (enc-all row-of ys) (rows-in L ws)) (over (positions-of ys) (positions-in L ws)) (over (enc-all cell-of ys) (cells-in L ws))
+        let r = over-two (enc-all row-of ys) (rows-in L ws) (x .key) (x .saved) (2 * length ys) (length-row-words ys)
+        (rw (length-rows L w ws hl) (omega arith)) in
+        let i = over-insert (positions-of ys) (positions-in L ws) p (length ys) (length ys) (length-positions-of ys) (rw (length-positions L w ws hl) room)
+        (pl .within) in
+        entered-lay L (length ys) p (x .key) (x .saved) (length ys) (over (enc-all row-of ys) (rows-in L ws)) (over (positions-of ys) (positions-in L ws))
+        (over (enc-all cell-of ys) (cells-in L ws))
         (over-rows L w ys ws hl fit) (over-position L w ys ws hl fit) (pl .within) room
         ∙ rw (r, i, rows-more ys x, position-in)
 
@@ -135,22 +138,14 @@ position-put : (i v : ℕ) (ys : List Stored) → positions-of (put-saved i v ys
 unfolding positions-of
 position-put i v ys = rw length-put (order.positions-same (key-at (put-saved i v ys)) (key-at ys) (length ys) (λ j _. key-put i v ys j))
 
-pub sized-put : {w : ℕ} (i v : ℕ) {ys : List Stored} → Sized cell-of w ys → Sized cell-of w (put-saved i v ys)
-unfolding put-saved
-sized-put i v none = none
-sized-put zero v (more e s) = more e s
-sized-put (suc i) v (more e s) = more e (sized-put i v s)
-
-pub fits-put : {L w : ℕ} (i v : ℕ) {ys : List Stored} → Fits L w ys → Fits L w (put-saved i v ys)
-fits-put i v {ys} f = record { few = rw length-put (f .few); sized = sized-put i v (f .sized) }
-
 pub set-saved : (L w : ℕ) (ys : List Stored) (ws : List ℕ) → length ws ≡ 1 + 3 * L + L * w → Fits L w ys → (i v q : ℕ) → i < length ys → q ≡ 2 + 2 * i
     → set (write-log L ys ws) q v ≡ write-log L (put-saved i v ys) ws
 unfolding write-log
 set-saved L w ys ws hl fit i v q h e =
     let lr = over-rows L w ys ws hl fit in
     let la : length (enc-all row-of ys) ≡ 2 * length ys = length-row-words ys in
-    lay-row (length ys) (over (enc-all row-of ys) (rows-in L ws)) (over (positions-of ys) (positions-in L ws)) (over (enc-all cell-of ys) (cells-in L ws)) q (2 * i + 1) v (omega arith) (omega (arith, fit .few))
+    lay-row (length ys) (over (enc-all row-of ys) (rows-in L ws)) (over (positions-of ys) (positions-in L ws)) (over (enc-all cell-of ys) (cells-in L ws)) q
+    (2 * i + 1) v (omega arith) (omega (arith, fit .few))
     ∙ rw (over-set (enc-all row-of ys) (rows-in L ws) (2 * i + 1) v (omega arith), length-put i v ys, rows-put i v ys h, position-put i v ys, cells-put i v ys)
 
 pub tag-turn : (g : ℕ → ℕ) (i : ℕ) (cs : List Stored) → i < length cs → put-saved i (g i) (tag g i cs) ≡ tag g (suc i) cs
@@ -178,31 +173,6 @@ pub tag-all : (v : ℕ) (cs : List Stored) → tag (λ _. v) (length cs) cs ≡ 
 unfolding tag
 tag-all v [] = refl
 tag-all v (x ∷ cs) = ap (λ (l : List Stored). with-saved v x ∷ l) (tag-all v cs)
-
--- a new key keeps the keys apart
-pub good-more : (ys : List Stored) (x : Stored) → Good ys → Lacks ys (x .key) → x .saved ≤ 1 → Good (ys ++ x ∷ [])
-good-more ys x g lacks hs =
-    record {
-      flags = λ i h. by-eq i (length ys) (λ _ e. rw (at-end i e) hs) (λ _ n. rw (at-old i (under i h n)) (g .flags i (under i h n)));
-      distinct = λ i j p h k. by-eq j (length ys)
-          (λ _ e. let q : i < length ys = omega arith in lacks i q (sym (key-old i q) ∙ k ∙ key-end j e))
-          (λ _ n. let q : j < length ys = under j h n in let q2 : i < length ys = omega arith in g .distinct i j p q (sym (key-old i q2) ∙ k ∙ key-old j q));
-    }
-  where
-    under : (i : ℕ) → i < length (ys ++ x ∷ []) → i ≢ length ys → i < length ys
-    under i h n = let z : length (ys ++ x ∷ []) ≡ length ys + 1 = rw length-append (omega arith) in omega arith
-
-    at-end : (i : ℕ) → i ≡ length ys → stored-at (ys ++ x ∷ []) i ≡ x
-    at-end i e = rw e (getD-append-seam ys x [] (stored 0 0 []))
-
-    at-old : (i : ℕ) → i < length ys → stored-at (ys ++ x ∷ []) i ≡ stored-at ys i
-    at-old i h = List·getD-append ys (x ∷ []) (stored 0 0 []) i h
-
-    key-end : (i : ℕ) → i ≡ length ys → key-at (ys ++ x ∷ []) i ≡ x .key
-    key-end i e = ap (λ (c : Stored). c .key) (at-end i e)
-
-    key-old : (i : ℕ) → i < length ys → key-at (ys ++ x ∷ []) i ≡ key-at ys i
-    key-old i h = ap (λ (c : Stored). c .key) (at-old i h)
 
 -- no chunks
 pub cleared : (L w : ℕ) (ws : List ℕ) → length ws ≡ 1 + 3 * L + L * w → set ws 0 0 ≡ write-log L [] ws

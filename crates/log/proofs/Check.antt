@@ -15,10 +15,11 @@ use Rattle.lists.specs.Tests.{_and_, all-below}
 use Rattle.lists.proofs.Tests.{by, by-eq, all-at, all-true, all-false, and-l, and-r, both, same-test}
 use Rattle.lists.proofs.Ascending.{rising-from}
 use Rattle.log.specs.Log.{Stored, key-at, write-log, read-log}
-use Rattle.log.specs.Log.{row-key, row-saved, position-at, key-by, flag-at, below-at, rises-at, good-log, Ordered, LogWith, IsLog, Place, Fits, Good, Lacks}
+use Rattle.log.specs.Log.{row-key, row-saved, position-at, key-by, flag-at, below-at, rises-at, good-log, Ordered, LogWith, IsLog, Place, Fits, Good}
+use Rattle.log.specs.Log.{Lacks}
 use Rattle.log.specs.Steps.{row-good, good-order}
 use Rattle.log.proofs.Positions as order
-use Rattle.log.proofs.Chunks.{length-read, read-key, read-saved, distinct-read, reach, log-write}
+use Rattle.log.proofs.Chunks.{length-read, read-key, reach, log-write}
 
 module _ (L w : ℕ) (ws : List ℕ) (hl : length ws ≡ 1 + 3 * L + L * w) (few : getD ws 0 0 ≤ L) (ix : Ordered L (getD ws 0 0) ws)
     (k r : ℕ) (pl : Place L (getD ws 0 0) ws k r) where
@@ -71,15 +72,7 @@ good-of-log L w ws len o =
     (all-true (n - 1) (rises-at L ws)
     (λ j h. lt-ltb (key-by L ws j) (key-by L ws (j + 1)) (o .order .rising j (j + 1) (omega arith) (omega arith))))
 
--- the chunks of a log are good, and good chunks make a log
-pub good-read : (L w : ℕ) (ws : List ℕ) (len : ℕ) → length ws ≡ 1 + 3 * L + L * w → IsLog L w ws len → Good (read-log L w ws)
-good-read L w ws len hl o =
-    record {
-      flags = λ i h. let q : i < getD ws 0 0 = rw (length-read L w ws hl (o .few)) at h in
-          rw (read-saved L w ws hl (o .few) i q) (o .flags i q);
-      distinct = distinct-read L w ws hl (o .few) (o .order);
-    }
-
+-- good chunks make a log
 pub good-write : (L w : ℕ) (ys : List Stored) (ws : List ℕ) → length ws ≡ 1 + 3 * L + L * w → Fits L w ys → Good ys
     → good-log L (write-log L ys ws) ≡ true
 good-write L w ys ws hl fit g =

@@ -11,10 +11,12 @@ use lib.Seq.{drop-drop, length-take-le, take-add}
 use Rattle.lists.specs.Runs.{enc-all, Sized, none, more}
 use Rattle.lists.proofs.Runs.{length-enc-all}
 use Rattle.log.specs.Positions.{positions}
-use Rattle.log.specs.Log.{Stored, stored, row-of, cell-of, stored-at, key-at, positions-of, rows-in, positions-in, cells-in, lay, over, write-log, read-rows, read-log}
+use Rattle.log.specs.Log.{Stored, stored, row-of, cell-of, stored-at, key-at, positions-of, rows-in, positions-in, cells-in, lay, over, write-log}
+use Rattle.log.specs.Log.{read-rows, read-log}
 use Rattle.log.specs.Log.{row-key, row-saved, position-at, key-by, Ordered, LogWith, Fits}
 use Rattle.log.proofs.Positions as order
-use Rattle.log.proofs.Regions.{over-over, over-self, length-over, over-at, lay-rows, lay-positions, lay-cells, length-rows, length-positions, length-cells, regions, row-word, position-word}
+use Rattle.log.proofs.Regions.{over-over, over-self, length-over, over-at, lay-rows, lay-positions, lay-cells, length-rows, length-positions}
+use Rattle.log.proofs.Regions.{length-cells, regions, row-word, position-word}
 
 -- ---- chunks read from rows and cells
 
@@ -155,7 +157,7 @@ module _ (L w : ℕ) (ws : List ℕ) (hl : length ws ≡ 1 + 3 * L + L * w) (few
         (λ i j h l. let q : j < getD ws 0 0 = rw xs-length at l in
         rw (xs-key i (omega arith), xs-key j q) (ix .rising i j h q))
 
-    -- the index words are determined by the keys
+    -- the positions are determined by the keys
     position-words : take (getD ws 0 0) (positions-in L ws) ≡ positions (key-at (read-log L w ws)) (getD ws 0 0)
     position-words = order.unique (key-at (read-log L w ws)) (getD ws 0 0) (take (getD ws 0 0) (positions-in L ws)) xs-length xs-all xs-asc
 
@@ -218,12 +220,14 @@ module _ (L w : ℕ) (ys : List Stored) (ws : List ℕ) (hl : length ws ≡ 1 + 
 
   pub write-rows : rows-in L (write-log L ys ws) ≡ over (enc-all row-of ys) (rows-in L ws)
   unfolding write-log
-  write-rows = lay-rows (length ys) (over (enc-all row-of ys) (rows-in L ws)) (over (positions-of ys) (positions-in L ws)) (over (enc-all cell-of ys) (cells-in L ws)) (2 * L) over-rows
+  write-rows = lay-rows (length ys) (over (enc-all row-of ys) (rows-in L ws)) (over (positions-of ys) (positions-in L ws))
+      (over (enc-all cell-of ys) (cells-in L ws)) (2 * L) over-rows
 
   pub write-position : positions-in L (write-log L ys ws) ≡ over (positions-of ys) (positions-in L ws)
   unfolding write-log
   write-position =
-      lay-positions (length ys) (over (enc-all row-of ys) (rows-in L ws)) (over (positions-of ys) (positions-in L ws)) (over (enc-all cell-of ys) (cells-in L ws))
+      lay-positions (length ys) (over (enc-all row-of ys) (rows-in L ws)) (over (positions-of ys) (positions-in L ws))
+      (over (enc-all cell-of ys) (cells-in L ws))
       (1 + 2 * L) L (omega (arith, over-rows)) over-position
 
   pub write-cells : cells-in L (write-log L ys ws) ≡ over (enc-all cell-of ys) (cells-in L ws)
@@ -294,7 +298,8 @@ module _ (L w : ℕ) (ys : List Stored) (ws : List ℕ) (hl : length ws ≡ 1 + 
 -- ---- one log written over another
 
 pub write-as : (L : ℕ) (ys : List Stored) (ws : List ℕ)
-    → write-log L ys ws ≡ lay (length ys) (over (enc-all row-of ys) (rows-in L ws)) (over (positions-of ys) (positions-in L ws)) (over (enc-all cell-of ys) (cells-in L ws))
+    → write-log L ys ws ≡ lay (length ys) (over (enc-all row-of ys) (rows-in L ws)) (over (positions-of ys) (positions-in L ws))
+    (over (enc-all cell-of ys) (cells-in L ws))
 unfolding write-log
 write-as L ys ws = refl
 
@@ -305,12 +310,15 @@ write-write L w ys zs ws hl fy fz h =
     ∙ join (rows-in L (write-log L zs ws)) (positions-in L (write-log L zs ws)) (cells-in L (write-log L zs ws))
     (ap (over (enc-all row-of ys)) (write-rows L w zs ws hl fz)
     ∙ over-over (enc-all row-of ys) (enc-all row-of zs) (rows-in L ws) (rw (length-row-words, length-row-words) (omega arith)))
-    (ap (over (positions-of ys)) (write-position L w zs ws hl fz) ∙ over-over (positions-of ys) (positions-of zs) (positions-in L ws) (rw (length-positions-of, length-positions-of) h))
+    (ap (over (positions-of ys)) (write-position L w zs ws hl fz)
+    ∙ over-over (positions-of ys) (positions-of zs) (positions-in L ws) (rw (length-positions-of, length-positions-of) h))
     (ap (over (enc-all cell-of ys)) (write-cells L w zs ws hl fz)
-    ∙ over-over (enc-all cell-of ys) (enc-all cell-of zs) (cells-in L ws) (rw (length-cells-in (fy .sized), length-cells-in (fz .sized)) (mul-le-mul-right w h)))
+    ∙ over-over (enc-all cell-of ys) (enc-all cell-of zs) (cells-in L ws)
+    (rw (length-cells-in (fy .sized), length-cells-in (fz .sized)) (mul-le-mul-right w h)))
     ∙ sym (write-as L ys ws)
   where
-    join : (R I C : List ℕ) → over (enc-all row-of ys) R ≡ over (enc-all row-of ys) (rows-in L ws) → over (positions-of ys) I ≡ over (positions-of ys) (positions-in L ws)
+    join : (R I C : List ℕ) → over (enc-all row-of ys) R ≡ over (enc-all row-of ys) (rows-in L ws) → over (positions-of ys) I
+        ≡ over (positions-of ys) (positions-in L ws)
         → over (enc-all cell-of ys) C ≡ over (enc-all cell-of ys) (cells-in L ws)
         → lay (length ys) (over (enc-all row-of ys) R) (over (positions-of ys) I) (over (enc-all cell-of ys) C)
         ≡ lay (length ys) (over (enc-all row-of ys) (rows-in L ws)) (over (positions-of ys) (positions-in L ws)) (over (enc-all cell-of ys) (cells-in L ws))

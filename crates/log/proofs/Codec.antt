@@ -12,7 +12,7 @@ use lib.Seq.{take-all, take-at, getD-drop, length-take-le}
 use borrow.Author.Tests.{eq-eqb, eqb-true}
 use Rattle.lists.specs.Runs.{Sized, none, more, Below}
 use Rattle.lists.proofs.Tests.{by, by-eq, and-l, and-r, both}
-use Rattle.lists.proofs.Lists.{getD-map-in}
+use Rattle.lists.proofs.Lists.{same-cons, getD-map-in}
 use Rattle.lists.proofs.Runs.{below-append, below-take, below-drop, below-replicate, below-enc-all, below-every, every-below}
 use Rattle.words.specs.Words.{words}
 use Rattle.words.proofs.Laws.{length-words, words-below, words-unwords, unwords-words, length-unwords, unwords-below}
@@ -77,10 +77,7 @@ rows-back w (suc n) r c h f b =
     let one = from-to w (stored (getD r 0 0) (getD r 1 0) (take w c)) (f 0 (omega arith)) (length-take-le w c (omega arith)) (below-take w b) in
     let next : (i : ℕ) → i < n → getD (drop 2 r) (2 * i + 1) 0 ≤ 1 =
     λ i q. let e : 2 + (2 * i + 1) ≡ 2 * suc i + 1 = omega arith in rw (getD-drop 2 r (2 * i + 1) 0, e) (f (suc i) (suc-le-suc q)) in
-    join one (rows-back w n (drop 2 r) (drop w c) (rw length-drop (omega arith)) next (below-drop w b))
-  where
-    join : {x y : Stored} {xs ys : List Stored} → x ≡ y → xs ≡ ys → x ∷ xs ≡ y ∷ ys
-    join e f = cc
+    same-cons one (rows-back w n (drop 2 r) (drop w c) (rw length-drop (omega arith)) next (below-drop w b))
 
 module _ (L w : ℕ) (ws : List ℕ) (hl : length ws ≡ log-words L w) where
   pub dec-length : length (log-dec L w ws) ≡ getD ws 0 0

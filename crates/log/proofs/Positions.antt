@@ -157,7 +157,7 @@ module _ (f : ℕ → ℕ) where
       (λ h. let l = few n xs (not-last b h) a in absurd (omega arith))
       (seek n xs)
 
--- ---- the index of keys
+-- ---- the positions by ascending key
 
 module _ (f : ℕ → ℕ) where
   pub length-insert : (p : ℕ) (xs : List ℕ) → length (insert-position f p xs) ≡ suc (length xs)
@@ -232,7 +232,7 @@ module _ (f : ℕ → ℕ) where
       rw (lt-ltb (f x) (f q) (a 0 (omega arith)))
       (ap (λ (r : List ℕ). x ∷ r) (insert-at q xs p (le-of-suc-le-suc h) (λ j l. a (suc j) (suc-le-suc l)) (λ l. b (suc-le-suc l))))
 
-  -- the index depends on the keys in use only
+  -- they depend on the keys in use only
   module _ (g : ℕ → ℕ) where
     insert-same : (p : ℕ) {xs : List ℕ} → f p ≡ g p → All (λ q. f q ≡ g q) xs → insert-position f p xs ≡ insert-position g p xs
     unfolding insert-position
@@ -309,7 +309,7 @@ module _ (st : ℕ → Bool) (rk : ℕ → ℕ) where
         let b : All (λ q. g (rk p) ≤ g q) (pick (x ∷ xs)) = rw k (all-pick (f p) af al) in
         rw (le-ltb (f x) (f p) m, e) (sym (before-all (rk p) b)))
 
-    -- the index of the keys that stay is the index of all, without the positions that go, each numbered anew
+    -- the positions of the keys that stay are those of all, without those that go, each numbered anew
     pub renumbered : (n : ℕ) → ((i j : ℕ) → i < j → j < n → f i ≢ f j) → rk 0 ≡ 0
         → ((i : ℕ) → i < n → st i ≡ true → rk (suc i) ≡ suc (rk i)) → ((i : ℕ) → i < n → st i ≡ false → rk (suc i) ≡ rk i)
         → ((i : ℕ) → i < n → st i ≡ true → g (rk i) ≡ f i) → pick (positions f n) ≡ positions g (rk n)
@@ -319,7 +319,8 @@ module _ (st : ℕ → Bool) (rk : ℕ → ℕ) where
         let ih = renumbered n (λ i j p q. d i j p (omega arith)) z (λ i h. y i (omega arith)) (λ i h. o i (omega arith)) (λ i h. k i (omega arith)) in
         let kn : All (λ q. st q ≡ true → g (rk q) ≡ f q) (positions f n) = all-map (λ q l. k q (omega arith)) (positions-below f n) in
         by (st n)
-        (λ e. rw (y n (omega arith) e) (pick-kept n (positions-asc f n (λ i j p q. d i j p (omega arith))) kn e (k n (omega arith) e) ∙ ap (insert-position g (rk n)) ih))
+        (λ e. rw (y n (omega arith) e) (pick-kept n (positions-asc f n (λ i j p q. d i j p (omega arith))) kn e (k n (omega arith) e)
+        ∙ ap (insert-position g (rk n)) ih))
         (λ e. rw (o n (omega arith) e) (pick-gone f n (positions f n) e ∙ ih))
 
 pub pick-more : (st : ℕ → Bool) (rk : ℕ → ℕ) (xs : List ℕ) (q : ℕ) → pick st rk (xs ++ q ∷ []) ≡ cond (st q) (pick st rk xs ++ rk q ∷ []) (pick st rk xs)

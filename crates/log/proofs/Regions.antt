@@ -189,7 +189,7 @@ module _ (n : ℕ) (r i c : List ℕ) where
       let d : drop (q + k) (lay n r i c) ≡ drop (b + k) c = rw (lay-split, g2) (drop-append-add (n ∷ (r ++ i)) c (b + k)) in
       rw (t, d) (regroup n r i (take b c) (take k s) (drop (b + k) c))
 
-  -- index words from p on moved up by one
+  -- positions from place p on moved up by one
   pub lay-shift : (q q′ p k : ℕ) → q ≡ suc (length r + p) → q′ ≡ suc (length r + (p + 1)) → p + 1 + k ≤ length i
       → paste (lay n r i c) q′ (drop q (lay n r i c)) k ≡ lay n r (paste i (p + 1) (drop p i) k) c
   unfolding lay

@@ -10,6 +10,7 @@ use lib.Dec.{eqb}
 use lib.ListN.{length, set}
 use borrow.Author.Tests.{eq-eqb, ne-eqb, eqb-true}
 use Rattle.lists.specs.Tests.{_and_, _or_, some}
+use Rattle.lists.proofs.Lists.{same-cons}
 use Rattle.lists.proofs.Tests.{by, impossible, no, is-no, and-l, and-r, both, or-l, or-r, or-cases}
 use Rattle.rules.specs.Chunks.{Chunk, chunk, held, saved-in, bytes-in, save, save-key}
 use Rattle.rules.specs.Sound.{keys-apart}
@@ -102,9 +103,6 @@ module _ (k : ℕ) where
   unfolding save-key _or_
   found-save [] p a h e = absurd (not-suc-le-zero h)
   found-save (c ∷ cs) zero a h e =
-      join (ap (λ (t : Bool). chunk (c .key) (t or c .saved) (c .bytes)) (eq-eqb k (c .key) (sym e))) (none-to-save cs k (rw e at (first-apart c cs a)))
-    where
-      join : {x y : Chunk} {xs ys : List Chunk} → x ≡ y → xs ≡ ys → x ∷ xs ≡ y ∷ ys
-      join p q = cc
+      same-cons (ap (λ (t : Bool). chunk (c .key) (t or c .saved) (c .bytes)) (eq-eqb k (c .key) (sym e))) (none-to-save cs k (rw e at (first-apart c cs a)))
   found-save (c ∷ cs) (suc p) a h e =
       rw (other c cs p a (le-of-suc-le-suc h) e) (ap (λ (l : List Chunk). c ∷ l) (found-save cs p (rest-apart c cs a) (le-of-suc-le-suc h) e))

@@ -17,7 +17,8 @@ use Rattle.lists.proofs.Runs.{run-length, paste-run, below-take, below-drop, on
 use Rattle.words.specs.Words.{words, unwords}
 use Rattle.words.proofs.Laws.{length-words, lent-run, words-part, words-below, unwords-words}
 use Rattle.rules.specs.Chunks.{Chunk, chunk, append, held, saved-in, save, save-all, save-key}
-use Rattle.log.specs.Log.{Stored, stored, stored-at, write-log, read-log, LogWith, IsLog, Place, log-words, to-chunk, from-chunk, chunk-at, log-dec, log-enc, row-saved, position-at, key-by}
+use Rattle.log.specs.Log.{Stored, stored, stored-at, write-log, read-log, LogWith, IsLog, Place, log-words, to-chunk, from-chunk, chunk-at, log-dec}
+use Rattle.log.specs.Log.{log-enc, row-saved, position-at, key-by}
 use Rattle.log.specs.Steps.{entered, put-saved, with-saved, tag}
 use Rattle.log.specs.Answers.{FoundAt}
 use Rattle.log.proofs.Chunks.{length-read, read-cell, read-saved, fits-read, write-read}
@@ -127,7 +128,8 @@ module _ (L w : ℕ) (s : List ℕ) (o : IsLog L w (words s) (length s)) (b : Be
       let e : length xs ≡ n = count-is L w s o ∙ sym en in
       let lw : length (words d) ≡ w = counted d w ld in
       let pl2 : Place L (length xs) (write-log L xs (words s)) k p = rw (same L w s o, e) pl in
-      let g = pushed L w xs (words s) (sizes L w s o) (fits-read L w (words s) (sizes L w s o) (o .few)) (rw (count-is L w s o) room) (stored k v (words d)) lw p pl2
+      let g = pushed L w xs (words s) (sizes L w s o) (fits-read L w (words s) (sizes L w s o) (o .few)) (rw (count-is L w s o) room)
+      (stored k v (words d)) lw p pl2
       (1 + 3 * L + at) (rw (ea, e)) in
       let c : ℕ = 1 + 3 * L + at in
       lent-run s1 t q z c w (λ _. words d) eq ez (omega (arith, o .size)) (rw et ld) (ap words et)
@@ -186,7 +188,8 @@ module _ (L w : ℕ) (s : List ℕ) (o : IsLog L w (words s) (length s)) (b : Be
   save-all-leaves i e =
       let cs : List Chunk = log-dec L w (words s) in
       rw (e, ← count-is L w s o, tag-all 1 (read-log L w (words s)))
-      (as-chunks (map (with-saved 1) (read-log L w (words s))) (save-all cs) (rw (length-save-all cs) dec-few) (all-back cs ∙ ap (map (with-saved 1)) chunks-back))
+      (as-chunks (map (with-saved 1) (read-log L w (words s))) (save-all cs) (rw (length-save-all cs) dec-few) (all-back cs
+      ∙ ap (map (with-saved 1)) chunks-back))
     where
       length-save-all : (cs : List Chunk) → length (save-all cs) ≡ length cs
       length-save-all cs = length-map cs (save (λ _. true))

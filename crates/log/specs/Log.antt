@@ -95,6 +95,10 @@ log-dec chunks width ws = map to-chunk (read-log chunks width ws)
 unfoldable pub log-enc : ℕ → ℕ → List Chunk → List ℕ → List ℕ
 log-enc chunks width cs ws = write-log chunks (map (from-chunk width) (take chunks cs)) ws
 
+-- a log's words with its chunks changed
+abbrev pub change-log : ℕ → ℕ → (List Chunk → List Chunk) → List ℕ → List ℕ
+change-log chunks width f ws = log-enc chunks width (f (log-dec chunks width ws)) ws
+
 -- ---- the check
 abbrev pub row-key : List ℕ → ℕ → ℕ
 row-key ws i = getD ws (1 + 2 * i) 0

@@ -1,11 +1,22 @@
 -- What single steps of the code leave: cited by the contracts of the log's inner functions.
-use mathlib.Core.Bool.{Bool}
+use mathlib.Core.Path.{_≡_}
+use mathlib.Core.Bool.{Bool, true, false, cond}
 use mathlib.Core.List.{List, [], _∷_}
-use Prim.Native.Nat.{ℕ, zero, suc, _+_, _*_, _-_}
-use lib.ListN.{set, drop}
+use Prim.Native.Nat.{ℕ, zero, suc, _+_, _*_, _-_, _<_}
+use lib.ListN.{getD, set, drop}
 use lib.Seq.{paste}
 use Rattle.lists.specs.Tests.{_and_, all-below}
-use Rattle.log.specs.Log.{Stored, stored, stored-at, position-at, flag-at, below-at, rises-at}
+use Rattle.rules.specs.Chunks.{Chunk, chunk, held, append, save-key}
+use Rattle.log.specs.Log.{log-dec, Stored, stored, stored-at, position-at, flag-at, below-at, rises-at}
+
+-- a chunk that a log gets saved: one that is held becomes saved
+abbrev pub hold-saved : ℕ → List ℕ → List Chunk → List Chunk
+hold-saved k d l = cond (held l k) (save-key l k) (append l (chunk k true d))
+
+-- a log has room for a chunk that it does not hold
+pub record Takes (chunks width k : ℕ) (ws : List ℕ) (len : ℕ) : Type 0 where
+  pub room : held (log-dec chunks width ws) k ≡ false → getD ws 0 0 < chunks
+  pub size : len ≡ 8 * width
 
 -- the check in one pass along the positions: each is that of a row in use whose flag is in range, and keys ascend
 abbrev pub row-good : ℕ → ℕ → List ℕ → ℕ → Bool

@@ -6,8 +6,8 @@ ghost use Prim.Native.Nat.{_+_, _*_, _<_, _≤_};
 ghost use lib.ListN.{length, getD};
 ghost use Rattle.words.specs.Words.{words};
 ghost use Rattle.rules.specs.Chunks.{chunk, append, held, saved-in, save-all, save-key};
-ghost use Rattle.log.specs.Log.{log-dec, log-enc, log-words, chunk-at, good-log, position-at, key-by, Ordered, LogWith, IsLog, Place};
-ghost use Rattle.log.specs.Steps.{good-order, entered};
+ghost use Rattle.log.specs.Log.{log-dec, change-log, log-words, chunk-at, good-log, position-at, key-by, Ordered, LogWith, IsLog, Place};
+ghost use Rattle.log.specs.Steps.{hold-saved, Takes, good-order, entered};
 ghost use Rattle.log.specs.Answers.{FoundIn, RowIs};
 
 // ---- the check
@@ -161,7 +161,7 @@ pub fn bytes_at<'a>(log: &'a [u8], chunks: usize, width: usize, p: usize) -> &'a
 // No chunks.
 pub fn clear(log: &mut [u8], chunks: usize, width: usize)
     requires { ⌜ length (now log) ≡ 8 * log-words chunks width ⌝ }
-    ensures { λ _. ⌜ words (now (log .exit)) ≡ log-enc chunks width [] (words (now (log .entry))) ⌝ }
+    ensures { λ _. ⌜ words (now (log .exit)) ≡ change-log chunks width (λ l. []) (words (now (log .entry))) ⌝ }
 {
     words::write(log, 0, 0);
 }
@@ -182,7 +182,7 @@ fn enter(log: &mut [u8], chunks: usize, n: usize, p: usize, key: u64, saved: u64
 pub fn append(log: &mut [u8], chunks: usize, width: usize, key: u64, saved: bool, bytes: &[u8])
     requires { ⌜ IsLog chunks width (words (now log)) (length (now log)) ⌝ }
     requires { ⌜ (getD (words (now log)) 0 0 < chunks) × (length (now bytes) ≡ 8 * width) ⌝ }
-    ensures { λ _. ⌜ words (now (log .exit)) ≡ log-enc chunks width (append (log-dec chunks width (words (now (log .entry)))) (chunk key saved (now (bytes .entry)))) (words (now (log .entry))) ⌝ }
+    ensures { λ _. ⌜ words (now (log .exit)) ≡ change-log chunks width (λ l. append l (chunk key saved (now (bytes .entry)))) (words (now (log .entry))) ⌝ }
 {
     let n = words::read(log, 0) as usize;
     let p = place(log, chunks, n, key);
@@ -195,7 +195,7 @@ pub fn append(log: &mut [u8], chunks: usize, width: usize, key: u64, saved: bool
 // The chunk with the key, where there is one, becomes saved.
 pub fn save_key(log: &mut [u8], chunks: usize, width: usize, k: u64)
     requires { ⌜ IsLog chunks width (words (now log)) (length (now log)) ⌝ }
-    ensures { λ _. ⌜ words (now (log .exit)) ≡ log-enc chunks width (save-key (log-dec chunks width (words (now (log .entry)))) k) (words (now (log .entry))) ⌝ }
+    ensures { λ _. ⌜ words (now (log .exit)) ≡ change-log chunks width (λ l. save-key l k) (words (now (log .entry))) ⌝ }
 {
     match find(log, chunks, width, k) {
         Found::At(p) => words::write(log, 2 + 2 * p, 1),
@@ -203,10 +203,23 @@ pub fn save_key(log: &mut [u8], chunks: usize, width: usize, k: u64)
     }
 }
 
+// The log gets the chunk saved: one that is held becomes saved, another is appended.
+pub fn hold_saved(log: &mut [u8], chunks: usize, width: usize, key: u64, bytes: &[u8])
+    requires { ⌜ IsLog chunks width (words (now log)) (length (now log)) ⌝ }
+    requires { ⌜ Takes chunks width key (words (now log)) (length (now bytes)) ⌝ }
+    ensures { λ _. ⌜ words (now (log .exit)) ≡ change-log chunks width (hold-saved key (now (bytes .entry))) (words (now (log .entry))) ⌝ }
+{
+    if holds(log, chunks, width, key) {
+        save_key(log, chunks, width, key);
+        return;
+    }
+    append(log, chunks, width, key, true, bytes);
+}
+
 // All chunks become saved.
 pub fn save_all(log: &mut [u8], chunks: usize, width: usize)
     requires { ⌜ IsLog chunks width (words (now log)) (length (now log)) ⌝ }
-    ensures { λ _. ⌜ words (now (log .exit)) ≡ log-enc chunks width (save-all (log-dec chunks width (words (now (log .entry))))) (words (now (log .entry))) ⌝ }
+    ensures { λ _. ⌜ words (now (log .exit)) ≡ change-log chunks width save-all (words (now (log .entry))) ⌝ }
 {
     let n = words::read(log, 0) as usize;
     let mut i = 0;

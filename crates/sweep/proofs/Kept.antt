@@ -62,7 +62,8 @@ pub kept-first-sized : {w : ℕ} (cs : List Stored) (i : ℕ) → i ≤ length c
 unfolding kept-first
 kept-first-sized cs zero h s = none
 kept-first-sized {w} cs (suc i) h s =
-    by (stays (saved-of cs i)) (λ e. rw e (sized-more (plain (stored-at cs i)) (kept-first-sized cs i (le-of-lt h) s) (sized-at cell-of w i (stored 0 0 []) s h)))
+    by (stays (saved-of cs i)) (λ e. rw e (sized-more (plain (stored-at cs i)) (kept-first-sized cs i (le-of-lt h) s)
+    (sized-at cell-of w i (stored 0 0 []) s h)))
     (λ e. rw e (kept-first-sized cs i (le-of-lt h) s))
 
 kept-first-grows : (cs : List Stored) (i : ℕ) → stays (saved-of cs i) ≡ true → (k : ℕ) → i < k → length (kept-first cs i) < length (kept-first cs k)
@@ -72,7 +73,8 @@ kept-first-grows cs i e (suc k) l =
     (λ _ q. let z = kept-first-grows cs i e k (omega arith) in
     by (stays (saved-of cs k)) (λ u. let y = length-yes cs k u in omega arith) (λ u. rw (kept-first-no cs k u) z))
 
-pub kept-first-at : (cs : List Stored) (i n : ℕ) → i < n → stays (saved-of cs i) ≡ true → stored-at (kept-first cs n) (length (kept-first cs i)) ≡ plain (stored-at cs i)
+pub kept-first-at : (cs : List Stored) (i n : ℕ) → i < n → stays (saved-of cs i) ≡ true → stored-at (kept-first cs n) (length (kept-first cs i))
+    ≡ plain (stored-at cs i)
 kept-first-at cs i zero h e = absurd (not-suc-le-zero h)
 kept-first-at cs i (suc n) h e =
     by-eq i n
@@ -80,7 +82,8 @@ kept-first-at cs i (suc n) h e =
     (λ _ q. let l : i < n = omega arith in
     let z = kept-first-grows cs i e n l in
     by (stays (saved-of cs n))
-    (λ u. rw (kept-first-yes cs n u, List·getD-append (kept-first cs n) (plain (stored-at cs n) ∷ []) (stored 0 0 []) (length (kept-first cs i)) z) (kept-first-at cs i n l e))
+    (λ u. rw (kept-first-yes cs n u, List·getD-append (kept-first cs n) (plain (stored-at cs n) ∷ []) (stored 0 0 []) (length (kept-first cs i)) z)
+    (kept-first-at cs i n l e))
     (λ u. rw (kept-first-no cs n u) (kept-first-at cs i n l e)))
 
 -- ranks, where the saved words are below 4
@@ -108,7 +111,7 @@ module _ (cs : List Stored) (n : ℕ) (low : (i : ℕ) → i < n → saved-of cs
       by (stays (saved-of cs i)) (λ e. length-yes cs i e ∙ ap suc r ∙ sym (rank-yes i h e))
       (λ e. ap length (kept-first-no cs i e) ∙ r ∙ sym (rank-no i h e))
 
-  -- the index of those that stay
+  -- the positions of those that stay
   pub position-kept : n ≡ length cs → ((i j : ℕ) → i < j → j < length cs → key-at cs i ≢ key-at cs j)
       → order.pick (λ q. stays (saved-of cs q)) (rank (saved-of cs)) (positions-of cs) ≡ positions-of (kept-first cs n)
   unfolding positions-of rank

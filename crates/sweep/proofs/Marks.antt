@@ -12,10 +12,11 @@ use borrow.Author.Tests.{eq-eqb, ne-eqb}
 use Rattle.lists.specs.Tests.{_or_, only}
 use Rattle.lists.specs.Runs.{Sized, none, more, Below}
 use Rattle.lists.proofs.Tests.{by, by-eq, impossible, length-only}
-use Rattle.lists.proofs.Lists.{getD-map-in, map-only}
+use Rattle.lists.proofs.Lists.{same-cons, getD-map-in, map-only}
 use Rattle.words.specs.Words.{words}
 use Rattle.rules.specs.Chunks.{Chunk, only-saved, only-named, held}
-use Rattle.log.specs.Log.{Stored, stored, cell-of, stored-at, key-at, saved-of, write-log, read-log, row-saved, LogWith, IsLog, Fits, log-words, log-dec, log-enc, from-chunk, chunk-at}
+use Rattle.log.specs.Log.{Stored, stored, cell-of, stored-at, key-at, saved-of, write-log, read-log, row-saved, LogWith, IsLog, Fits, log-words, log-dec}
+use Rattle.log.specs.Log.{log-enc, from-chunk, chunk-at}
 use Rattle.log.specs.Steps.{with-saved, put-saved, tag}
 use Rattle.log.specs.Answers.{FoundAt}
 use Rattle.log.proofs.Chunks.{length-read, read-saved, fits-read, log-write, write-read, read-write, write-write, distinct-read}
@@ -63,10 +64,7 @@ Low top xs = (i : ℕ) → i < length xs → saved-of xs i ≤ top
 
 marks-plain : (test : Stored → Bool) (xs : List Stored) → Low 1 xs → map plain (map (mark test) xs) ≡ xs
 marks-plain test [] l = refl
-marks-plain test (x ∷ xs) l = join (mark-plain test x (l 0 (omega arith))) (marks-plain test xs (λ i h. l (suc i) (suc-le-suc h)))
-  where
-    join : {x y : Stored} {xs ys : List Stored} → x ≡ y → xs ≡ ys → x ∷ xs ≡ y ∷ ys
-    join p q = cc
+marks-plain test (x ∷ xs) l = same-cons (mark-plain test x (l 0 (omega arith))) (marks-plain test xs (λ i h. l (suc i) (suc-le-suc h)))
 
 marks-kept : (test : Stored → Bool) (xs : List Stored) → Low 1 xs → kept (map (mark test) xs) ≡ only test xs
 unfolding kept only
@@ -112,7 +110,8 @@ module _ {top : ℕ} (L w : ℕ) (ws : List ℕ) (len : ℕ) (hl : length ws ≡
       let m = map (mark b) xs in
       marked-is L w a (marked L w b ws)
       ∙ rw (read-marked b) (ap (write-log L (map (mark a) m)) (marked-is L w b ws)
-      ∙ write-write L w (map (mark a) m) m ws hl (fits-marks a (fits-marks b read-fits)) (fits-marks b read-fits) (rw (length-map m (mark a)) (le-refl (length m)))
+      ∙ write-write L w (map (mark a) m) m ws hl (fits-marks a (fits-marks b read-fits)) (fits-marks b read-fits)
+      (rw (length-map m (mark a)) (le-refl (length m)))
       ∙ ap (λ (l : List Stored). write-log L l ws) (marks-twice a b blind xs) ∙ sym (marked-is L w (λ y. a y or b y) ws))
 
   -- tests that agree leave the same marks
@@ -140,7 +139,8 @@ module _ {top : ℕ} (L w : ℕ) (ws : List ℕ) (len : ℕ) (hl : length ws ≡
       rw (marked-is L w test ws)
       (log-write L w (map (mark test) xs) ws hl (fits-marks test read-fits)
       (λ i h. let q : i < length xs = rw n at h in let z = read-low i q in rw (at i q) (mark-low test (stored-at xs i) (omega arith)))
-      (λ i j p h e. let q : j < length xs = rw n at h in distinct-read L w ws hl (o .few) (o .order) i j p q (sym (key i (omega arith)) ∙ e ∙ key j q)) len (o .size))
+      (λ i j p h e. let q : j < length xs = rw n at h in distinct-read L w ws hl (o .few) (o .order) i j p q (sym (key i (omega arith)) ∙ e ∙ key j q)) len
+      (o .size))
     where
       at : (i : ℕ) → i < length (read-log L w ws) → stored-at (map (mark test) (read-log L w ws)) i ≡ mark test (stored-at (read-log L w ws) i)
       at i h = getD-map-in (mark test) (read-log L w ws) i (stored 0 0 []) (stored 0 0 []) h

@@ -15,7 +15,9 @@ use Rattle.log.proofs.Positions as order
 use Rattle.log.proofs.Chunks.{length-read, read-saved, read-cell, sized-read, fits-read, write-saved}
 use Rattle.log.proofs.Changes.{tag-length, tag-fits}
 use Rattle.log.proofs.Steps.{sizes, count-is, tagged, tag-start}
-use Rattle.sweep.specs.Sweep.{stays, plain, kept, kept-first, rank, tag-of, next-by, pick-first, put-positions, numbered, packing, moved, packed, triple-of}
+use Rattle.sweep.specs.Sweep.{RenumberStep, PackStep, stays, plain, kept, kept-first, rank, tag-of, next-by, pick-first, put-positions, numbered}
+use Rattle.sweep.specs.Sweep.{packing, moved, packed}
+use Rattle.sweep.specs.Sweep.{triple-of}
 use Rattle.sweep.proofs.Tags.{tag-past}
 use Rattle.sweep.proofs.Kept.{kept-first-few}
 use Rattle.sweep.proofs.Passes.{pick-first-next, pick-first-few, put-pos, put-sav, numbered-turn, put-none, pack-saved, pack-next, packed-turn}
@@ -38,7 +40,11 @@ module _ {top : ℕ} (L w : ℕ) (s : List ℕ) (o : LogWith top L w (words s) (
   next-saved g i t h e =
       let cs : List Stored = read-log L w (words s) in
       let hl = sizes L w s o in
-      rw (e, write-saved L w (tag g i (read-log L w (words s))) (words s) hl (tag-fits g i (fits-read L w (words s) hl (o .few))) i (rw (tag-length, count-is L w s o) h))
+      rw (
+        e,
+        write-saved L w (tag g i (read-log L w (words s))) (words s) hl (tag-fits g i (fits-read L w (words s) hl (o .few))) i
+            (rw (tag-length, count-is L w s o) h),
+      )
       (ap (λ (x : Stored). x .saved) (tag-past g i (read-log L w (words s)) i (le-refl i)))
 
 pub rank-start : (f : ℕ → ℕ) → rank f 0 ≡ 0
@@ -58,27 +64,29 @@ no-stays v e = ne-eqb (v % 4 / 2) 1 e
 
 module _ (L j o : ℕ) (ws : List ℕ) (q v : ℕ) (eq : q ≡ position-at L ws j) (ev : v ≡ row-saved ws q) where
   pub numbered-yes : (ws1 : List ℕ) → v % 4 / 2 ≡ 1 → ws1 ≡ set ws (1 + 2 * L + o) (v / 4)
-      → (ws1 ≡ numbered L j o ws) × (o + 1 ≡ next-by (row-saved ws (position-at L ws j)) o)
+      → RenumberStep L j o ws ws1 (o + 1)
   unfolding numbered
-  numbered-yes ws1 h e = rw (← eq, ← ev, yes-stays v h) (e, refl)
+  numbered-yes ws1 h e = record { words = rw (← eq, ← ev, yes-stays v h) e; next = rw (← eq, ← ev, yes-stays v h) }
 
-  pub numbered-no : (v % 4 / 2 ≡ 1 → ⊥) → (ws ≡ numbered L j o ws) × (o ≡ next-by (row-saved ws (position-at L ws j)) o)
+  pub numbered-no : (v % 4 / 2 ≡ 1 → ⊥) → RenumberStep L j o ws ws o
   unfolding numbered
-  numbered-no h = rw (← eq, ← ev, no-stays v h) (refl, refl)
+  numbered-no h = record { words = rw (← eq, ← ev, no-stays v h); next = rw (← eq, ← ev, no-stays v h) }
 
-pub moved-by : (L w i o from to : ℕ) (ws ws1 : List ℕ) → from ≡ i * w → to ≡ o * w → ws1 ≡ paste ws (1 + 3 * L + to) (drop (1 + 3 * L + from) ws) w → ws1 ≡ moved L w i o ws
+pub moved-by : (L w i o from to : ℕ) (ws ws1 : List ℕ) → from ≡ i * w → to ≡ o * w → ws1 ≡ paste ws (1 + 3 * L + to) (drop (1 + 3 * L + from) ws) w → ws1
+    ≡ moved L w i o ws
 unfolding moved
 moved-by L w i o from to ws ws1 ef et e = rw (← ef, ← et) e
 
 module _ (L w i o : ℕ) (ws : List ℕ) (k v : ℕ) (ek : k ≡ row-key ws i) (ev : v ≡ row-saved ws i) (w1 : List ℕ) (e1 : w1 ≡ set ws (2 + 2 * i) (v % 2)) where
   pub packed-yes : (w2 w3 w4 : List ℕ) → v % 4 / 2 ≡ 1 → w2 ≡ set w1 (1 + 2 * o) k → w3 ≡ set w2 (2 + 2 * o) (v % 2) → w4 ≡ moved L w i o w3
-      → (w4 ≡ packed L w i o ws) × (o + 1 ≡ next-by (row-saved ws i) o)
+      → PackStep L w i o ws w4 (o + 1)
   unfolding packed
-  packed-yes w2 w3 w4 h e2 e3 e4 = rw (← ev, ← ek, yes-stays v h) (rw (e4, e3, e2, e1), refl)
+  packed-yes w2 w3 w4 h e2 e3 e4 =
+      record { words = rw (← ev, ← ek, yes-stays v h, e4, e3, e2, e1); next = rw (← ev, yes-stays v h) }
 
-  pub packed-no : (v % 4 / 2 ≡ 1 → ⊥) → (w1 ≡ packed L w i o ws) × (o ≡ next-by (row-saved ws i) o)
+  pub packed-no : (v % 4 / 2 ≡ 1 → ⊥) → PackStep L w i o ws w1 o
   unfolding packed
-  packed-no h = rw (← ev, no-stays v h) (e1, refl)
+  packed-no h = record { words = rw (← ev, no-stays v h) e1; next = rw (← ev, no-stays v h) }
 
 -- ---- turns
 
@@ -149,7 +157,8 @@ module _ (L w : ℕ) (ws : List ℕ) (hl : length ws ≡ 1 + 3 * L + L * w) (few
 
 -- ---- starts and ends
 
-pub triple-start : (L w : ℕ) (s : List ℕ) (o : LogWith 1 L w (words s) (length s)) → words s ≡ write-log L (tag (triple-of (read-log L w (words s))) 0 (read-log L w (words s))) (words s)
+pub triple-start : (L w : ℕ) (s : List ℕ) (o : LogWith 1 L w (words s) (length s)) → words s
+    ≡ write-log L (tag (triple-of (read-log L w (words s))) 0 (read-log L w (words s))) (words s)
 triple-start L w s o = tag-start L w s o (triple-of (read-log L w (words s)))
 
 pub renum-start : (L w : ℕ) (ws : List ℕ) → length ws ≡ 1 + 3 * L + L * w → ws ≡ put-positions L (pick-first L ws 0) ws
@@ -188,7 +197,8 @@ module _ (L w : ℕ) (s : List ℕ) (o : LogWith 3 L w (words s) (length s)) (n 
       pub third-requires : n ≡ getD v2 0 0
       third-requires = rw (e2, put-keeps-count L (pick-first L v1 n) v1, first, tagged-count L w (words s) hl cs fit (tag-of cs)) (sym count)
 
-      second : v2 ≡ put-positions L (pick-first L (write-log L (tag (tag-of cs) (length cs) cs) (words s)) (length cs)) (write-log L (tag (tag-of cs) (length cs) cs) (words s))
+      second : v2 ≡ put-positions L (pick-first L (write-log L (tag (tag-of cs) (length cs) cs) (words s)) (length cs))
+          (write-log L (tag (tag-of cs) (length cs) cs) (words s))
       second = rw (← first, count) e2
 
       pub swept-words : (v3 : List ℕ) (m : ℕ) → v3 ≡ packing L (read-log L w v2) n v2 → m ≡ length (kept-first (read-log L w v2) n)
@@ -196,7 +206,9 @@ module _ (L w : ℕ) (s : List ℕ) (o : LogWith 3 L w (words s) (length s)) (n 
       swept-words v3 m e3 em =
           let ed : read-log L w v2 ≡ tag (tag-of cs) (length cs) cs =
           rw second (read-renumbered L w (words s) hl (o .few) (o .order) cs refl (saved-low L w s o)) in
-          let f3 : v3 ≡ packing L (tag (tag-of cs) (length cs) cs) (length cs) (put-positions L (pick-first L (write-log L (tag (tag-of cs) (length cs) cs) (words s)) (length cs)) (write-log L (tag (tag-of cs) (length cs) cs) (words s))) =
+          let f3 : v3 ≡ packing L (tag (tag-of cs) (length cs) cs) (length cs)
+          (put-positions L (pick-first L (write-log L (tag (tag-of cs) (length cs) cs) (words s)) (length cs))
+          (write-log L (tag (tag-of cs) (length cs) cs) (words s))) =
           e3 ∙ rw (ed, ← count) (ap (packing L (tag (tag-of cs) (length cs) cs) (length cs)) second) in
           let fm : m ≡ length (kept-first (tag (tag-of cs) (length cs) cs) (length cs)) = em ∙ rw (ed, ← count) in
           rw (f3, fm) (swept L w (words s) hl (o .few) (o .order) cs refl (saved-low L w s o))

@@ -7,7 +7,7 @@ use Prim.Native.Nat.{ℕ, zero, suc, _+_, _*_, _-_, _/_, _%_, _≤_, _<_}
 use native.Mathlib.Nat.{le-refl, le-of-lt}
 use native.Mathlib.Omega.{arith}
 use lib.Dec.{eqb}
-use lib.ListN.{length, take, getD, set, length-append}
+use lib.ListN.{length, take, getD, set}
 use lib.Seq.{take-all}
 use lib.Seq.{take-suc}
 use Rattle.lists.specs.Runs.{enc-all}
@@ -17,13 +17,14 @@ use Rattle.log.specs.Log.{row-saved, position-at, Ordered, Fits}
 use Rattle.log.specs.Steps.{with-saved, tag}
 use Rattle.log.proofs.Positions as order
 use Rattle.log.proofs.Positions.{pick}
-use Rattle.log.proofs.Regions.{over-over, length-rows, length-cells, regions}
-use Rattle.log.proofs.Chunks.{length-row-words, length-positions-of, fits-read, rows-over, cells-over, distinct-read, position-over, write-count, write-rows, write-position, write-cells, length-write, read-write, write-saved, write-pos, positions-of-below, write-as}
+use Rattle.log.proofs.Regions.{over-over, regions}
+use Rattle.log.proofs.Chunks.{length-row-words, length-positions-of, fits-read, rows-over, cells-over, distinct-read, position-over, write-count}
+use Rattle.log.proofs.Chunks.{write-rows, write-position, write-cells, length-write, read-write, write-saved, write-pos, positions-of-below, write-as}
 use Rattle.log.proofs.Changes.{tag-length, tag-fits}
 use Rattle.sweep.specs.Sweep.{stays, plain, kept, kept-first, rank, tag-of, plain-of, pick-first, put-positions, packing}
 use Rattle.sweep.proofs.Tags.{tag-at, tag-cells, tag-position, tag-same, tag-map, tag-tag}
 use Rattle.sweep.proofs.Kept.{kept-first-kept, kept-first-yes, kept-first-no, kept-first-none, position-kept}
-use Rattle.sweep.proofs.Passes.{pick-first-yes, pick-first-no, pick-first-few, over-position-length, put-rows, put-in, put-cells, read-put}
+use Rattle.sweep.proofs.Passes.{pick-first-yes, pick-first-no, pick-first-few, put-rows, put-in, put-cells, read-put}
 
 -- ---- ranks in the saved words
 
@@ -33,7 +34,8 @@ pick-first-none L ws = refl
 
 set-packing : (L : ℕ) (cs : List Stored) (i : ℕ) (ws : List ℕ) (v : ℕ)
     → set (packing L cs i ws) 0 v
-    ≡ lay v (over (enc-all row-of (kept-first cs i)) (over (enc-all row-of (tag (plain-of cs) i cs)) (rows-in L ws))) (positions-in L ws) (over (enc-all cell-of (kept-first cs i)) (cells-in L ws))
+    ≡ lay v (over (enc-all row-of (kept-first cs i)) (over (enc-all row-of (tag (plain-of cs) i cs)) (rows-in L ws))) (positions-in L ws)
+    (over (enc-all cell-of (kept-first cs i)) (cells-in L ws))
 unfolding packing lay
 set-packing L cs i ws v = refl
 
@@ -111,9 +113,11 @@ module _ (L w : ℕ) (ws : List ℕ) (hl : length ws ≡ 1 + 3 * L + L * w) (few
       let lq : getD (positions-of cs) j 0 < length cs = positions-of-below L w cs ws hl fit j h in
       let lx : j < length (positions-of cs) = rw length-positions-of h in
       let ev = at-position j h in
-      let es : stays (row-saved ranked (position-at L ranked j)) ≡ stays (saved-of cs (getD (positions-of cs) j 0)) = ap stays ev ∙ stays-tag cs low (getD (positions-of cs) j 0) in
+      let es : stays (row-saved ranked (position-at L ranked j)) ≡ stays (saved-of cs (getD (positions-of cs) j 0)) = ap stays ev
+      ∙ stays-tag cs low (getD (positions-of cs) j 0) in
       let er : row-saved ranked (position-at L ranked j) / 4 ≡ rank (saved-of cs) (getD (positions-of cs) j 0) =
-      ap (λ (x : ℕ). x / 4) ev ∙ quarter (saved-of cs (getD (positions-of cs) j 0)) (rank (saved-of cs) (getD (positions-of cs) j 0)) (low (getD (positions-of cs) j 0) lq) in
+      ap (λ (x : ℕ). x / 4) ev ∙ quarter (saved-of cs (getD (positions-of cs) j 0)) (rank (saved-of cs) (getD (positions-of cs) j 0))
+      (low (getD (positions-of cs) j 0) lq) in
       let ih = picks j (le-of-lt h) in
       rw (take-suc (positions-of cs) j 0 lx, order.pick-more st (rank (saved-of cs)) (take j (positions-of cs)) (getD (positions-of cs) j 0))
       (by (stays (saved-of cs (getD (positions-of cs) j 0)))
@@ -132,14 +136,9 @@ module _ (L w : ℕ) (ws : List ℕ) (hl : length ws ≡ 1 + 3 * L + L * w) (few
   few-new : length (pick-first L ranked (length cs)) ≤ L
   few-new = let z = pick-first-few L ranked (length cs) in omega (arith, fit .few)
 
-  -- and with the new index
+  -- and with the new positions
   abbrev renumbered : List ℕ
   renumbered = put-positions L (pick-first L ranked (length cs)) ranked
-
-  pub length-renumbered : length renumbered ≡ 1 + 3 * L + L * w
-  unfolding put-positions lay
-  length-renumbered =
-      rw (length-append, length-append, length-rows L w ranked length-ranked, over-position-length L w ranked length-ranked (pick-first L ranked (length cs)) few-new, length-cells L w ranked length-ranked) (omega arith)
 
   pub read-renumbered : read-log L w renumbered ≡ tag (tag-of cs) (length cs) cs
   read-renumbered =
@@ -152,7 +151,7 @@ module _ (L w : ℕ) (ws : List ℕ) (hl : length ws ≡ 1 + 3 * L + L * w) (few
   bare-cells : over (enc-all cell-of cs) (cells-in L ws) ≡ cells-in L ws
   bare-cells = rw ecs (cells-over L w ws hl few)
 
-  -- any saved words: index and cells stay
+  -- any saved words: positions and cells stay
   tag-positions : (g : ℕ → ℕ) → positions-in L (write-log L (tag g (length cs) cs) ws) ≡ positions-in L ws
   tag-positions g = write-position L w (tag g (length cs) cs) ws hl (tag-fits g (length cs) fit) ∙ rw (tag-position g (length cs) cs) bare-position
 
@@ -164,8 +163,10 @@ module _ (L w : ℕ) (ws : List ℕ) (hl : length ws ≡ 1 + 3 * L + L * w) (few
       let p : tag (plain-of cs) (length cs) cs ≡ map plain cs = tag-map (λ x. x .saved % 2) cs in
       let fp : Fits L w (map plain cs) = rw (← p) (tag-fits (plain-of cs) (length cs) fit) in
       let lp : length (map plain cs) ≡ length cs = ap length (sym p) ∙ tag-length (plain-of cs) (length cs) cs in
-      ap (over (enc-all row-of (map plain cs))) (put-rows L w (pick-first L ranked (length cs)) ranked length-ranked few-new ∙ write-rows L w (tag (tag-of cs) (length cs) cs) ws hl fits-tags)
-      ∙ over-over (enc-all row-of (map plain cs)) (enc-all row-of (tag (tag-of cs) (length cs) cs)) (rows-in L ws) (rw (length-row-words (tag (tag-of cs) (length cs) cs), length-row-words (map plain cs), n-tags, lp) (le-refl (2 * length cs)))
+      ap (over (enc-all row-of (map plain cs))) (put-rows L w (pick-first L ranked (length cs)) ranked length-ranked few-new
+      ∙ write-rows L w (tag (tag-of cs) (length cs) cs) ws hl fits-tags)
+      ∙ over-over (enc-all row-of (map plain cs)) (enc-all row-of (tag (tag-of cs) (length cs) cs)) (rows-in L ws)
+      (rw (length-row-words (tag (tag-of cs) (length cs) cs), length-row-words (map plain cs), n-tags, lp) (le-refl (2 * length cs)))
       ∙ sym (write-rows L w (map plain cs) ws hl fp)
 
   position-swept : positions-in L renumbered ≡ over (positions-of (kept cs)) (positions-in L (write-log L (map plain cs) ws))
@@ -203,7 +204,8 @@ pack-start L w ws hl few =
 module _ (L w : ℕ) (ws : List ℕ) (hl : length ws ≡ 1 + 3 * L + L * w) (cs : List Stored) (fit : Fits L w cs) (g : ℕ → ℕ) where
   pub tagged-pos : (j : ℕ) → j < length cs → position-at L (write-log L (tag g (length cs) cs) ws) j < length cs
   tagged-pos j h =
-      rw (write-pos L w (tag g (length cs) cs) ws hl (tag-fits g (length cs) fit) j (rw tag-length h), tag-position g (length cs) cs) (positions-of-below L w cs ws hl fit j h)
+      rw (write-pos L w (tag g (length cs) cs) ws hl (tag-fits g (length cs) fit) j (rw tag-length h), tag-position g (length cs) cs)
+      (positions-of-below L w cs ws hl fit j h)
 
   pub tagged-count : getD (write-log L (tag g (length cs) cs) ws) 0 0 ≡ length cs
   tagged-count = write-count L w (tag g (length cs) cs) ws hl (tag-fits g (length cs) fit) ∙ tag-length g (length cs) cs

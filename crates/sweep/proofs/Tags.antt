@@ -48,7 +48,8 @@ unfolding tag
 tag-same g h zero cs e = refl
 tag-same g h (suc i) [] e = refl
 tag-same g h (suc i) (x ∷ cs) e =
-    rw (e 0 (omega arith)) (ap (λ (l : List Stored). with-saved (h 0) x ∷ l) (tag-same (λ k. g (suc k)) (λ k. h (suc k)) i cs (λ j l. e (suc j) (suc-le-suc l))))
+    rw (e 0 (omega arith)) (ap (λ (l : List Stored). with-saved (h 0) x ∷ l)
+    (tag-same (λ k. g (suc k)) (λ k. h (suc k)) i cs (λ j l. e (suc j) (suc-le-suc l))))
 
 pub tag-map : (f : Stored → ℕ) (cs : List Stored) → tag (λ j. f (stored-at cs j)) (length cs) cs ≡ map (λ x. with-saved (f x) x) cs
 unfolding tag

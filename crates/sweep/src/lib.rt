@@ -7,16 +7,15 @@ ghost use lib.ListN.{length, getD, drop};
 ghost use lib.Seq.{paste};
 ghost use Rattle.words.specs.Words.{words};
 ghost use Rattle.rules.specs.Chunks.{only-saved};
-ghost use Rattle.log.specs.Log.{log-dec, log-enc, log-words, position-at, row-saved, LogWith, IsLog, write-log, read-log};
-ghost use Rattle.log.specs.Steps.{tag};
-ghost use Rattle.sweep.specs.Sweep.{kept-first, tag-of, next-by, pick-first, put-positions, numbered, packing, moved, packed};
+ghost use Rattle.log.specs.Log.{change-log, log-words, position-at, row-saved, LogWith, IsLog, read-log};
+ghost use Rattle.sweep.specs.Sweep.{ranked, pick-first, put-positions, moved, RenumberStep, PackStep, PackAll};
 ghost use Rattle.sweep.specs.Marks.{marked, swept};
 
 // Each saved word gets four times its row's rank among the rows that stay.
 fn rank(log: &mut [u8], chunks: usize, width: usize, n: usize)
     requires { ⌜ LogWith 3 chunks width (words (now log)) (length (now log)) ⌝ }
     requires { ⌜ n ≡ getD (words (now log)) 0 0 ⌝ }
-    ensures { λ _. ⌜ words (now (log .exit)) ≡ write-log chunks (tag (tag-of (read-log chunks width (words (now (log .entry))))) n (read-log chunks width (words (now (log .entry))))) (words (now (log .entry))) ⌝ }
+    ensures { λ _. ⌜ words (now (log .exit)) ≡ ranked chunks width n (words (now (log .entry))) ⌝ }
 {
     let mut m = 0;
     let mut i = 0;
@@ -31,7 +30,7 @@ fn rank(log: &mut [u8], chunks: usize, width: usize, n: usize)
 // The position at place j, where its row stays, goes to place o as the row's rank.
 fn renumber_at(log: &mut [u8], chunks: usize, j: usize, o: usize) -> usize
     requires { ⌜ (o ≤ j) × (j < chunks) × (position-at chunks (words (now log)) j < chunks) × (8 * (1 + 3 * chunks) ≤ length (now log)) ⌝ }
-    ensures { λ r. ⌜ (words (now (log .exit)) ≡ numbered chunks j o (words (now (log .entry)))) × (r ≡ next-by (row-saved (words (now (log .entry))) (position-at chunks (words (now (log .entry))) j)) o) ⌝ }
+    ensures { λ r. ⌜ RenumberStep chunks j o (words (now (log .entry))) (words (now (log .exit))) r ⌝ }
 {
     let q = words::read(log, 1 + 2 * chunks + j) as usize;
     let v = words::read(log, 2 + 2 * q);
@@ -79,7 +78,7 @@ fn carry_cell(log: &mut [u8], chunks: usize, width: usize, i: usize, o: usize)
 // Row i loses its mark and rank, and where it stays goes to place o with its cell.
 fn pack_at(log: &mut [u8], chunks: usize, width: usize, i: usize, o: usize) -> usize
     requires { ⌜ (o ≤ i) × (i < chunks) × (length (now log) ≡ 8 * log-words chunks width) ⌝ }
-    ensures { λ r. ⌜ (words (now (log .exit)) ≡ packed chunks width i o (words (now (log .entry)))) × (r ≡ next-by (row-saved (words (now (log .entry))) i) o) ⌝ }
+    ensures { λ r. ⌜ PackStep chunks width i o (words (now (log .entry))) (words (now (log .exit))) r ⌝ }
 {
     let key = words::read(log, 1 + 2 * i);
     let v = words::read(log, 2 + 2 * i);
@@ -95,7 +94,7 @@ fn pack_at(log: &mut [u8], chunks: usize, width: usize, i: usize, o: usize) -> u
 
 fn pack(log: &mut [u8], chunks: usize, width: usize, n: usize) -> usize
     requires { ⌜ (n ≤ chunks) × (length (now log) ≡ 8 * log-words chunks width) × (n ≡ getD (words (now log)) 0 0) ⌝ }
-    ensures { λ r. ⌜ (words (now (log .exit)) ≡ packing chunks (read-log chunks width (words (now (log .entry)))) n (words (now (log .entry)))) × (r ≡ length (kept-first (read-log chunks width (words (now (log .entry)))) n)) ⌝ }
+    ensures { λ r. ⌜ PackAll chunks width n (words (now (log .entry))) (words (now (log .exit))) r ⌝ }
 {
     let mut o = 0;
     let mut i = 0;
@@ -149,7 +148,7 @@ fn mark_saved(log: &mut [u8], chunks: usize, width: usize)
 // A crash: the chunks that are not saved go.
 pub fn keep_saved(log: &mut [u8], chunks: usize, width: usize)
     requires { ⌜ IsLog chunks width (words (now log)) (length (now log)) ⌝ }
-    ensures { λ _. ⌜ words (now (log .exit)) ≡ log-enc chunks width (only-saved (log-dec chunks width (words (now (log .entry))))) (words (now (log .entry))) ⌝ }
+    ensures { λ _. ⌜ words (now (log .exit)) ≡ change-log chunks width only-saved (words (now (log .entry))) ⌝ }
 {
     mark_saved(log, chunks, width);
     keep_marked(log, chunks, width);

@@ -12,7 +12,8 @@ use Rattle.lists.specs.Tests.{only}
 use Rattle.lists.specs.Runs.{run, on-run, enc-all, Sized}
 use Rattle.lists.proofs.Tests.{by, length-only}
 use Rattle.lists.proofs.Lists.{only-more}
-use Rattle.lists.proofs.Runs.{fits-in, sized-take, sized-only, on-left, on-set, on-within, on-record, enc-all-append, length-enc-all, paste-run, on-by, run-length}
+use Rattle.lists.proofs.Runs.{fits-in, sized-take, sized-only, on-left, on-set, on-within, on-record, enc-all-append, length-enc-all, paste-run, on-by}
+use Rattle.lists.proofs.Runs.{run-length}
 use Rattle.tables.specs.Tables.{table-words, rows, table-dec, table-enc, row, insert-at, remove-at, kept, sifting}
 use Rattle.tables.proofs.Rows.{length-rows, rows-take, rows-drop, row-at, enc-rows, sized-rows, count-cons, tail-length, in-rows}
 
@@ -110,7 +111,8 @@ module _ (w most : ℕ) (ws : List ℕ) (hl : length ws ≡ table-words w most) 
       let c : ws ≡ getD ws 0 0 ∷ t = count-cons ws (omega arith) in
       let d1 : drop (1 + a) ws ≡ drop a t = ap (drop (1 + a)) c ∙ cons-drop (getD ws 0 0) t (1 + a) a (omega arith) in
       let x1 : w1 ≡ getD ws 0 0 ∷ paste t (a + w) (drop a t) (e - a) =
-      e1 ∙ rw d1 (ap (λ (v : List ℕ). paste v (1 + a + w) (drop a t) (e - a)) c ∙ cons-paste (getD ws 0 0) t (drop a t) (1 + a + w) (a + w) (e - a) (omega arith)) in
+      e1 ∙ rw d1 (ap (λ (v : List ℕ). paste v (1 + a + w) (drop a t) (e - a)) c
+      ∙ cons-paste (getD ws 0 0) t (drop a t) (1 + a + w) (a + w) (e - a) (omega arith)) in
       let x2 : w2 ≡ getD ws 0 0 ∷ paste (paste t (a + w) (drop a t) (e - a)) a r w =
       e2 ∙ rw (x1, hr) (cons-paste (getD ws 0 0) (paste t (a + w) (drop a t) (e - a)) r (1 + a) a w (omega arith)) in
       let o = open-run t r a (e - a) w (omega arith) hr in
@@ -139,7 +141,8 @@ module _ (w most : ℕ) (ws : List ℕ) (hl : length ws ≡ table-words w most) 
       let nw : n * w + w ≡ getD ws 0 0 * w = sym (suc-mul n w) ∙ ap (λ (k : ℕ). k * w) en in
       let d1 : drop (1 + a + w) ws ≡ drop (a + w) t = ap (drop (1 + a + w)) c ∙ cons-drop (getD ws 0 0) t (1 + a + w) (a + w) (omega arith) in
       let x1 : w1 ≡ getD ws 0 0 ∷ paste t a (drop (a + w) t) (e - a) =
-      e1 ∙ rw d1 (ap (λ (v : List ℕ). paste v (1 + a) (drop (a + w) t) (e - a)) c ∙ cons-paste (getD ws 0 0) t (drop (a + w) t) (1 + a) a (e - a) (omega arith)) in
+      e1 ∙ rw d1 (ap (λ (v : List ℕ). paste v (1 + a) (drop (a + w) t) (e - a)) c
+      ∙ cons-paste (getD ws 0 0) t (drop (a + w) t) (1 + a) a (e - a) (omega arith)) in
       let len : length (remove-at p (table-dec w row ws)) ≡ n =
       simp (length-append, length-drop, length-take-le p (table-dec w row ws) (rw dec-length (le-of-lt hp))) (omega (arith, dec-length)) in
       let sp : suc p * w ≡ a + w = suc-mul p w ∙ rw (← ea) in
@@ -165,7 +168,8 @@ module _ (w most : ℕ) (ws : List ℕ) (hl : length ws ≡ table-words w most) 
       let le : length (take (n * w) t) ≡ n * w = length-take-le (n * w) t r in
       let s1 : set t (i * w + j) v ≡ on-run (i * w) w (λ x. set x j v) t = sym (on-set (i * w) w j v t (omega arith) hj) in
       let s2 : on-run (i * w) w (λ x. set x j v) t ≡ on-run (i * w) w (λ x. set x j v) (take (n * w) t) ++ drop (n * w) t =
-      ap (on-run (i * w) w (λ x. set x j v)) (sym (take-append-drop (n * w) t)) ∙ on-left (i * w) w (λ x. set x j v) (take (n * w) t) (drop (n * w) t) (omega arith) in
+      ap (on-run (i * w) w (λ x. set x j v)) (sym (take-append-drop (n * w) t))
+      ∙ on-left (i * w) w (λ x. set x j v) (take (n * w) t) (drop (n * w) t) (omega arith) in
       let lr : length D ≡ n = length-rows w row n t in
       let s3 : on-run (i * w) w (λ x. set x j v) (enc-all row D) ≡ enc-all row (set D i (set (getD D i []) j v)) =
       on-record row w (λ x. set x j v) (λ x. set x j v) [] i (sized-rows w row row (λ r _. refl) n t r) (rw lr h) refl in
@@ -189,7 +193,8 @@ module _ (w most : ℕ) (ws : List ℕ) (hl : length ws ≡ table-words w most) 
       let t : List ℕ = drop 1 ws in
       let r = in-rows w most ws hl few in
       rw (length-rows w row n t, enc-rows w row row (λ r _. refl) n t r, drop-drop (n * w) 1 vs)
-      (ap (λ (y : List ℕ). take (1 + n * w) y ++ drop (1 + n * w) vs) (count-cons ws (omega arith)) ∙ front-cons n t (drop (1 + n * w) vs) (1 + n * w) (n * w) (omega arith))
+      (ap (λ (y : List ℕ). take (1 + n * w) y ++ drop (1 + n * w) vs) (count-cons ws (omega arith))
+      ∙ front-cons n t (drop (1 + n * w) vs) (1 + n * w) (n * w) (omega arith))
     where
       front-cons : (x : ℕ) (t z : List ℕ) (q a : ℕ) → q ≡ suc a → take q (x ∷ t) ++ z ≡ x ∷ (take a t ++ z)
       front-cons x t z q a e = rw e
@@ -212,16 +217,6 @@ module _ (w most : ℕ) (ws : List ℕ) (hl : length ws ≡ table-words w most) 
     pub sift-start : ws ≡ sifting w test 0 ws
     unfolding sifting only enc-all
     sift-start = rw zero-mul (count-cons ws (omega arith))
-
-    pub sift-length : (i : ℕ) → i ≤ getD ws 0 0 → length (sifting w test i ws) ≡ length ws
-    unfolding sifting
-    sift-length i h =
-        let k = kept-few i h in
-        let m : length (kept w test i ws) * w ≤ i * w = mul-le-mul-right w k in
-        let m2 : i * w ≤ getD ws 0 0 * w = mul-le-mul-right w h in
-        let r = in-rows w most ws hl few in
-        let l = kept-words i in
-        rw (length-append, length-drop, length-drop) (omega (arith, length-drop 1 ws))
 
     -- what lies from row i on is as it was
     rest : (i : ℕ) → i ≤ getD ws 0 0 → (q : ℕ) → 1 + i * w ≤ q → drop q (sifting w test i ws) ≡ drop q ws

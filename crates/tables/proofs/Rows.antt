@@ -114,7 +114,12 @@ module _ (w most : ℕ) (ws : List ℕ) (hl : length ws ≡ table-words w most) 
     pub table-clean : ((r : List ℕ) → length r ≡ w → write (read r) ≡ r) → getD ws 0 0 ≤ most → table-enc w write (table-dec w read ws) ws ≡ ws
     unfolding table-enc table-dec
     table-clean exact few =
-        rw (length-rows w read (getD ws 0 0) (drop 1 ws), enc-rows w read write exact (getD ws 0 0) (drop 1 ws) (in-rows few), take-append-drop (getD ws 0 0 * w) (drop 1 ws))
+        rw (
+          length-rows w read (getD ws 0 0) (drop 1 ws),
+          enc-rows w read write exact (getD ws 0 0) (drop 1 ws) (in-rows few),
+          take-append-drop
+              (getD ws 0 0 * w) (drop 1 ws),
+        )
         (sym (count-cons ws (omega arith)))
 
     -- rows written are read back

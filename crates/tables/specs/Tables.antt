@@ -4,9 +4,9 @@ use mathlib.Core.Bool.{Bool}
 use mathlib.Core.List.{List, [], _∷_, _++_}
 use Prim.Native.Nat.{ℕ, zero, suc, _+_, _*_, _-_, _≤_, _<_}
 use lib.Dec.{ltb, eqb}
-use lib.ListN.{length, getD, take, drop}
+use lib.ListN.{length, getD, take, drop, set}
 use Rattle.lists.specs.Tests.{_and_, all-below, only}
-use Rattle.lists.specs.Runs.{enc-all}
+use Rattle.lists.specs.Runs.{run, on-run, enc-all}
 
 -- so many words has a table of at most so many rows
 abbrev pub table-words : ℕ → ℕ → ℕ
@@ -29,12 +29,28 @@ table-enc width write l ws = length l ∷ (enc-all write l ++ drop (length l * w
 abbrev pub row : List ℕ → List ℕ
 row r = r
 
+-- a table's words with its rows changed
+abbrev pub change-table : ℕ → (List (List ℕ) → List (List ℕ)) → List ℕ → List ℕ
+change-table width f ws = table-enc width row (f (table-dec width row ws)) ws
+
 -- one row more before place p, and row p gone
 abbrev pub insert-at : {A : Type 0} → ℕ → A → List A → List A
 insert-at p x l = take p l ++ x ∷ drop p l
 
 abbrev pub remove-at : {A : Type 0} → ℕ → List A → List A
 remove-at p l = take p l ++ drop (suc p) l
+
+-- the table at word `from`, its count and its rows in use, over the one at word `to`
+abbrev pub copied : ℕ → ℕ → ℕ → ℕ → List ℕ → List ℕ
+copied width most from to ws =
+    on-run to (table-words width most) (table-enc width row (table-dec width row (run from (table-words width most) ws))) ws
+
+-- word j of row i, and the rows with another there
+abbrev pub cell-at : ℕ → ℕ → List (List ℕ) → ℕ
+cell-at i j l = getD (getD l i []) j 0
+
+abbrev pub set-cell : ℕ → ℕ → ℕ → List (List ℕ) → List (List ℕ)
+set-cell i j v l = set l i (set (getD l i []) j v)
 
 -- a table while it is gone through for the rows that a test keeps: those of the first i stand in front
 abbrev pub kept : ℕ → (List ℕ → Bool) → ℕ → List ℕ → List (List ℕ)
@@ -67,6 +83,12 @@ same-rows width ws vs = eqb (getD ws 0 0) (getD vs 0 0) and all-below (getD ws 0
 pub record IsTable (width most : ℕ) (ws : List ℕ) (len : ℕ) : Type 0 where
   pub few : getD ws 0 0 ≤ most
   pub size : len ≡ 8 * table-words width most
+
+-- two tables lie in len bytes with the words ws, and the first is one
+pub record TwoTables (width most from to : ℕ) (ws : List ℕ) (len : ℕ) : Type 0 where
+  pub first-in : 8 * (from + table-words width most) ≤ len
+  pub second-in : 8 * (to + table-words width most) ≤ len
+  pub few : getD ws from 0 ≤ most
 
 -- and its rows are sorted by their first words
 pub record Sorted (width most : ℕ) (ws : List ℕ) (len : ℕ) : Type 0 where

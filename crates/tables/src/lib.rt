@@ -1,13 +1,12 @@
 // Tables in a lent slice, in 64-bit words: a count, then at most `most` rows of `width` words. Rows past the count keep what they hold. A table may be
 // sorted by the first words of its rows, or be a queue in arrival order.
 ghost use mathlib.Core.Path.{_≡_};
-ghost use mathlib.Core.List.{[]};
 ghost use Prim.Native.Nat.{_+_, _*_, _≤_, _<_};
-ghost use lib.ListN.{length, getD, set};
-ghost use Rattle.lists.specs.Runs.{run, on-run};
+ghost use lib.ListN.{length, getD};
 ghost use Rattle.lists.specs.Tests.{all-below};
 ghost use Rattle.words.specs.Words.{words};
-ghost use Rattle.tables.specs.Tables.{table-words, table-dec, table-enc, row, insert-at, remove-at, ascends, same-at, same-rows, IsTable, Sorted, Place};
+ghost use Rattle.tables.specs.Tables.{table-dec, change-table, row, cell-at, set-cell, insert-at, remove-at, copied, ascends, same-at, same-rows};
+ghost use Rattle.tables.specs.Tables.{TwoTables, IsTable, Sorted, Place};
 ghost use Rattle.tables.specs.Spots.{SpotOf};
 
 // ---- look-up
@@ -16,7 +15,7 @@ ghost use Rattle.tables.specs.Spots.{SpotOf};
 pub fn cell(t: &[u8], width: usize, most: usize, i: usize, j: usize) -> u64
     requires { ⌜ IsTable width most (words (now t)) (length (now t)) ⌝ }
     requires { ⌜ (i < getD (words (now t)) 0 0) × (j < width) ⌝ }
-    ensures { λ r. ⌜ r ≡ getD (getD (table-dec width row (words (now (t .entry)))) i []) j 0 ⌝ }
+    ensures { λ r. ⌜ r ≡ cell-at i j (table-dec width row (words (now (t .entry)))) ⌝ }
 {
     words::read(t, 1 + words::offset(i, width, most) + j)
 }
@@ -116,7 +115,7 @@ pub fn same(a: &[u8], b: &[u8], width: usize, most: usize) -> bool
 pub fn set_cell(t: &mut [u8], width: usize, most: usize, i: usize, j: usize, v: u64)
     requires { ⌜ IsTable width most (words (now t)) (length (now t)) ⌝ }
     requires { ⌜ (i < getD (words (now t)) 0 0) × (j < width) ⌝ }
-    ensures { λ _. ⌜ words (now (t .exit)) ≡ table-enc width row (set (table-dec width row (words (now (t .entry)))) i (set (getD (table-dec width row (words (now (t .entry)))) i []) j v)) (words (now (t .entry))) ⌝ }
+    ensures { λ _. ⌜ words (now (t .exit)) ≡ change-table width (set-cell i j v) (words (now (t .entry))) ⌝ }
 {
     words::write(t, 1 + words::offset(i, width, most) + j, v)
 }
@@ -125,7 +124,7 @@ pub fn set_cell(t: &mut [u8], width: usize, most: usize, i: usize, j: usize, v: 
 pub fn insert_row(t: &mut [u8], width: usize, most: usize, p: usize, list: &[u64])
     requires { ⌜ IsTable width most (words (now t)) (length (now t)) ⌝ }
     requires { ⌜ (p ≤ getD (words (now t)) 0 0) × (getD (words (now t)) 0 0 < most) × (length (now list) ≡ width) ⌝ }
-    ensures { λ _. ⌜ words (now (t .exit)) ≡ table-enc width row (insert-at p (now (list .entry)) (table-dec width row (words (now (t .entry))))) (words (now (t .entry))) ⌝ }
+    ensures { λ _. ⌜ words (now (t .exit)) ≡ change-table width (insert-at p (now (list .entry))) (words (now (t .entry))) ⌝ }
 {
     let n = words::read(t, 0) as usize;
     let at = words::offset(p, width, most);
@@ -139,7 +138,7 @@ pub fn insert_row(t: &mut [u8], width: usize, most: usize, p: usize, list: &[u64
 pub fn remove_row(t: &mut [u8], width: usize, most: usize, p: usize)
     requires { ⌜ IsTable width most (words (now t)) (length (now t)) ⌝ }
     requires { ⌜ p < getD (words (now t)) 0 0 ⌝ }
-    ensures { λ _. ⌜ words (now (t .exit)) ≡ table-enc width row (remove-at p (table-dec width row (words (now (t .entry))))) (words (now (t .entry))) ⌝ }
+    ensures { λ _. ⌜ words (now (t .exit)) ≡ change-table width (remove-at p) (words (now (t .entry))) ⌝ }
 {
     let last = words::read(t, 0) as usize - 1;
     let at = words::offset(p, width, most);
@@ -150,8 +149,8 @@ pub fn remove_row(t: &mut [u8], width: usize, most: usize, p: usize)
 
 // The table from word `from` on is copied to the one from word `to` on: its count and its rows in use.
 pub fn copy_table(s: &mut [u8], from: usize, to: usize, width: usize, most: usize)
-    requires { ⌜ (8 * (from + table-words width most) ≤ length (now s)) × (8 * (to + table-words width most) ≤ length (now s)) × (getD (words (now s)) from 0 ≤ most) ⌝ }
-    ensures { λ _. ⌜ words (now (s .exit)) ≡ on-run to (table-words width most) (table-enc width row (table-dec width row (run from (table-words width most) (words (now (s .entry)))))) (words (now (s .entry))) ⌝ }
+    requires { ⌜ TwoTables width most from to (words (now s)) (length (now s)) ⌝ }
+    ensures { λ _. ⌜ words (now (s .exit)) ≡ copied width most from to (words (now (s .entry))) ⌝ }
 {
     let n = words::read(s, from) as usize;
     moves::move_words(s, from, to, 1 + n * width);

@@ -150,7 +150,8 @@ pub store-word : (s : List ℕ) (i v : ℕ) → 8 * i + 8 ≤ length s → v < 2
     (8 * i + 6) (v / 0x1_0000_0000_0000 % 256)) (8 * i + 7) (v / 0x100_0000_0000_0000 % 256))
     ≡ set (words s) i v
 store-word s i v h hv =
-    ap words (simp (add-one, add-two, add-three, add-four, add-five, add-six, add-seven) (sets-eq (flat v) s (8 * i) h) ∙ ap (λ (l : List ℕ). take (8 * i) s ++ l ++ drop (8 * i + 8) s) (bytes-flat v)
+    ap words (simp (add-one, add-two, add-three, add-four, add-five, add-six, add-seven) (sets-eq (flat v) s (8 * i) h)
+    ∙ ap (λ (l : List ℕ). take (8 * i) s ++ l ++ drop (8 * i + 8) s) (bytes-flat v)
     ∙ append-assoc (take (8 * i) s) (bytes-of 8 v) (drop (8 * i + 8) s))
     ∙ words-set s i v h hv
 

@@ -22,9 +22,10 @@ same-length c = search needs
 
 returns : tie.Need-returns
 returns c =
-    let s = c .before .before .before .before .before .before .before .before in
-    c .before .before .insert-row .ensures
-    ∙ append-leaves (s .args .most) (words (s .args .t .now)) (length-words (s .args .t .now) ∙ omega arith) (s .pre .0 .few) (c .before .before .before .before .before .read .result) (s .args .b) (s .args .k) (c .before .before .before .before .before .read .ensures)
+    let after-read = c .before .before .before .before .before in
+    let s = after-read .before .before .before in
+    c .before .before .insert-row .ensures ∙ append-leaves (s .args .most) (words (s .args .t .now)) (length-words (s .args .t .now) ∙ omega arith)
+    (s .pre .0 .few) (after-read .read .result) (s .args .b) (s .args .k) (after-read .read .ensures)
 
 pub append-spec : {M : Type 1} → statement M
 append-spec =

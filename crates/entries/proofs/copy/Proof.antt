@@ -16,8 +16,8 @@ same-length c = search needs
 returns : tie.Need-returns
 returns c =
     let s = c .before .before .before .before .before in
-    c .before .before .copy-table .ensures
-    ∙ copy-leaves (s .args .most) (s .args .from) (s .args .to) (words (s .args .s .now)) (room (s .args .s .now) (s .args .from + (1 + s .args .most * 2)) (s .pre .0)) (s .pre .2)
+    c .before .before .copy-table .ensures ∙ copy-leaves (s .args .most) (s .args .from) (s .args .to) (words (s .args .s .now))
+    (room (s .args .s .now) (s .args .from + (1 + s .args .most * 2)) (s .pre .first-in)) (s .pre .few)
 
 pub copy-spec : {M : Type 1} → statement M
 copy-spec = tie.close (tie.spec copy-table-requires same-length returns)

@@ -27,8 +27,14 @@ read-requires c κs = search needs
 
 loop-holds : tie.Need-loop-holds Inv-loop μ-loop
 loop-holds c =
-    let s = c .before .before .before in
-    (search needs, search needs, search needs, drain-start (buckets (s .args .settings)) (s .args .g) (s .args .buffer) (s .args .waiting) (s .args .copy) (s .args .most) (words (s .args .s .now)) (length (s .args .s .now)) (s .pre) (room (s .args .s .now) (s .args .copy + (1 + s .args .most * 2)) (s .pre .room)))
+    let s = c .before .before .before in (
+      search needs,
+      search needs,
+      search needs,
+      drain-start (buckets (s .args .settings)) (s .args .g) (s .args .buffer) (s .args .waiting) (s .args .copy)
+          (s .args .most) (words (s .args .s .now)) (length (s .args .s .now)) (s .pre)
+          (room (s .args .s .now) (s .args .copy + (1 + s .args .most * 2)) (s .pre .room)),
+    )
 
 mul-drain-at : tie.Need-mul-drain-at Inv-loop μ-loop
 mul-drain-at c = search needs
@@ -42,8 +48,12 @@ add-drain-at-2 c = search needs
 drain-at-requires : tie.Need-drain-at-requires Inv-loop μ-loop
 drain-at-requires c κs =
     let s = c .before .before .before .before .before .before in
-    let l = c .before .before .loop in
-    ((omega arith, omega arith), still-sorted (buckets (s .args .settings)) (s .args .g) (s .args .buffer) (s .args .waiting) (s .args .copy) (s .args .most) (words (s .args .s .now)) (length (s .args .s .now)) (s .pre) (room (s .args .s .now) (s .args .copy + (1 + s .args .most * 2)) (s .pre .room)) (l .i) (words (l .s)) (l .inv .3))
+    let l = c .before .before .loop in (
+      (omega arith, omega arith),
+      still-sorted (buckets (s .args .settings)) (s .args .g) (s .args .buffer) (s .args .waiting) (s .args .copy)
+          (s .args .most) (words (s .args .s .now)) (length (s .args .s .now)) (s .pre)
+          (room (s .args .s .now) (s .args .copy + (1 + s .args .most * 2)) (s .pre .room)) (l .i) (words (l .s)) (l .inv .3),
+    )
 
 add-i : tie.Need-add-i Inv-loop μ-loop
 add-i c = search needs
@@ -53,13 +63,16 @@ loop-less c = search needs
 
 loop-again : tie.Need-loop-again Inv-loop μ-loop
 loop-again c =
-    let s = c .before .before .before .before .before .before .before .before .before in
-    let l = c .before .before .before .before .before .loop in
+    let after-loop = c .before .before .before .before .before in
+    let s = after-loop .before .before .before .before in
+    let l = after-loop .loop in
     let r = c .before .before .drain-at in (
       search needs,
       search needs,
       search needs,
-      rw (add-one (l .i)) (drain-turn (buckets (s .args .settings)) (s .args .g) (s .args .buffer) (s .args .waiting) (s .args .copy) (s .args .most) (words (s .args .s .now)) (length (s .args .s .now)) (s .pre) (room (s .args .s .now) (s .args .copy + (1 + s .args .most * 2)) (s .pre .room)) (l .i) (words (l .s)) (l .inv .3) (s .args .buffer + (1 + l .i * 2)) refl (omega arith) (words (r .last .0)) (r .ensures)),
+      rw (add-one (l .i)) (drain-turn (buckets (s .args .settings)) (s .args .g) (s .args .buffer) (s .args .waiting) (s .args .copy) (s .args .most)
+          (words (s .args .s .now)) (length (s .args .s .now)) (s .pre) (room (s .args .s .now) (s .args .copy + (1 + s .args .most * 2)) (s .pre .room))
+          (l .i) (words (l .s)) (l .inv .3) (s .args .buffer + (1 + l .i * 2)) refl (omega arith) (words (r .last .0)) (r .ensures)),
     )
 
 same-length : tie.Need-same-length Inv-loop μ-loop
@@ -69,7 +82,9 @@ returns : tie.Need-returns Inv-loop μ-loop
 returns c =
     let s = c .before .before .before .before .before in
     let l = c .before .loop in
-    l .inv .3 ∙ rw (drain-end (buckets (s .args .settings)) (s .args .g) (s .args .buffer) (s .args .waiting) (s .args .copy) (s .args .most) (words (s .args .s .now)) (length (s .args .s .now)) (s .pre) (room (s .args .s .now) (s .args .copy + (1 + s .args .most * 2)) (s .pre .room)) (l .i) (omega arith))
+    l .inv .3 ∙ rw (drain-end (buckets (s .args .settings)) (s .args .g) (s .args .buffer) (s .args .waiting) (s .args .copy) (s .args .most)
+    (words (s .args .s .now)) (length (s .args .s .now)) (s .pre) (room (s .args .s .now) (s .args .copy + (1 + s .args .most * 2)) (s .pre .room)) (l .i)
+    (omega arith))
 
 pub drain-spec : {M : Type 1} → statement M
 drain-spec =

@@ -68,11 +68,18 @@ returns c =
     let v = s .args .s .now in
     let o = 8 * s .args .copy in
     let k = o + (8 * (1 + s .args .most * 2)) - o in
-    let x = entry (c .before .before .before .before .before .before .before .before .read .result) (c .before .before .before .before .before .before .read2 .result) in
-    let q = sym (rw (c .before .before .before .before .before .before .before .before .read .ensures) at (c .before .before .before .before .before .of-bucket .ensures)) ∙ c .before .before .before .before .if1 .taken in
-    rw (q, ← c .before .before .before .before .before .before .before .before .read .ensures, ← c .before .before .before .before .before .before .read2 .ensures)
-    (lent-run v (c .before .before .insert-or-drop .last .0) o k (s .args .copy) (1 + s .args .most * 2)
-    (λ c. write-entries (take-in (s .args .most) (entries c) x) c) refl (omega arith) (omega arith) (omega arith) (c .before .before .insert-or-drop .ensures))
+    let x = entry (c .before .before .before .before .before .before .before .before .read .result)
+    (c .before .before .before .before .before .before .read2 .result) in
+    let q = sym (rw (c .before .before .before .before .before .before .before .before .read .ensures) at
+    (c .before .before .before .before .before .of-bucket .ensures)) ∙ c .before .before .before .before .if1 .taken in
+    rw (
+      q,
+      ← c .before .before .before .before .before .before .before .before .read .ensures,
+      ← c .before .before .before .before .before .before .read2
+          .ensures,
+    ) (lent-run v (c .before .before .insert-or-drop .last .0) o k (s .args .copy) (1 + s .args .most * 2)
+    (λ c. write-entries (take-in (s .args .most) (entries c) x) c) refl (omega arith) (omega arith) (omega arith)
+    (c .before .before .insert-or-drop .ensures))
 
 same-length-2 : tie.Need-same-length-2
 same-length-2 c = search needs

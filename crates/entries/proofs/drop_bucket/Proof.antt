@@ -40,8 +40,12 @@ loop-holds c =
 sift-at-requires : tie.Need-sift-at-requires Inv-loop μ-loop
 sift-at-requires c κs =
     let s = c .before .before .before .before .before .before in
-    let l = c .before .before .loop in
-    (buffer-low (s .args .most) (words (s .args .t .now)) (length-words (s .args .t .now) ∙ omega arith) (s .pre .few) (buckets (s .args .settings)) (s .args .g) (l .i) (l .o) (words (l .t)) (omega arith) (l .inv .4) (l .inv .3), omega arith, omega arith)
+    let l = c .before .before .loop in (
+      buffer-low (s .args .most) (words (s .args .t .now)) (length-words (s .args .t .now) ∙ omega arith) (s .pre .few) (buckets (s .args .settings))
+          (s .args .g) (l .i) (l .o) (words (l .t)) (omega arith) (l .inv .4) (l .inv .3),
+      omega arith,
+      omega arith,
+    )
 
 add-i : tie.Need-add-i Inv-loop μ-loop
 add-i c = search needs
@@ -51,15 +55,18 @@ loop-less c = search needs
 
 loop-again : tie.Need-loop-again Inv-loop μ-loop
 loop-again c =
-    let s = c .before .before .before .before .before .before .before .before .before in
-    let l = c .before .before .before .before .before .loop in
+    let after-loop = c .before .before .before .before .before in
+    let s = after-loop .before .before .before .before in
+    let l = after-loop .loop in
     let r = c .before .before .sift-at in
     let h : l .i < getD (words (s .args .t .now)) 0 0 = omega arith in (
       search needs,
       search needs,
       search needs,
-      rw (add-one (l .i)) (buffer-next (s .args .most) (words (s .args .t .now)) (length-words (s .args .t .now) ∙ omega arith) (s .pre .few) (buckets (s .args .settings)) (s .args .g) (l .i) (l .o) (words (l .t)) h (l .inv .4) (l .inv .3) (r .result) (r .ensures .1)),
-      rw (add-one (l .i)) (buffer-turn (s .args .most) (words (s .args .t .now)) (length-words (s .args .t .now) ∙ omega arith) (s .pre .few) (buckets (s .args .settings)) (s .args .g) (l .i) (l .o) (words (l .t)) h (l .inv .4) (l .inv .3) (words (r .last .0)) (r .ensures .0)),
+      rw (add-one (l .i)) (buffer-next (s .args .most) (words (s .args .t .now)) (length-words (s .args .t .now) ∙ omega arith) (s .pre .few)
+          (buckets (s .args .settings)) (s .args .g) (l .i) (l .o) (words (l .t)) h (l .inv .4) (l .inv .3) (r .result) (r .ensures .next)),
+      rw (add-one (l .i)) (buffer-turn (s .args .most) (words (s .args .t .now)) (length-words (s .args .t .now) ∙ omega arith) (s .pre .few)
+          (buckets (s .args .settings)) (s .args .g) (l .i) (l .o) (words (l .t)) h (l .inv .4) (l .inv .3) (words (r .last .0)) (r .ensures .words)),
     )
 
 write-requires : tie.Need-write-requires Inv-loop μ-loop
@@ -70,11 +77,11 @@ same-length c = search needs
 
 returns : tie.Need-returns Inv-loop μ-loop
 returns c =
-    let s = c .before .before .before .before .before .before .before .before .before in
-    let l = c .before .before .before .before .before .loop in
-    c .before .before .write .ensures
-    ∙ ap (λ (v : List ℕ). set v 0 (l .o)) (l .inv .4)
-    ∙ buffer-end (s .args .most) (words (s .args .t .now)) (length-words (s .args .t .now) ∙ omega arith) (s .pre .few) (buckets (s .args .settings)) (s .args .g) (l .i) (l .o) (omega arith) (l .inv .3)
+    let after-loop = c .before .before .before .before .before in
+    let s = after-loop .before .before .before .before in
+    let l = after-loop .loop in
+    c .before .before .write .ensures ∙ ap (λ (v : List ℕ). set v 0 (l .o)) (l .inv .4) ∙ buffer-end (s .args .most) (words (s .args .t .now))
+    (length-words (s .args .t .now) ∙ omega arith) (s .pre .few) (buckets (s .args .settings)) (s .args .g) (l .i) (l .o) (omega arith) (l .inv .3)
 
 pub drop-bucket-spec : {M : Type 1} → statement M
 drop-bucket-spec =

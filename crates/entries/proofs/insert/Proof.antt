@@ -21,7 +21,8 @@ enum-known-p c = search needs
 set-cell-requires : tie.Need-set-cell-requires
 set-cell-requires c κs =
     let s = c .before .before .before .before .before .before .before in
-    let h : HereAt 2 (words (s .args .t .now)) (s .args .b) (c .before .before .p .given .0 .0) = rw (c .before .before .p .given .1) at (c .before .before .before .before .find .ensures) in
+    let h : HereAt 2 (words (s .args .t .now)) (s .args .b) (c .before .before .p .given .0 .0) = rw (c .before .before .p .given .1) at
+    (c .before .before .before .before .find .ensures) in
     (record { few = s .pre .0 .few; size = s .pre .0 .size }, (h .in-use, omega arith))
 
 enum-known-p-2 : tie.Need-enum-known-p-2
@@ -32,11 +33,16 @@ slice-aggregate-insert-row c = search needs
 
 insert-row-requires : tie.Need-insert-row-requires
 insert-row-requires c κs =
-    let s = c .before .before .before .before .before .before .before .before in
-    let g : GapAt 2 (words (s .args .t .now)) (s .args .b) (c .before .before .before .p2 .given .0 .0) = rw (c .before .before .before .p2 .given .1) at (c .before .before .before .before .before .find .ensures) in
-    let n = has-gap (s .args .most) (words (s .args .t .now)) (length (s .args .t .now)) (length-words (s .args .t .now) ∙ omega arith) (s .pre .0) (s .args .b) (c .before .before .before .p2 .given .0 .0) g in
+    let after-p2 = c .before .before .before in
+    let after-find = after-p2 .before .before in
+    let s = after-find .before .before .before in
+    let g : GapAt 2 (words (s .args .t .now)) (s .args .b) (after-p2 .p2 .given .0 .0) = rw (after-p2 .p2 .given .1) at
+    (after-find .find .ensures) in
+    let n = has-gap (s .args .most) (words (s .args .t .now)) (length (s .args .t .now)) (length-words (s .args .t .now) ∙ omega arith) (s .pre .0)
+    (s .args .b) (after-p2 .p2 .given .0 .0) g in
     let r : getD (words (s .args .t .now)) 0 0 < s .args .most =
-    rw (← entries-length (s .args .most) (words (s .args .t .now)) (length-words (s .args .t .now) ∙ omega arith) (s .pre .0 .few)) (ltb-true _ _ (sym (takes-room (s .args .most) (entries (words (s .args .t .now))) (s .args .b) n) ∙ s .pre .1)) in
+    rw (← entries-length (s .args .most) (words (s .args .t .now)) (length-words (s .args .t .now) ∙ omega arith) (s .pre .0 .few))
+    (ltb-true _ _ (sym (takes-room (s .args .most) (entries (words (s .args .t .now))) (s .args .b) n) ∙ s .pre .1)) in
     (record { few = s .pre .0 .few; size = s .pre .0 .size }, (g .place .within, r, refl))
 
 same-length : tie.Need-same-length
@@ -44,18 +50,24 @@ same-length c = search needs
 
 returns : tie.Need-returns
 returns c =
-    let s = c .before .before .before .before .before .before .before .before .before .before in
-    let h : HereAt 2 (words (s .args .t .now)) (s .args .b) (c .before .before .before .before .before .p .given .0 .0) = rw (c .before .before .before .before .before .p .given .1) at (c .before .before .before .before .before .before .before .find .ensures) in
-    c .before .before .set-cell .ensures ∙ put-here (s .args .most) (words (s .args .t .now)) (length (s .args .t .now)) (length-words (s .args .t .now) ∙ omega arith) (s .pre .0) (s .args .b) (c .before .before .before .before .before .p .given .0 .0) h (s .args .k)
+    let after-p = c .before .before .before .before .before in
+    let after-find = after-p .before .before in
+    let s = after-find .before .before .before in
+    let h : HereAt 2 (words (s .args .t .now)) (s .args .b) (after-p .p .given .0 .0) = rw (after-p .p .given .1) at (after-find .find .ensures) in
+    c .before .before .set-cell .ensures ∙ put-here (s .args .most) (words (s .args .t .now)) (length (s .args .t .now))
+    (length-words (s .args .t .now) ∙ omega arith) (s .pre .0) (s .args .b) (after-p .p .given .0 .0) h (s .args .k)
 
 same-length-2 : tie.Need-same-length-2
 same-length-2 c = search needs
 
 returns-2 : tie.Need-returns-2
 returns-2 c =
-    let s = c .before .before .before .before .before .before .before .before .before .before .before in
-    let g : GapAt 2 (words (s .args .t .now)) (s .args .b) (c .before .before .before .before .before .before .p2 .given .0 .0) = rw (c .before .before .before .before .before .before .p2 .given .1) at (c .before .before .before .before .before .before .before .before .find .ensures) in
-    c .before .before .insert-row .ensures ∙ put-gap (s .args .most) (words (s .args .t .now)) (length (s .args .t .now)) (length-words (s .args .t .now) ∙ omega arith) (s .pre .0) (s .args .b) (c .before .before .before .before .before .before .p2 .given .0 .0) g (s .args .k)
+    let after-p2 = c .before .before .before .before .before .before in
+    let after-find = after-p2 .before .before in
+    let s = after-find .before .before .before in
+    let g : GapAt 2 (words (s .args .t .now)) (s .args .b) (after-p2 .p2 .given .0 .0) = rw (after-p2 .p2 .given .1) at (after-find .find .ensures) in
+    c .before .before .insert-row .ensures ∙ put-gap (s .args .most) (words (s .args .t .now)) (length (s .args .t .now))
+    (length-words (s .args .t .now) ∙ omega arith) (s .pre .0) (s .args .b) (after-p2 .p2 .given .0 .0) g (s .args .k)
 
 pub insert-spec : {M : Type 1} → statement M
 insert-spec =

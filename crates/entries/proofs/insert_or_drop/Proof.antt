@@ -22,8 +22,10 @@ same-length c = search needs
 
 returns : tie.Need-returns
 returns c =
-    let s = c .before .before .before .before .before .before .before .before in
-    c .before .before .insert .ensures ∙ rw (sym (c .before .before .before .before .before .takes .ensures) ∙ c .before .before .before .before .if1 .taken)
+    let after-if1 = c .before .before .before .before in
+    let after-takes = after-if1 .before in
+    let s = after-takes .before .before .before in
+    c .before .before .insert .ensures ∙ rw (sym (after-takes .takes .ensures) ∙ after-if1 .if1 .taken)
 
 same-length-2 : tie.Need-same-length-2
 same-length-2 c = search needs
@@ -31,7 +33,8 @@ same-length-2 c = search needs
 returns-2 : tie.Need-returns-2
 returns-2 c =
     let s = c .before .before .before .before in
-    rw (sym (c .before .takes .ensures) ∙ c .if1 .left) (sym (entries-clean (s .args .most) (words (s .args .t .now)) (length-words (s .args .t .now) ∙ omega arith) (s .pre .few)))
+    rw (sym (c .before .takes .ensures) ∙ c .if1 .left)
+    (sym (entries-clean (s .args .most) (words (s .args .t .now)) (length-words (s .args .t .now) ∙ omega arith) (s .pre .few)))
 
 pub insert-or-drop-spec : {M : Type 1} → statement M
 insert-or-drop-spec =

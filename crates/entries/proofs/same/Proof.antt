@@ -14,8 +14,7 @@ same-requires c κs = search needs
 returns : tie.Need-returns
 returns c =
     let s = c .before .before .before in
-    c .same .ensures
-    ∙ same-is-rows (s .args .most) (words (s .args .a .now)) (words (s .args .b .now)) (length-words (s .args .a .now) ∙ omega arith)
+    c .same .ensures ∙ same-is-rows (s .args .most) (words (s .args .a .now)) (words (s .args .b .now)) (length-words (s .args .a .now) ∙ omega arith)
     (length-words (s .args .b .now) ∙ omega arith) (s .pre .0 .few) (s .pre .1 .few)
 
 pub same-spec : {M : Type 1} → statement M

@@ -24,8 +24,8 @@ read-requires c κs = search needs
 returns-2 : tie.Need-returns-2
 returns-2 c =
     let s = c .before .before .before .before in
-    sym (takes-room (s .args .most) (entries (words (s .args .t .now))) (s .args .b) (sym (c .before .before .has .ensures) ∙ c .before .if1 .left)
-    ∙ rw (entries-length (s .args .most) (words (s .args .t .now)) (length-words (s .args .t .now) ∙ omega arith) (s .pre .few), c .read .ensures))
+    sym (takes-room (s .args .most) (entries (words (s .args .t .now))) (s .args .b) (sym (c .before .before .has .ensures) ∙ c .before .if1 .left) ∙ rw
+    (entries-length (s .args .most) (words (s .args .t .now)) (length-words (s .args .t .now) ∙ omega arith) (s .pre .few), c .read .ensures))
 
 pub takes-spec : {M : Type 1} → statement M
 takes-spec = tie.close (tie.spec has-requires returns read-requires returns-2)

@@ -33,7 +33,9 @@ returns : tie.Need-returns Inv-loop μ-loop
 returns c =
     let s = c .before .before .before .before .before .before in
     let l = c .before .before .before .loop in
-    sym (has-at (s .args .b) (entries (words (s .args .t .now))) (l .i) (rw (entries-length (s .args .most) (words (s .args .t .now)) (length-words (s .args .t .now) ∙ omega arith) (s .pre .few)) (omega arith)) (sym (c .before .block-at .ensures) ∙ c .if1 .taken))
+    sym (has-at (s .args .b) (entries (words (s .args .t .now))) (l .i)
+    (rw (entries-length (s .args .most) (words (s .args .t .now)) (length-words (s .args .t .now) ∙ omega arith) (s .pre .few)) (omega arith))
+    (sym (c .before .block-at .ensures) ∙ c .if1 .taken))
 
 add-i : tie.Need-add-i Inv-loop μ-loop
 add-i c = search needs
@@ -47,14 +49,18 @@ loop-again c =
     let l = c .before .before .before .loop in (
       search needs,
       search needs,
-      below-more (λ j. entry-at (entries (words (s .args .t .now))) j .block ≢ s .args .b) (l .i) (l .inv .2) (λ e. c .if1 .left (c .before .block-at .ensures ∙ e)),
+      below-more (λ j. entry-at (entries (words (s .args .t .now))) j .block ≢ s .args .b) (l .i) (l .inv .2)
+          (λ e. c .if1 .left (c .before .block-at .ensures ∙ e)),
     )
 
 returns-2 : tie.Need-returns-2 Inv-loop μ-loop
 returns-2 c =
     let s = c .before .before .before .before in
     let l = c .before .loop in
-    sym (has-none (s .args .b) (entries (words (s .args .t .now))) (λ j h. let q : j < getD (words (s .args .t .now)) 0 0 = rw (entries-length (s .args .most) (words (s .args .t .now)) (length-words (s .args .t .now) ∙ omega arith) (s .pre .few)) at h in l .inv .2 j (omega arith)))
+    sym (has-none (s .args .b) (entries (words (s .args .t .now)))
+    (λ j h. let q : j < getD (words (s .args .t .now)) 0 0 = rw
+    (entries-length (s .args .most) (words (s .args .t .now)) (length-words (s .args .t .now) ∙ omega arith) (s .pre .few)) at h in l .inv .2 j
+    (omega arith)))
 
 pub waits-spec : {M : Type 1} → statement M
 waits-spec =

@@ -64,16 +64,20 @@ same-length c = search needs
 
 returns : tie.Need-returns
 returns c =
-    let k = c .before .before .before .before .before .before .before .before .before .before .before .before .before .before in
+    let after-offset = c .before .before .before .before in
+    let after-enter = after-offset .before .before .before in
+    let after-place = after-enter .before .before in
+    let after-read = after-place .before .before in
+    let k = after-read .before .before .before in
     let s = k .before in
-    let r = c .before .before .before .before .before .before .before .before .before .before .before .read in
-    let at = c .before .before .before .before .offset in
+    let r = after-read .read in
+    let at = after-offset .offset in
     let q = 8 * (1 + 3 * s .args .chunks + at .result) in
     append-leaves (s .args .chunks) (s .args .width) (s .args .log .now) (s .pre .0)
-    (below-of 256 (s .args .log .now) (λ i. k .slice-known .given i .fits)) (r .result) (c .before .before .before .before .before .before .before .before .before .place .result) (s .args .key) (s .args .saved)
-    (boolByte (s .args .saved)) (at .result) (s .args .bytes .now) (c .before .before .before .before .before .before .before .enter .last .0) (c .before .before .copy-bytes .last .0) q
-    (q + 8 * s .args .width - q) (flag-word (s .args .saved)) (s .pre .1 .0) (r .ensures) (c .before .before .before .before .before .before .before .before .before .place .ensures) (s .pre .1 .1) (omega arith)
-    (c .before .before .before .before .before .before .before .enter .ensures) (c .before .before .copy-bytes .ensures) (at .ensures .0) (at .ensures .1) refl (omega arith)
+    (below-of 256 (s .args .log .now) (λ i. k .slice-known .given i .fits)) (r .result) (after-place .place .result) (s .args .key) (s .args .saved)
+    (boolByte (s .args .saved)) (at .result) (s .args .bytes .now) (after-enter .enter .last .0) (c .before .before .copy-bytes .last .0) q
+    (q + 8 * s .args .width - q) (flag-word (s .args .saved)) (s .pre .1 .0) (r .ensures) (after-place .place .ensures) (s .pre .1 .1) (omega arith)
+    (after-enter .enter .ensures) (c .before .before .copy-bytes .ensures) (at .ensures .0) (at .ensures .1) refl (omega arith)
 
 pub append-spec : {M : Type 1} → statement M
 append-spec =

@@ -41,9 +41,9 @@ returns : tie.Need-returns
 returns c =
     let s = c .before .before .before in
     let q = 8 * (1 + 3 * s .args .chunks + c .before .offset .result) in
-    part-bytes (s .args .chunks) (s .args .width) (s .args .log .now) (s .pre .0) (s .args .p) (c .before .offset .result) q
-    (q + 8 * s .args .width - q) (below-of 256 (s .args .log .now) (λ i. c .before .before .shared-slice-known .given i .fits)) (s .pre .1)
-    (c .before .offset .ensures .0) (c .before .offset .ensures .1) refl (omega arith)
+    part-bytes (s .args .chunks) (s .args .width) (s .args .log .now) (s .pre .0) (s .args .p) (c .before .offset .result) q (q + 8 * s .args .width - q)
+    (below-of 256 (s .args .log .now) (λ i. c .before .before .shared-slice-known .given i .fits)) (s .pre .1) (c .before .offset .ensures .0)
+    (c .before .offset .ensures .1) refl (omega arith)
 
 pub bytes-at-spec : {M : Type 1} → statement M
 bytes-at-spec =

@@ -13,8 +13,7 @@ same-length c = search needs
 returns : tie.Need-returns
 returns c =
     let s = c .before .before .before .before .before in
-    c .before .before .write .ensures
-    ∙ no-chunks (s .args .chunks) (s .args .width) (s .args .log .now) (s .pre)
+    c .before .before .write .ensures ∙ no-chunks (s .args .chunks) (s .args .width) (s .args .log .now) (s .pre)
 
 pub clear-spec : {M : Type 1} → statement M
 clear-spec = tie.close (tie.spec write-requires same-length returns)

@@ -72,9 +72,15 @@ same-length c = search needs
 
 returns : tie.Need-returns
 returns c =
-    let s = c .before .before .before .before .before .before .before .before .before .before .before .before .before .before .before .before .before .before .before .before .before in
-    enter-steps (s .args .chunks) (s .args .n) (s .args .p) (s .args .key) (s .args .saved) (words (s .args .log .now)) (words (c .before .before .before .before .before .before .before .before .before .before .before .before .before .before .before .before .before .before .move-up .last .0)) (words (c .before .before .before .before .before .before .before .before .before .before .before .before .before .before .write .last .0))
-    (words (c .before .before .before .before .before .before .before .before .before .before .write2 .last .0)) (words (c .before .before .before .before .before .before .write3 .last .0)) (words (c .before .before .write4 .last .0)) (c .before .before .before .before .before .before .before .before .before .before .before .before .before .before .before .before .before .before .move-up .ensures) (c .before .before .before .before .before .before .before .before .before .before .before .before .before .before .write .ensures) (c .before .before .before .before .before .before .before .before .before .before .write2 .ensures) (c .before .before .before .before .before .before .write3 .ensures) (c .before .before .write4 .ensures)
+    let after-write3 = c .before .before .before .before .before .before in
+    let after-write2 = after-write3 .before .before .before .before in
+    let after-write = after-write2 .before .before .before .before in
+    let after-move-up = after-write .before .before .before .before in
+    let s = after-move-up .before .before .before in
+    enter-steps (s .args .chunks) (s .args .n) (s .args .p) (s .args .key) (s .args .saved) (words (s .args .log .now))
+    (words (after-move-up .move-up .last .0)) (words (after-write .write .last .0)) (words (after-write2 .write2 .last .0))
+    (words (after-write3 .write3 .last .0)) (words (c .before .before .write4 .last .0)) (after-move-up .move-up .ensures) (after-write .write .ensures)
+    (after-write2 .write2 .ensures) (after-write3 .write3 .ensures) (c .before .before .write4 .ensures)
 
 pub enter-spec : {M : Type 1} → statement M
 enter-spec =

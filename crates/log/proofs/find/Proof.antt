@@ -13,7 +13,8 @@ place-requires : tie.Need-place-requires
 place-requires c κs = ((omega arith, omega arith), rw (c .read .ensures) (c .before .before .pre .order))
 
 key-by-requires : tie.Need-key-by-requires
-key-by-requires c κs = let h = c .before .before .before .before .pre .order .below (c .before .place .result) (omega arith) in (omega arith, omega arith, omega arith)
+key-by-requires c κs = let h = c .before .before .before .before .pre .order .below (c .before .place .result) (omega arith) in
+    (omega arith, omega arith, omega arith)
 
 mul-read : tie.Need-mul-read
 mul-read c = search needs
@@ -29,17 +30,21 @@ read-requires-2 c κs = search needs
 
 returns : tie.Need-returns
 returns c =
-    let s = c .before .before .before .before .before .before .before in
+    let after-place = c .before .before .before .before in
+    let after-read = after-place .before in
+    let s = after-read .before .before in
     let v = s .args .log .now in
-    let pl = rw (c .before .before .before .before .before .read .ensures) at (c .before .before .before .before .place .ensures) in
-    rw (c .read2 .ensures) (found (s .args .chunks) (s .args .width) v (s .pre) (s .args .k) (c .before .before .before .before .place .result) pl (omega arith) (sym (c .before .before .key-by .ensures) ∙ c .before .if2 .taken))
+    let pl = rw (after-read .read .ensures) at (after-place .place .ensures) in
+    rw (c .read2 .ensures) (found (s .args .chunks) (s .args .width) v (s .pre) (s .args .k) (after-place .place .result) pl (omega arith)
+    (sym (c .before .before .key-by .ensures) ∙ c .before .if2 .taken))
 
 returns-2 : tie.Need-returns-2
 returns-2 c =
     let s = c .before .before .before .before .before .before in
     let v = s .args .log .now in
     let pl = rw (c .before .before .before .before .read .ensures) at (c .before .before .before .place .ensures) in
-    missing (s .args .chunks) (s .args .width) v (s .pre) (s .args .k) (c .before .before .before .place .result) pl (λ _ e. c .if2 .left (c .before .key-by .ensures ∙ e))
+    missing (s .args .chunks) (s .args .width) v (s .pre) (s .args .k) (c .before .before .before .place .result) pl
+    (λ _ e. c .if2 .left (c .before .key-by .ensures ∙ e))
 
 returns-3 : tie.Need-returns-3
 returns-3 c =

@@ -21,7 +21,8 @@ enum-known-p c = search needs
 
 -- the chunk found, and so a row in use
 here : (c : tie.After-known-told)
-    → FoundAt (log-dec (c .before .before .before .before .before .args .chunks) (c .before .before .before .before .before .args .width) (words (c .before .before .before .before .before .args .log .now))) (c .before .before .before .before .before .args .k)
+    → FoundAt (log-dec (c .before .before .before .before .before .args .chunks) (c .before .before .before .before .before .args .width)
+    (words (c .before .before .before .before .before .args .log .now))) (c .before .before .before .before .before .args .k)
     (c .before .p .given .0 .0)
 here c = rw (c .before .p .given .1) at (c .before .before .before .find .ensures)
 
@@ -42,9 +43,10 @@ enum-told c = search needs
 
 returns : tie.Need-returns
 returns c =
-    let s = c .before .before .before .before .before .before in
+    let after-shared-slice-known = c .before .before .before .before .before in
+    let s = after-shared-slice-known .before in
     rw (c .read .ensures) (holds-saved (s .args .chunks) (s .args .width) (s .args .log .now) (s .pre)
-    (below-of 256 (s .args .log .now) (λ i. c .before .before .before .before .before .shared-slice-known .given i .fits)) (s .args .k) _ (here (c .before)))
+    (below-of 256 (s .args .log .now) (λ i. after-shared-slice-known .shared-slice-known .given i .fits)) (s .args .k) _ (here (c .before)))
 
 returns-2 : tie.Need-returns-2
 returns-2 c =

@@ -22,8 +22,8 @@ ordered-requires c κs = search needs
 returns-2 : tie.Need-returns-2
 returns-2 c =
     let s = c .before .before .before .before in
-    c .ordered .ensures
-    ∙ sym (good-in-order (s .args .chunks) (c .before .before .read .result) (words (s .args .log .now)) (c .before .before .read .ensures) (omega arith) (room (s .args .log .now) (1 + 3 * s .args .chunks) (s .pre)))
+    c .ordered .ensures ∙ sym (good-in-order (s .args .chunks) (c .before .before .read .result) (words (s .args .log .now))
+    (c .before .before .read .ensures) (omega arith) (room (s .args .log .now) (1 + 3 * s .args .chunks) (s .pre)))
 
 pub is-log-spec : {M : Type 1} → statement M
 is-log-spec = tie.close (tie.spec read-requires returns ordered-requires returns-2)

@@ -36,7 +36,8 @@ enum-told c = search needs
 returns-2 : tie.Need-returns-2 Inv-loop μ-loop
 returns-2 c =
     let s = c .before .before .before .before .before in
-    sym (order-row (s .args .chunks) (s .args .n) (words (s .args .log .now)) 0 (omega arith) (rw (c .enum-told .given .1) at (c .before .before .row-by .ensures)))
+    sym (order-row (s .args .chunks) (s .args .n) (words (s .args .log .now)) 0 (omega arith)
+    (rw (c .enum-told .given .1) at (c .before .before .row-by .ensures)))
 
 loop-holds : tie.Need-loop-holds Inv-loop μ-loop
 loop-holds c =
@@ -56,13 +57,16 @@ enum-told-2 c = search needs
 returns-3 : tie.Need-returns-3 Inv-loop μ-loop
 returns-3 c =
     let s = c .before .before .before .before .before .before .before .before .before .before .before in
-    sym (order-row (s .args .chunks) (s .args .n) (words (s .args .log .now)) (c .before .before .before .before .loop .i) (omega arith) (rw (c .enum-told2 .given .1) at (c .before .before .row-by2 .ensures)))
+    sym (order-row (s .args .chunks) (s .args .n) (words (s .args .log .now)) (c .before .before .before .before .loop .i) (omega arith)
+    (rw (c .enum-told2 .given .1) at (c .before .before .row-by2 .ensures)))
 
 returns-4 : tie.Need-returns-4 Inv-loop μ-loop
 returns-4 c =
-    let s = c .before .before .before .before .before .before .before .before .before .before .before .before .before in
-    let l = c .before .before .before .before .before .before .loop in
-    let h = rw (c .before .before .k .given .1) at (c .before .before .before .before .row-by2 .ensures) in
+    let after-row-by2 = c .before .before .before .before in
+    let after-loop = after-row-by2 .before .before in
+    let s = after-loop .before .before .before .before .before .before .before in
+    let l = after-loop .loop in
+    let h = rw (c .before .before .k .given .1) at (after-row-by2 .row-by2 .ensures) in
     let a = h .1 in
     let b = l .inv .2 in
     sym (order-key (s .args .chunks) (s .args .n) (words (s .args .log .now)) (l .i) (l .inv .0) (omega arith) (omega arith))
@@ -75,9 +79,11 @@ loop-less c = search needs
 
 loop-again : tie.Need-loop-again Inv-loop μ-loop
 loop-again c =
-    let s = c .before .before .before .before .before .before .before .before .before .before .before .before .before in
-    let l = c .before .before .before .before .before .before .loop in
-    let h = rw (c .before .before .k .given .1) at (c .before .before .before .before .row-by2 .ensures) in
+    let after-row-by2 = c .before .before .before .before in
+    let after-loop = after-row-by2 .before .before in
+    let s = after-loop .before .before .before .before .before .before .before in
+    let l = after-loop .loop in
+    let h = rw (c .before .before .k .given .1) at (after-row-by2 .row-by2 .ensures) in
     let a = h .1 in
     let b = l .inv .2 in
     let e : l .i + 1 - 1 ≡ l .i = omega arith in (

@@ -27,7 +27,8 @@ add-mid c = search needs
 key-by-requires : tie.Need-key-by-requires Inv-loop μ-loop
 key-by-requires c κs =
     let l = c .before .loop in
-    let h = c .before .before .before .pre .1 .below (l .lo + (l .hi - l .lo) / 2) (omega arith) in (omega arith, omega arith, omega arith)
+    let h = c .before .before .before .pre .1 .below (l .lo + (l .hi - l .lo) / 2) (omega arith) in
+    (omega arith, omega arith, omega arith)
 
 add-lo : tie.Need-add-lo Inv-loop μ-loop
 add-lo c = search needs
@@ -40,8 +41,13 @@ loop-again c =
     let s = c .before .before .before .before .before in
     let l = c .before .before .before .loop in
     let mid = l .lo + (l .hi - l .lo) / 2 in
-    let r = c .before .key-by .ensures in
-    (search needs, search needs, lower (key-by (s .args .chunks) (words (s .args .log .now))) (s .args .n) (s .args .k) mid (s .pre .1 .rising) (omega arith) (omega arith), l .inv .3)
+    let r = c .before .key-by .ensures in (
+      search needs,
+      search needs,
+      lower (key-by (s .args .chunks) (words (s .args .log .now))) (s .args .n) (s .args .k) mid (s .pre .1 .rising)
+          (omega arith) (omega arith),
+      l .inv .3,
+    )
 
 loop-less-2 : tie.Need-loop-less-2 Inv-loop μ-loop
 loop-less-2 c = search needs
@@ -51,8 +57,13 @@ loop-again-2 c =
     let s = c .before .before .before .before .before in
     let l = c .before .before .before .loop in
     let mid = l .lo + (l .hi - l .lo) / 2 in
-    let r = c .before .key-by .ensures in
-    (search needs, search needs, l .inv .2, upper (key-by (s .args .chunks) (words (s .args .log .now))) (s .args .n) (s .args .k) mid (s .pre .1 .rising) (omega arith) (omega arith))
+    let r = c .before .key-by .ensures in (
+      search needs,
+      search needs,
+      l .inv .2,
+      upper (key-by (s .args .chunks) (words (s .args .log .now))) (s .args .n) (s .args .k) mid (s .pre .1 .rising)
+          (omega arith) (omega arith),
+    )
 
 returns : tie.Need-returns Inv-loop μ-loop
 returns c =

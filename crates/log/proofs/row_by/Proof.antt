@@ -35,7 +35,8 @@ read-requires-2 c κs = search needs
 returns-2 : tie.Need-returns-2
 returns-2 c =
     let s = c .before .before .before .before .before in
-    row-flag (s .args .chunks) (s .args .n) (words (s .args .log .now)) (s .args .j) (c .before .before .before .read .result) (c .before .before .before .read .ensures) (omega arith) (omega arith)
+    row-flag (s .args .chunks) (s .args .n) (words (s .args .log .now)) (s .args .j) (c .before .before .before .read .result)
+    (c .before .before .before .read .ensures) (omega arith) (omega arith)
 
 mul-read-3 : tie.Need-mul-read-3
 mul-read-3 c = search needs
@@ -49,8 +50,10 @@ read-requires-3 c κs = search needs
 returns-3 : tie.Need-returns-3
 returns-3 c =
     let s = c .before .before .before .before .before .before in (
-      row-fine (s .args .chunks) (s .args .n) (words (s .args .log .now)) (s .args .j) (c .before .before .before .before .read .result) (c .before .before .before .before .read .ensures) (omega arith) (omega arith),
-      row-key-by (s .args .chunks) (s .args .n) (words (s .args .log .now)) (s .args .j) (c .before .before .before .before .read .result) (c .before .before .before .before .read .ensures) (c .read3 .result) (c .read3 .ensures),
+      row-fine (s .args .chunks) (s .args .n) (words (s .args .log .now)) (s .args .j) (c .before .before .before .before .read .result)
+          (c .before .before .before .before .read .ensures) (omega arith) (omega arith),
+      row-key-by (s .args .chunks) (s .args .n) (words (s .args .log .now)) (s .args .j) (c .before .before .before .before .read .result)
+          (c .before .before .before .before .read .ensures) (c .read3 .result) (c .read3 .ensures),
     )
 
 pub row-by-spec : {M : Type 1} → statement M

@@ -45,9 +45,15 @@ loop-less c = search needs
 
 loop-again : tie.Need-loop-again Inv-loop μ-loop
 loop-again c =
-    let s = c .before .before .before .before .before .before .before .before .before in
-    let l = c .before .before .before .before .before .loop in
-    (search needs, search needs, c .before .before .write .ensures ∙ rw (add-one (l .i)) (tagged (s .args .chunks) (s .args .width) (s .args .log .now) (s .pre) (λ _. 1) (l .i) 1 (2 + 2 * l .i) (words (l .log)) (omega arith) refl refl (l .inv .2)))
+    let after-loop = c .before .before .before .before .before in
+    let s = after-loop .before .before .before .before in
+    let l = after-loop .loop in (
+      search needs,
+      search needs,
+      c .before .before .write .ensures
+          ∙ rw (add-one (l .i)) (tagged (s .args .chunks) (s .args .width) (s .args .log .now) (s .pre) (λ _. 1) (l .i) 1 (2 + 2 * l .i) (words (l .log))
+          (omega arith) refl refl (l .inv .2)),
+    )
 
 same-length : tie.Need-same-length Inv-loop μ-loop
 same-length c = search needs
@@ -57,8 +63,7 @@ returns c =
     let k = c .before .before .before .before in
     let s = k .before in
     let l = c .before .loop in
-    l .inv .2
-    ∙ save-all-leaves (s .args .chunks) (s .args .width) (s .args .log .now) (s .pre)
+    l .inv .2 ∙ save-all-leaves (s .args .chunks) (s .args .width) (s .args .log .now) (s .pre)
     (below-of 256 (s .args .log .now) (λ i. k .slice-known .given i .fits)) (l .i) (omega arith)
 
 pub save-all-spec : {M : Type 1} → statement M

@@ -36,7 +36,8 @@ loop-again c =
       search needs,
       search needs,
       search needs,
-      ap (λ (x : List ℕ). set x (l .i) (getD (b .args .src .now) (l .i) 0)) (l .inv .3) ∙ copy-turn (b .args .d .now) (b .args .src .now) (l .i) (b .pre) (omega arith),
+      ap (λ (x : List ℕ). set x (l .i) (getD (b .args .src .now) (l .i) 0)) (l .inv .3)
+          ∙ copy-turn (b .args .d .now) (b .args .src .now) (l .i) (b .pre) (omega arith),
     )
 
 same-length : tie.Need-same-length Inv-loop μ-loop

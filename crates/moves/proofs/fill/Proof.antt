@@ -18,7 +18,12 @@ abbrev μ-loop : tie.MeasureT-loop
 μ-loop s₀ at n v filled₀ s filled = n - filled
 
 loop-holds : tie.Need-loop-holds Inv-loop μ-loop
-loop-holds c = (search needs, search needs, paste-zero (words (c .before .args .s .now)) (c .before .args .at) (replicate (c .before .args .n) (c .before .args .v)))
+loop-holds c = (
+  search needs,
+  search needs,
+  paste-zero (words (c .before .args .s .now)) (c .before .args .at)
+      (replicate (c .before .args .n) (c .before .args .v)),
+)
 
 add-write : tie.Need-add-write Inv-loop μ-loop
 add-write c = search needs
@@ -34,8 +39,9 @@ loop-less c = search needs
 
 loop-again : tie.Need-loop-again Inv-loop μ-loop
 loop-again c =
-    let b = c .before .before .before .before .before .before .before in
-    let i = c .before .before .before .before .before .loop .filled in (
+    let after-loop = c .before .before .before .before .before in
+    let b = after-loop .before .before in
+    let i = after-loop .loop .filled in (
       search needs,
       search needs,
       cc (fill-turn (words (b .args .s .now)) (b .args .at) (b .args .n) (b .args .v) i

@@ -18,7 +18,12 @@ abbrev μ-loop : tie.MeasureT-loop
 μ-loop s₀ from to n moved₀ s moved = n - moved
 
 loop-holds : tie.Need-loop-holds Inv-loop μ-loop
-loop-holds c = (search needs, search needs, paste-zero (words (c .before .args .s .now)) (c .before .args .to) (drop (c .before .args .from) (words (c .before .args .s .now))))
+loop-holds c = (
+  search needs,
+  search needs,
+  paste-zero (words (c .before .args .s .now)) (c .before .args .to)
+      (drop (c .before .args .from) (words (c .before .args .s .now))),
+)
 
 add-read : tie.Need-add-read Inv-loop μ-loop
 add-read c = search needs
@@ -40,8 +45,9 @@ loop-less c = search needs
 
 loop-again : tie.Need-loop-again Inv-loop μ-loop
 loop-again c =
-    let b = c .before .before .before .before .before .before .before .before .before in
-    let i = c .before .before .before .before .before .before .before .loop .moved in (
+    let after-loop = c .before .before .before .before .before .before .before in
+    let b = after-loop .before .before in
+    let i = after-loop .loop .moved in (
       search needs,
       search needs,
       cc (down-turn (words (b .args .s .now)) (b .args .from) (b .args .to) (b .args .n) i

@@ -19,7 +19,12 @@ abbrev μ-loop : tie.MeasureT-loop
 μ-loop s₀ from to n left₀ s left = left
 
 loop-holds : tie.Need-loop-holds Inv-loop μ-loop
-loop-holds c = (search needs, search needs, rw sub-self (paste-zero (words (c .before .args .s .now)) (c .before .args .to + c .before .args .n) (drop (c .before .args .from + c .before .args .n) (words (c .before .args .s .now)))))
+loop-holds c = (
+  search needs,
+  search needs,
+  rw sub-self (paste-zero (words (c .before .args .s .now)) (c .before .args .to + c .before .args .n)
+      (drop (c .before .args .from + c .before .args .n) (words (c .before .args .s .now)))),
+)
 
 sub-left : tie.Need-sub-left Inv-loop μ-loop
 sub-left c = search needs
@@ -41,8 +46,8 @@ loop-less c = search needs
 
 loop-again : tie.Need-loop-again Inv-loop μ-loop
 loop-again c =
-    let b = c .before .before .before .before .before .before .before .before .before in
-    let l = c .before .before .before .before .before .before .before in (
+    let l = c .before .before .before .before .before .before .before in
+    let b = l .before .before in (
       search needs,
       search needs,
       cc (up-turn (words (b .args .s .now)) (b .args .from) (b .args .to) (b .args .n) (l .loop .left)

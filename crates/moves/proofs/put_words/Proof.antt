@@ -40,12 +40,14 @@ loop-less c = search needs
 
 loop-again : tie.Need-loop-again Inv-loop μ-loop
 loop-again c =
-    let b = c .before .before .before .before .before .before .before .before .before in
-    let l = c .before .before .before .before .before .before .loop in (
+    let after-loop = c .before .before .before .before .before .before in
+    let b = after-loop .before .before .before in
+    let l = after-loop .loop in (
       search needs,
       search needs,
       search needs,
-      cc (put-turn (words (b .args .s .now)) (b .args .at) (b .args .list .now) (l .put) (room (b .args .s .now) (b .args .at + length (b .args .list .now)) (b .pre)) (omega arith)),
+      cc (put-turn (words (b .args .s .now)) (b .args .at) (b .args .list .now) (l .put)
+          (room (b .args .s .now) (b .args .at + length (b .args .list .now)) (b .pre)) (omega arith)),
     )
 
 same-length : tie.Need-same-length Inv-loop μ-loop

@@ -34,15 +34,20 @@ add-carry-4 c = search needs
 carry-requires : tie.Need-carry-requires
 carry-requires c κs =
     let s = c .before .before .before .before in
-    let z = mul-le-mul-right (s .args .width) (s .pre .0) in (omega arith, omega arith)
+    let z = mul-le-mul-right (s .args .width) (s .pre .0) in
+    (omega arith, omega arith)
 
 same-length : tie.Need-same-length
 same-length c = search needs
 
 returns : tie.Need-returns
 returns c =
-    let s = c .before .before .before .before .before .before .before in
-    moved-by (s .args .chunks) (s .args .width) (s .args .i) (s .args .o) (c .before .before .before .before .before .offset .result) (c .before .before .before .before .offset2 .result) (words (s .args .log .now)) (words (c .before .before .carry .last .0)) (c .before .before .before .before .before .offset .ensures .0) (c .before .before .before .before .offset2 .ensures .0) (c .before .before .carry .ensures)
+    let after-offset2 = c .before .before .before .before in
+    let after-offset = after-offset2 .before in
+    let s = after-offset .before .before in
+    moved-by (s .args .chunks) (s .args .width) (s .args .i) (s .args .o) (after-offset .offset .result) (after-offset2 .offset2 .result)
+    (words (s .args .log .now)) (words (c .before .before .carry .last .0)) (after-offset .offset .ensures .0) (after-offset2 .offset2 .ensures .0)
+    (c .before .before .carry .ensures)
 
 pub carry-cell-spec : {M : Type 1} → statement M
 carry-cell-spec =

@@ -16,19 +16,24 @@ rank-requires c κs = search needs
 
 renumber-requires : tie.Need-renumber-requires
 renumber-requires c κs =
-    let s = c .before .before .before .before .before .before .before .before in
-    let n = c .before .before .before .before .before .read in
-    let r = c .before .before .before .rank in (
+    let after-rank = c .before .before .before in
+    let after-read = after-rank .before .before in
+    let s = after-read .before .before .before in
+    let n = after-read .read in
+    let r = after-rank .rank in (
       (omega arith, omega arith),
       second-requires (s .args .chunks) (s .args .width) (s .args .log .now) (s .pre) (n .result) (n .ensures) (words (r .last .0)) (r .ensures),
     )
 
 pack-requires : tie.Need-pack-requires
 pack-requires c κs =
-    let s = c .before .before .before .before .before .before .before .before .before .before .before .before in
-    let n = c .before .before .before .before .before .before .before .before .before .read in
-    let r = c .before .before .before .before .before .before .before .rank in
-    let m = c .before .before .before .renumber in (
+    let after-renumber = c .before .before .before in
+    let after-rank = after-renumber .before .before .before .before in
+    let after-read = after-rank .before .before in
+    let s = after-read .before .before .before in
+    let n = after-read .read in
+    let r = after-rank .rank in
+    let m = after-renumber .renumber in (
       omega arith,
       omega arith,
       third-requires (s .args .chunks) (s .args .width) (s .args .log .now) (s .pre) (n .result) (n .ensures) (words (r .last .0)) (r .ensures)
@@ -44,14 +49,17 @@ same-length c = search needs
 returns : tie.Need-returns
 unfolding swept
 returns c =
-    let s = c .before .before .before .before .before .before .before .before .before .before .before .before .before .before .before .before .before .before .before in
-    let n = c .before .before .before .before .before .before .before .before .before .before .before .before .before .before .before .before .read in
-    let r = c .before .before .before .before .before .before .before .before .before .before .before .before .before .before .rank in
-    let m = c .before .before .before .before .before .before .before .before .before .before .renumber in
-    let p = c .before .before .before .before .before .before .pack in
-    c .before .before .write .ensures
-    ∙ swept-words (s .args .chunks) (s .args .width) (s .args .log .now) (s .pre) (n .result) (n .ensures) (words (r .last .0)) (r .ensures)
-    (words (m .last .0)) (m .ensures) (words (p .last .0)) (p .result) (p .ensures .0) (p .ensures .1)
+    let after-pack = c .before .before .before .before .before .before in
+    let after-renumber = after-pack .before .before .before .before in
+    let after-rank = after-renumber .before .before .before .before in
+    let after-read = after-rank .before .before in
+    let s = after-read .before .before .before in
+    let n = after-read .read in
+    let r = after-rank .rank in
+    let m = after-renumber .renumber in
+    let p = after-pack .pack in
+    c .before .before .write .ensures ∙ swept-words (s .args .chunks) (s .args .width) (s .args .log .now) (s .pre) (n .result) (n .ensures)
+    (words (r .last .0)) (r .ensures) (words (m .last .0)) (m .ensures) (words (p .last .0)) (p .result) (p .ensures .words) (p .ensures .left)
 
 pub keep-marked-spec : {M : Type 1} → statement M
 keep-marked-spec =

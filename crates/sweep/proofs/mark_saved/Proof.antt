@@ -16,7 +16,8 @@ use Rattle.sweep.proofs.mark_saved.Tie as tie
 
 abbrev Inv-loop : tie.InvT-loop
 Inv-loop log₀ chunks width n i₀ log i =
-    (i ≤ n) × (length log ≡ length log₀) × (words log ≡ write-log chunks (tag (triple-of (read-log chunks width (words log₀))) i (read-log chunks width (words log₀))) (words log₀))
+    (i ≤ n) × (length log ≡ length log₀) × (words log ≡ write-log chunks
+    (tag (triple-of (read-log chunks width (words log₀))) i (read-log chunks width (words log₀))) (words log₀))
 
 abbrev μ-loop : tie.MeasureT-loop
 μ-loop log₀ chunks width n i₀ log i = n - i
@@ -48,7 +49,9 @@ mul-write-2 : tie.Need-mul-write-2 Inv-loop μ-loop
 mul-write-2 c =
     let s = c .before .before .before .before .before .before .before .before in
     let l = c .before .before .before .before .loop in
-    let z = triple-small (s .args .chunks) (s .args .width) (s .args .log .now) (s .pre) (l .i) (c .before .read2 .result) (words (l .log)) (omega arith) (l .inv .2) (c .before .read2 .ensures) in omega arith
+    let z = triple-small (s .args .chunks) (s .args .width) (s .args .log .now) (s .pre) (l .i) (c .before .read2 .result) (words (l .log)) (omega arith)
+    (l .inv .2) (c .before .read2 .ensures) in
+    omega arith
 
 write-requires : tie.Need-write-requires Inv-loop μ-loop
 write-requires c κs = search needs
@@ -61,9 +64,16 @@ loop-less c = search needs
 
 loop-again : tie.Need-loop-again Inv-loop μ-loop
 loop-again c =
-    let s = c .before .before .before .before .before .before .before .before .before .before .before in
-    let l = c .before .before .before .before .before .before .before .loop in
-    (search needs, search needs, c .before .before .write .ensures ∙ rw (add-one (l .i)) (triple-turn (s .args .chunks) (s .args .width) (s .args .log .now) (s .pre) (l .i) (c .before .before .before .before .read2 .result) (words (l .log)) (omega arith) (l .inv .2) (c .before .before .before .before .read2 .ensures)))
+    let after-read2 = c .before .before .before .before in
+    let after-loop = after-read2 .before .before .before in
+    let s = after-loop .before .before .before .before in
+    let l = after-loop .loop in (
+      search needs,
+      search needs,
+      c .before .before .write .ensures
+          ∙ rw (add-one (l .i)) (triple-turn (s .args .chunks) (s .args .width) (s .args .log .now) (s .pre) (l .i)
+          (after-read2 .read2 .result) (words (l .log)) (omega arith) (l .inv .2) (after-read2 .read2 .ensures)),
+    )
 
 same-length : tie.Need-same-length Inv-loop μ-loop
 same-length c = search needs

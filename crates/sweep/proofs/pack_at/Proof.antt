@@ -61,17 +61,31 @@ same-length c = search needs
 
 returns : tie.Need-returns
 returns c =
-    let s = c .before .before .before .before .before .before .before .before .before .before .before .before .before .before .before .before .before .before .before .before .before .before in
-    packed-yes (s .args .chunks) (s .args .width) (s .args .i) (s .args .o) (words (s .args .log .now)) (c .before .before .before .before .before .before .before .before .before .before .before .before .before .before .before .before .before .before .before .read .result) (c .before .before .before .before .before .before .before .before .before .before .before .before .before .before .before .before .before .read2 .result) (c .before .before .before .before .before .before .before .before .before .before .before .before .before .before .before .before .before .before .before .read .ensures) (c .before .before .before .before .before .before .before .before .before .before .before .before .before .before .before .before .before .read2 .ensures) (words (c .before .before .before .before .before .before .before .before .before .before .before .before .before .before .before .write .last .0)) (c .before .before .before .before .before .before .before .before .before .before .before .before .before .before .before .write .ensures)
-    (words (c .before .before .before .before .before .before .before .before .before .before .write2 .last .0)) (words (c .before .before .before .before .before .before .write3 .last .0)) (words (c .before .before .carry-cell .last .0)) (c .before .before .before .before .before .before .before .before .before .before .before .before .if1 .taken) (c .before .before .before .before .before .before .before .before .before .before .write2 .ensures) (c .before .before .before .before .before .before .write3 .ensures) (c .before .before .carry-cell .ensures)
+    let after-write3 = c .before .before .before .before .before .before in
+    let after-write2 = after-write3 .before .before .before .before in
+    let after-if1 = after-write2 .before .before in
+    let after-write = after-if1 .before .before .before in
+    let after-read2 = after-write .before .before in
+    let after-read = after-read2 .before .before in
+    let s = after-read .before .before .before in
+    packed-yes (s .args .chunks) (s .args .width) (s .args .i) (s .args .o) (words (s .args .log .now)) (after-read .read .result)
+    (after-read2 .read2 .result) (after-read .read .ensures) (after-read2 .read2 .ensures) (words (after-write .write .last .0))
+    (after-write .write .ensures) (words (after-write2 .write2 .last .0)) (words (after-write3 .write3 .last .0))
+    (words (c .before .before .carry-cell .last .0)) (after-if1 .if1 .taken) (after-write2 .write2 .ensures) (after-write3 .write3 .ensures)
+    (c .before .before .carry-cell .ensures)
 
 same-length-2 : tie.Need-same-length-2
 same-length-2 c = search needs
 
 returns-2 : tie.Need-returns-2
 returns-2 c =
-    let s = c .before .before .before .before .before .before .before .before .before .before in
-    packed-no (s .args .chunks) (s .args .width) (s .args .i) (s .args .o) (words (s .args .log .now)) (c .before .before .before .before .before .before .before .read .result) (c .before .before .before .before .before .read2 .result) (c .before .before .before .before .before .before .before .read .ensures) (c .before .before .before .before .before .read2 .ensures) (words (c .before .before .before .write .last .0)) (c .before .before .before .write .ensures) (c .if1 .left)
+    let after-write = c .before .before .before in
+    let after-read2 = after-write .before .before in
+    let after-read = after-read2 .before .before in
+    let s = after-read .before .before .before in
+    packed-no (s .args .chunks) (s .args .width) (s .args .i) (s .args .o) (words (s .args .log .now)) (after-read .read .result)
+    (after-read2 .read2 .result) (after-read .read .ensures) (after-read2 .read2 .ensures) (words (after-write .write .last .0))
+    (after-write .write .ensures) (c .if1 .left)
 
 pub pack-at-spec : {M : Type 1} → statement M
 pack-at-spec =

@@ -29,7 +29,8 @@ loop-holds c =
       search needs,
       sym (rank-start (saved-of (read-log (s .args .chunks) (s .args .width) (words (s .args .log .now))))),
       search needs,
-      tag-start (s .args .chunks) (s .args .width) (s .args .log .now) (s .pre .0) (tag-of (read-log (s .args .chunks) (s .args .width) (words (s .args .log .now)))),
+      tag-start (s .args .chunks) (s .args .width) (s .args .log .now) (s .pre .0)
+          (tag-of (read-log (s .args .chunks) (s .args .width) (words (s .args .log .now)))),
     )
 
 mul-read : tie.Need-mul-read Inv-loop μ-loop
@@ -54,16 +55,22 @@ add-write-2 : tie.Need-add-write-2 Inv-loop μ-loop
 add-write-2 c =
     let s = c .before .before .before .before .before .before in
     let l = c .before .before .before .before .loop in
-    let z = rank-small (s .args .chunks) (s .args .width) (s .args .log .now) (s .pre .0) (l .i) (l .m) (c .before .read .result) (words (l .log)) (omega arith) (l .inv .4) (l .inv .2) (c .before .read .ensures) in omega arith
+    let z = rank-small (s .args .chunks) (s .args .width) (s .args .log .now) (s .pre .0) (l .i) (l .m) (c .before .read .result) (words (l .log))
+    (omega arith) (l .inv .4) (l .inv .2) (c .before .read .ensures) in
+    omega arith
 
 write-requires : tie.Need-write-requires Inv-loop μ-loop
 write-requires c κs = search needs
 
 add-m : tie.Need-add-m Inv-loop μ-loop
 add-m c =
-    let s = c .before .before .before .before .before .before .before .before .before in
-    let l = c .before .before .before .before .before .before .before .loop in
-    let z = rank-small (s .args .chunks) (s .args .width) (s .args .log .now) (s .pre .0) (l .i) (l .m) (c .before .before .before .before .read .result) (words (l .log)) (omega arith) (l .inv .4) (l .inv .2) (c .before .before .before .before .read .ensures) in omega arith
+    let after-read = c .before .before .before .before in
+    let after-loop = after-read .before .before .before in
+    let s = after-loop .before .before in
+    let l = after-loop .loop in
+    let z = rank-small (s .args .chunks) (s .args .width) (s .args .log .now) (s .pre .0) (l .i) (l .m) (after-read .read .result) (words (l .log))
+    (omega arith) (l .inv .4) (l .inv .2) (after-read .read .ensures) in
+    omega arith
 
 add-i : tie.Need-add-i Inv-loop μ-loop
 add-i c = search needs
@@ -73,14 +80,21 @@ loop-less c = search needs
 
 loop-again : tie.Need-loop-again Inv-loop μ-loop
 loop-again c =
-    let s = c .before .before .before .before .before .before .before .before .before in
-    let l = c .before .before .before .before .before .before .before .loop in
-    let z = rank-small (s .args .chunks) (s .args .width) (s .args .log .now) (s .pre .0) (l .i) (l .m) (c .before .before .before .before .read .result) (words (l .log)) (omega arith) (l .inv .4) (l .inv .2) (c .before .before .before .before .read .ensures) in (
+    let after-read = c .before .before .before .before in
+    let after-loop = after-read .before .before .before in
+    let s = after-loop .before .before in
+    let l = after-loop .loop in
+    let z = rank-small (s .args .chunks) (s .args .width) (s .args .log .now) (s .pre .0) (l .i) (l .m) (after-read .read .result)
+    (words (l .log)) (omega arith) (l .inv .4) (l .inv .2) (after-read .read .ensures) in (
       search needs,
       search needs,
-      rw (add-one (l .i)) (rank-sum (s .args .chunks) (s .args .width) (s .args .log .now) (s .pre .0) (l .i) (l .m) (c .before .before .before .before .read .result) (words (l .log)) (omega arith) (l .inv .4) (l .inv .2) (c .before .before .before .before .read .ensures)),
+      rw (add-one (l .i)) (rank-sum (s .args .chunks) (s .args .width) (s .args .log .now) (s .pre .0) (l .i) (l .m)
+          (after-read .read .result) (words (l .log)) (omega arith) (l .inv .4) (l .inv .2)
+          (after-read .read .ensures)),
       omega arith,
-      c .before .before .write .ensures ∙ rw (add-one (l .i)) (rank-turn (s .args .chunks) (s .args .width) (s .args .log .now) (s .pre .0) (l .i) (l .m) (c .before .before .before .before .read .result) (words (l .log)) (omega arith) (l .inv .4) (l .inv .2) (c .before .before .before .before .read .ensures)),
+      c .before .before .write .ensures ∙ rw (add-one (l .i))
+          (rank-turn (s .args .chunks) (s .args .width) (s .args .log .now) (s .pre .0) (l .i) (l .m) (after-read .read .result)
+          (words (l .log)) (omega arith) (l .inv .4) (l .inv .2) (after-read .read .ensures)),
     )
 
 same-length : tie.Need-same-length Inv-loop μ-loop

@@ -15,7 +15,8 @@ use Rattle.sweep.proofs.renumber.Tie as tie
 
 abbrev Inv-loop : tie.InvT-loop
 Inv-loop log₀ chunks width n o₀ j₀ log o j =
-    (j ≤ n) × (length log ≡ length log₀) × (o ≡ length (pick-first chunks (words log₀) j)) × (words log ≡ put-positions chunks (pick-first chunks (words log₀) j) (words log₀))
+    (j ≤ n) × (length log ≡ length log₀) × (o ≡ length (pick-first chunks (words log₀) j))
+    × (words log ≡ put-positions chunks (pick-first chunks (words log₀) j) (words log₀))
 
 abbrev μ-loop : tie.MeasureT-loop
 μ-loop log₀ chunks width n o₀ j₀ log o j = n - j
@@ -26,7 +27,8 @@ loop-holds c =
       search needs,
       search needs,
       zero-picked (s .args .chunks) (words (s .args .log .now)),
-      renum-start (s .args .chunks) (s .args .width) (words (s .args .log .now)) (counted (s .args .log .now) (1 + 3 * s .args .chunks + s .args .chunks * s .args .width) (s .pre .0 .1)),
+      renum-start (s .args .chunks) (s .args .width) (words (s .args .log .now))
+          (counted (s .args .log .now) (1 + 3 * s .args .chunks + s .args .chunks * s .args .width) (s .pre .0 .1)),
     )
 
 renumber-at-requires : tie.Need-renumber-at-requires Inv-loop μ-loop
@@ -35,8 +37,12 @@ renumber-at-requires c κs =
     let l = c .before .before .loop in
     let h : position-at (s .args .chunks) (words (s .args .log .now)) (l .j) < s .args .n = s .pre .1 (l .j) (omega arith) in
     let hp : position-at (s .args .chunks) (words (s .args .log .now)) (l .j) < s .args .chunks = omega arith in
-    let e = renum-pos (s .args .chunks) (s .args .width) (words (s .args .log .now)) (counted (s .args .log .now) (1 + 3 * s .args .chunks + s .args .chunks * s .args .width) (s .pre .0 .1)) (l .j) (omega arith) hp (words (l .log)) (l .o) (l .inv .3) (l .inv .2) in
-    let z = renum-low (s .args .chunks) (s .args .width) (words (s .args .log .now)) (counted (s .args .log .now) (1 + 3 * s .args .chunks + s .args .chunks * s .args .width) (s .pre .0 .1)) (l .j) (omega arith) hp (words (l .log)) (l .o) (l .inv .3) (l .inv .2) in
+    let e = renum-pos (s .args .chunks) (s .args .width) (words (s .args .log .now))
+    (counted (s .args .log .now) (1 + 3 * s .args .chunks + s .args .chunks * s .args .width) (s .pre .0 .1)) (l .j) (omega arith) hp (words (l .log))
+    (l .o) (l .inv .3) (l .inv .2) in
+    let z = renum-low (s .args .chunks) (s .args .width) (words (s .args .log .now))
+    (counted (s .args .log .now) (1 + 3 * s .args .chunks + s .args .chunks * s .args .width) (s .pre .0 .1)) (l .j) (omega arith) hp (words (l .log))
+    (l .o) (l .inv .3) (l .inv .2) in
     (omega arith, omega arith, rw e hp, omega arith)
 
 add-j : tie.Need-add-j Inv-loop μ-loop
@@ -47,14 +53,19 @@ loop-less c = search needs
 
 loop-again : tie.Need-loop-again Inv-loop μ-loop
 loop-again c =
-    let s = c .before .before .before .before .before .before .before in
-    let l = c .before .before .before .before .before .loop in
+    let after-loop = c .before .before .before .before .before in
+    let s = after-loop .before .before in
+    let l = after-loop .loop in
     let h : position-at (s .args .chunks) (words (s .args .log .now)) (l .j) < s .args .n = s .pre .1 (l .j) (omega arith) in
     let hp : position-at (s .args .chunks) (words (s .args .log .now)) (l .j) < s .args .chunks = omega arith in (
       search needs,
       search needs,
-      rw (add-one (l .j)) (renum-next (s .args .chunks) (s .args .width) (words (s .args .log .now)) (counted (s .args .log .now) (1 + 3 * s .args .chunks + s .args .chunks * s .args .width) (s .pre .0 .1)) (l .j) (omega arith) hp (words (l .log)) (l .o) (l .inv .3) (l .inv .2) (c .before .before .renumber-at .result) (c .before .before .renumber-at .ensures .1)),
-      rw (add-one (l .j)) (renum-turn (s .args .chunks) (s .args .width) (words (s .args .log .now)) (counted (s .args .log .now) (1 + 3 * s .args .chunks + s .args .chunks * s .args .width) (s .pre .0 .1)) (l .j) (omega arith) hp (words (l .log)) (l .o) (l .inv .3) (l .inv .2) (words (c .before .before .renumber-at .last .0)) (c .before .before .renumber-at .ensures .0)),
+      rw (add-one (l .j)) (renum-next (s .args .chunks) (s .args .width) (words (s .args .log .now))
+          (counted (s .args .log .now) (1 + 3 * s .args .chunks + s .args .chunks * s .args .width) (s .pre .0 .1)) (l .j) (omega arith) hp (words (l .log))
+          (l .o) (l .inv .3) (l .inv .2) (c .before .before .renumber-at .result) (c .before .before .renumber-at .ensures .next)),
+      rw (add-one (l .j)) (renum-turn (s .args .chunks) (s .args .width) (words (s .args .log .now))
+          (counted (s .args .log .now) (1 + 3 * s .args .chunks + s .args .chunks * s .args .width) (s .pre .0 .1)) (l .j) (omega arith) hp (words (l .log))
+          (l .o) (l .inv .3) (l .inv .2) (words (c .before .before .renumber-at .last .0)) (c .before .before .renumber-at .ensures .words)),
     )
 
 same-length : tie.Need-same-length Inv-loop μ-loop

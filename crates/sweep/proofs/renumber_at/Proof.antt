@@ -46,8 +46,13 @@ same-length c = search needs
 
 returns : tie.Need-returns
 returns c =
-    let s = c .before .before .before .before .before .before .before .before .before .before in
-    numbered-yes (s .args .chunks) (s .args .j) (s .args .o) (words (s .args .log .now)) (c .before .before .before .before .before .before .before .read .result) (c .before .before .before .before .before .read2 .result) (c .before .before .before .before .before .before .before .read .ensures) (c .before .before .before .before .before .read2 .ensures) (words (c .before .before .write .last .0)) (c .before .before .before .before .if1 .taken) (c .before .before .write .ensures)
+    let after-if1 = c .before .before .before .before in
+    let after-read2 = after-if1 .before in
+    let after-read = after-read2 .before .before in
+    let s = after-read .before .before .before in
+    numbered-yes (s .args .chunks) (s .args .j) (s .args .o) (words (s .args .log .now)) (after-read .read .result) (after-read2 .read2 .result)
+    (after-read .read .ensures) (after-read2 .read2 .ensures) (words (c .before .before .write .last .0)) (after-if1 .if1 .taken)
+    (c .before .before .write .ensures)
 
 same-length-2 : tie.Need-same-length-2
 same-length-2 c = search needs
@@ -55,7 +60,8 @@ same-length-2 c = search needs
 returns-2 : tie.Need-returns-2
 returns-2 c =
     let s = c .before .before .before .before .before .before in
-    numbered-no (s .args .chunks) (s .args .j) (s .args .o) (words (s .args .log .now)) (c .before .before .before .read .result) (c .before .read2 .result) (c .before .before .before .read .ensures) (c .before .read2 .ensures) (c .if1 .left)
+    numbered-no (s .args .chunks) (s .args .j) (s .args .o) (words (s .args .log .now)) (c .before .before .before .read .result)
+    (c .before .read2 .result) (c .before .before .before .read .ensures) (c .before .read2 .ensures) (c .if1 .left)
 
 pub renumber-at-spec : {M : Type 1} → statement M
 renumber-at-spec =

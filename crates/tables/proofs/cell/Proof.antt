@@ -25,7 +25,8 @@ returns c =
     let s = c .before .before .before in
     let w = words (s .args .t .now) in
     c .read .ensures ∙ rw (c .before .offset .ensures .0)
-    (word-at (s .args .width) (s .args .most) w (length-words (s .args .t .now) ∙ omega arith) (s .pre .0 .few) (s .args .i) (s .args .j) (s .pre .1 .0) (s .pre .1 .1))
+    (word-at (s .args .width) (s .args .most) w (length-words (s .args .t .now) ∙ omega arith) (s .pre .0 .few) (s .args .i) (s .args .j) (s .pre .1 .0)
+    (s .pre .1 .1))
 
 pub cell-spec : {M : Type 1} → statement M
 cell-spec = tie.close (tie.spec offset-requires add-read add-read-2 read-requires returns)

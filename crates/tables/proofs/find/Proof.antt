@@ -24,17 +24,25 @@ read-requires-2 c κs = search needs
 
 returns : tie.Need-returns
 returns c =
-    let s = c .before .before .before .before .before .before .before in
-    let e : first-at (s .args .width) (words (s .args .t .now)) (c .before .before .before .before .before .place .result) ≡ c .before .read2 .result =
+    let after-read = c .before .before .before .before in
+    let after-place = after-read .before in
+    let s = after-place .before .before in
+    let e : first-at (s .args .width) (words (s .args .t .now)) (after-place .place .result) ≡ c .before .read2 .result =
     sym (c .before .read2 .ensures ∙ rw (c .before .before .offset .ensures .0)) in
-    record { in-use = omega (arith, c .before .before .before .before .read .ensures); same = e ∙ c .if2 .taken; place = c .before .before .before .before .before .place .ensures }
+    record {
+      in-use = omega (arith, after-read .read .ensures);
+      same = e
+          ∙ c .if2 .taken;
+      place = after-place .place .ensures;
+    }
 
 returns-2 : tie.Need-returns-2
 returns-2 c =
-    let s = c .before .before .before .before .before .before .before in
-    let e : first-at (s .args .width) (words (s .args .t .now)) (c .before .before .before .before .before .place .result) ≡ c .before .read2 .result =
+    let after-place = c .before .before .before .before .before in
+    let s = after-place .before .before in
+    let e : first-at (s .args .width) (words (s .args .t .now)) (after-place .place .result) ≡ c .before .read2 .result =
     sym (c .before .read2 .ensures ∙ rw (c .before .before .offset .ensures .0)) in
-    record { place = c .before .before .before .before .before .place .ensures; other = λ _ q. c .if2 .left (sym e ∙ q) }
+    record { place = after-place .place .ensures; other = λ _ q. c .if2 .left (sym e ∙ q) }
 
 returns-3 : tie.Need-returns-3
 returns-3 c = search needs

@@ -29,8 +29,11 @@ add-move-up-3 c = search needs
 
 sub-move-up : tie.Need-sub-move-up
 sub-move-up c =
-    let h : c .before .before .before .before .before .before .before .args .p ≤ c .before .before .before .read .result = omega (arith, c .before .before .before .read .ensures, c .before .before .before .before .before .before .before .pre .1 .0) in
-    let m = mul-le-mul-right (c .before .before .before .before .before .before .before .args .width) h in omega arith
+    let after-read = c .before .before .before in
+    let after-args = after-read .before .before .before .before in
+    let h : after-args .args .p ≤ after-read .read .result = omega (arith, after-read .read .ensures, after-args .pre .1 .0) in
+    let m = mul-le-mul-right (after-args .args .width) h in
+    omega arith
 
 move-up-requires : tie.Need-move-up-requires
 move-up-requires c κs = search needs
@@ -52,14 +55,19 @@ same-length c = search needs
 
 returns : tie.Need-returns
 returns c =
-    let s = c .before .before .before .before .before .before .before .before .before .before .before .before .before .before .before .before .before .before in
-    let n = c .before .before .before .before .before .before .before .before .before .before .before .before .before .before .read in
-    let a = c .before .before .before .before .before .before .before .before .before .before .before .before .before .offset in
-    let e = c .before .before .before .before .before .before .before .before .before .before .before .before .offset2 in
+    let after-put-words = c .before .before .before .before .before .before in
+    let after-move-up = after-put-words .before .before .before .before in
+    let after-offset2 = after-move-up .before .before in
+    let after-offset = after-offset2 .before in
+    let after-read = after-offset .before in
+    let s = after-read .before .before .before .before in
+    let n = after-read .read in
+    let a = after-offset .offset in
+    let e = after-offset2 .offset2 in
     inserted (s .args .width) (s .args .most) (words (s .args .t .now)) (length-words (s .args .t .now) ∙ omega arith) (s .pre .0 .few) (s .args .p)
-    (a .result) (e .result) (n .result) (s .args .list .now) (words (c .before .before .before .before .before .before .before .before .before .before .move-up .last .0)) (words (c .before .before .before .before .before .before .put-words .last .0))
+    (a .result) (e .result) (n .result) (s .args .list .now) (words (after-move-up .move-up .last .0)) (words (after-put-words .put-words .last .0))
     (words (c .before .before .write .last .0)) (s .pre .1 .0) (s .pre .1 .1) (s .pre .1 .2) (n .ensures) (a .ensures .0) (e .ensures .0)
-    (c .before .before .before .before .before .before .before .before .before .before .move-up .ensures) (c .before .before .before .before .before .before .put-words .ensures) (c .before .before .write .ensures)
+    (after-move-up .move-up .ensures) (after-put-words .put-words .ensures) (c .before .before .write .ensures)
 
 pub insert-row-spec : {M : Type 1} → statement M
 insert-row-spec =

@@ -29,7 +29,8 @@ loop-holds c = (search needs, search needs, below-none _)
 add-loop : tie.Need-add-loop Inv-loop μ-loop
 add-loop c =
     let s = c .before .before .before in
-    let m = mul-le-mul-left (s .args .most) (s .pre .1) in omega arith
+    let m = mul-le-mul-left (s .args .most) (s .pre .1) in
+    omega arith
 
 offset-requires : tie.Need-offset-requires Inv-loop μ-loop
 offset-requires c κs = search needs
@@ -55,12 +56,17 @@ read-requires-3 c κs = search needs
 returns : tie.Need-returns Inv-loop μ-loop
 unfolding ascends
 returns c =
-    let s = c .before .before .before .before .before .before .before .before .before in
+    let after-offset2 = c .before .before .before in
+    let after-offset = after-offset2 .before in
+    let after-loop = after-offset .before .before in
+    let s = after-loop .before .before .before in
     let w = words (s .args .t .now) in
-    let l = c .before .before .before .before .before .before .loop in
-    let a : c .before .read3 .result ≡ first-at (s .args .width) w (l .i) = c .before .read3 .ensures ∙ rw (c .before .before .before .before .offset .ensures .0) in
-    let b : c .before .before .read2 .result ≡ first-at (s .args .width) w (l .i + 1) = c .before .before .read2 .ensures ∙ rw (c .before .before .before .offset2 .ensures .0) in
-    sym (all-false (getD w 0 0 - 1) (rises-at (s .args .width) w) (l .i) (omega arith) (le-ltb (first-at (s .args .width) w (l .i)) (first-at (s .args .width) w (l .i + 1)) (rw (← a, ← b) (c .if1 .taken))))
+    let l = after-loop .loop in
+    let a : c .before .read3 .result ≡ first-at (s .args .width) w (l .i) = c .before .read3 .ensures ∙ rw (after-offset .offset .ensures .0) in
+    let b : c .before .before .read2 .result ≡ first-at (s .args .width) w (l .i + 1) = c .before .before .read2 .ensures ∙ rw
+    (after-offset2 .offset2 .ensures .0) in
+    sym (all-false (getD w 0 0 - 1) (rises-at (s .args .width) w) (l .i) (omega arith)
+    (le-ltb (first-at (s .args .width) w (l .i)) (first-at (s .args .width) w (l .i + 1)) (rw (← a, ← b) (c .if1 .taken))))
 
 add-i : tie.Need-add-i Inv-loop μ-loop
 add-i c = search needs
@@ -70,14 +76,20 @@ loop-less c = search needs
 
 loop-again : tie.Need-loop-again Inv-loop μ-loop
 loop-again c =
-    let s = c .before .before .before .before .before .before .before .before .before in
+    let after-offset2 = c .before .before .before in
+    let after-offset = after-offset2 .before in
+    let after-loop = after-offset .before .before in
+    let s = after-loop .before .before .before in
     let w = words (s .args .t .now) in
-    let l = c .before .before .before .before .before .before .loop in
-    let a : c .before .read3 .result ≡ first-at (s .args .width) w (l .i) = c .before .read3 .ensures ∙ rw (c .before .before .before .before .offset .ensures .0) in
-    let b : c .before .before .read2 .result ≡ first-at (s .args .width) w (l .i + 1) = c .before .before .read2 .ensures ∙ rw (c .before .before .before .offset2 .ensures .0) in (
+    let l = after-loop .loop in
+    let a : c .before .read3 .result ≡ first-at (s .args .width) w (l .i) = c .before .read3 .ensures
+    ∙ rw (after-offset .offset .ensures .0) in
+    let b : c .before .before .read2 .result ≡ first-at (s .args .width) w (l .i + 1) = c .before .before .read2 .ensures
+    ∙ rw (after-offset2 .offset2 .ensures .0) in (
       search needs,
       search needs,
-      below-more (λ k. rises-at (s .args .width) w k ≡ true) (l .i) (l .inv .2) (lt-ltb (first-at (s .args .width) w (l .i)) (first-at (s .args .width) w (l .i + 1)) (rw (← a, ← b) (c .if1 .left))),
+      below-more (λ k. rises-at (s .args .width) w k ≡ true) (l .i) (l .inv .2)
+          (lt-ltb (first-at (s .args .width) w (l .i)) (first-at (s .args .width) w (l .i + 1)) (rw (← a, ← b) (c .if1 .left))),
     )
 
 returns-2 : tie.Need-returns-2 Inv-loop μ-loop

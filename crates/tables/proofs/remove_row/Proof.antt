@@ -34,7 +34,8 @@ sub-move-down : tie.Need-sub-move-down
 sub-move-down c =
     let s = c .before .before .before .before .before .before in
     let h : s .args .p ≤ c .before .before .before .read .result - 1 = omega (arith, c .before .before .before .read .ensures, s .pre .1) in
-    let m = mul-le-mul-right (s .args .width) h in omega arith
+    let m = mul-le-mul-right (s .args .width) h in
+    omega arith
 
 move-down-requires : tie.Need-move-down-requires
 move-down-requires c κs = search needs
@@ -47,12 +48,17 @@ same-length c = search needs
 
 returns : tie.Need-returns
 returns c =
-    let s = c .before .before .before .before .before .before .before .before .before .before .before .before .before in
-    let a = c .before .before .before .before .before .before .before .before .before .offset in
-    let e = c .before .before .before .before .before .before .before .before .offset2 in
+    let after-move-down = c .before .before .before .before .before .before in
+    let after-offset2 = after-move-down .before .before in
+    let after-offset = after-offset2 .before in
+    let after-read = after-offset .before in
+    let s = after-read .before .before .before in
+    let a = after-offset .offset in
+    let e = after-offset2 .offset2 in
     removed (s .args .width) (s .args .most) (words (s .args .t .now)) (length-words (s .args .t .now) ∙ omega arith) (s .pre .0 .few) (s .args .p)
-    (a .result) (e .result) (c .before .before .before .before .before .before .before .before .before .before .read .result - 1) (words (c .before .before .before .before .before .before .move-down .last .0)) (words (c .before .before .write .last .0)) (s .pre .1)
-    (omega (arith, c .before .before .before .before .before .before .before .before .before .before .read .ensures, s .pre .1)) (a .ensures .0) (e .ensures .0) (c .before .before .before .before .before .before .move-down .ensures) (c .before .before .write .ensures)
+    (a .result) (e .result) (after-read .read .result - 1) (words (after-move-down .move-down .last .0)) (words (c .before .before .write .last .0))
+    (s .pre .1) (omega (arith, after-read .read .ensures, s .pre .1)) (a .ensures .0) (e .ensures .0) (after-move-down .move-down .ensures)
+    (c .before .before .write .ensures)
 
 pub remove-row-spec : {M : Type 1} → statement M
 remove-row-spec =

@@ -26,21 +26,23 @@ returns c =
 mul-same-words : tie.Need-mul-same-words
 mul-same-words c =
     let s = c .before .before .before .before .before in
-    let m : c .before .before .read .result * s .args .width ≤ s .args .most * s .args .width =
-    mul-le-mul-right (s .args .width) (omega (arith, c .before .before .read .ensures, s .pre .0 .few)) in omega arith
+    let m : c .before .before .read .result * s .args .width ≤ s .args .most * s .args .width = mul-le-mul-right (s .args .width)
+    (omega (arith, c .before .before .read .ensures, s .pre .0 .few)) in
+    omega arith
 
 same-words-requires : tie.Need-same-words-requires
 same-words-requires c κs =
     let s = c .before .before .before .before .before in
-    let m : c .before .before .read .result * s .args .width ≤ s .args .most * s .args .width =
-    mul-le-mul-right (s .args .width) (omega (arith, c .before .before .read .ensures, s .pre .0 .few)) in (omega arith, omega arith)
+    let m : c .before .before .read .result * s .args .width ≤ s .args .most * s .args .width = mul-le-mul-right (s .args .width)
+    (omega (arith, c .before .before .read .ensures, s .pre .0 .few)) in
+    (omega arith, omega arith)
 
 returns-2 : tie.Need-returns-2
 unfolding same-rows _and_
 returns-2 c =
     let s = c .before .before .before .before .before .before in
-    let e : getD (words (s .args .a .now)) 0 0 ≡ getD (words (s .args .b .now)) 0 0 =
-    sym (c .before .before .before .read .ensures) ∙ c .before .if1 .left ∙ c .before .before .read2 .ensures in
+    let e : getD (words (s .args .a .now)) 0 0 ≡ getD (words (s .args .b .now)) 0 0 = sym (c .before .before .before .read .ensures) ∙ c .before .if1 .left
+    ∙ c .before .before .read2 .ensures in
     c .same-words .ensures ∙ rw (c .before .before .before .read .ensures, eq-eqb _ _ e)
 
 pub same-spec : {M : Type 1} → statement M

@@ -38,7 +38,8 @@ returns c =
     let i = c .before .before .before .before .loop .i in
     let x = words (s .args .a .now) in
     let y = words (s .args .b .now) in
-    sym (all-false (s .args .n) (same-at x y) i (omega arith) (ne-eqb _ _ (λ e. c .if1 .taken (c .before .before .read .ensures ∙ e ∙ sym (c .before .read2 .ensures)))))
+    sym (all-false (s .args .n) (same-at x y) i (omega arith)
+    (ne-eqb _ _ (λ e. c .if1 .taken (c .before .before .read .ensures ∙ e ∙ sym (c .before .read2 .ensures)))))
 
 add-i : tie.Need-add-i Inv-loop μ-loop
 add-i c = search needs
@@ -53,7 +54,8 @@ loop-again c =
     let x = words (s .args .a .now) in
     let y = words (s .args .b .now) in (
       search needs,
-      below-more (λ k. same-at x y k ≡ true) (l .i) (l .inv .1) (eq-eqb _ _ (sym (c .before .before .read .ensures) ∙ c .if1 .left ∙ c .before .read2 .ensures)),
+      below-more (λ k. same-at x y k ≡ true) (l .i) (l .inv .1)
+          (eq-eqb _ _ (sym (c .before .before .read .ensures) ∙ c .if1 .left ∙ c .before .read2 .ensures)),
     )
 
 returns-2 : tie.Need-returns-2 Inv-loop μ-loop

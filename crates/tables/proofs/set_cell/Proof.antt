@@ -27,9 +27,8 @@ returns : tie.Need-returns
 returns c =
     let s = c .before .before .before .before .before .before in
     let w = words (s .args .t .now) in
-    c .before .before .write .ensures
-    ∙ word-set (s .args .width) (s .args .most) w (length-words (s .args .t .now) ∙ omega arith) (s .pre .0 .few) (s .args .i) (s .args .j) (s .args .v) _
-    (s .pre .1 .0) (s .pre .1 .1) (rw (c .before .before .before .offset .ensures .0))
+    c .before .before .write .ensures ∙ word-set (s .args .width) (s .args .most) w (length-words (s .args .t .now) ∙ omega arith) (s .pre .0 .few)
+    (s .args .i) (s .args .j) (s .args .v) _ (s .pre .1 .0) (s .pre .1 .1) (rw (c .before .before .before .offset .ensures .0))
 
 pub set-cell-spec : {M : Type 1} → statement M
 set-cell-spec =

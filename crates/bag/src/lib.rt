@@ -1,0 +1,85 @@
+// The bag in a lent slice, in 64-bit words: a count, then at most 64 relays (view, bucket, order number, block, key), oldest first.
+ghost use mathlib.Core.Path.{_≡_};
+ghost use mathlib.Core.List.{[], _∷_, _++_};
+ghost use Prim.Native.Nat.{_<_};
+ghost use lib.ListN.{length, getD};
+ghost use Rattle.words.specs.Words.{words};
+ghost use Rattle.rules.specs.Limits.{max-relays};
+ghost use Rattle.rules.specs.Maps.{remove-at};
+ghost use Rattle.tables.specs.Tables.{IsTable};
+ghost use Rattle.bag.specs.Relays.{relay-words, relay, relay-at, change-relays};
+
+// words in a row, and relays that the bag holds at most
+const RELAY_WORDS: usize = 5;
+
+const MAX_RELAYS: usize = 64;
+// what the words of a row are
+const VIEW: usize = 0;
+
+const BUCKET: usize = 1;
+
+const ORDER: usize = 2;
+
+const BLOCK: usize = 3;
+
+const KEY: usize = 4;
+
+pub fn view_at(t: &[u8], i: usize) -> u64
+    requires { ⌜ IsTable relay-words max-relays (words (now t)) (length (now t)) ⌝ }
+    requires { ⌜ i < getD (words (now t)) 0 0 ⌝ }
+    ensures { λ r. ⌜ r ≡ relay-at (words (now (t .entry))) i .view ⌝ }
+{
+    tables::cell(t, RELAY_WORDS, MAX_RELAYS, i, VIEW)
+}
+
+pub fn bucket_at(t: &[u8], i: usize) -> u64
+    requires { ⌜ IsTable relay-words max-relays (words (now t)) (length (now t)) ⌝ }
+    requires { ⌜ i < getD (words (now t)) 0 0 ⌝ }
+    ensures { λ r. ⌜ r ≡ relay-at (words (now (t .entry))) i .bucket ⌝ }
+{
+    tables::cell(t, RELAY_WORDS, MAX_RELAYS, i, BUCKET)
+}
+
+pub fn order_at(t: &[u8], i: usize) -> u64
+    requires { ⌜ IsTable relay-words max-relays (words (now t)) (length (now t)) ⌝ }
+    requires { ⌜ i < getD (words (now t)) 0 0 ⌝ }
+    ensures { λ r. ⌜ r ≡ relay-at (words (now (t .entry))) i .order ⌝ }
+{
+    tables::cell(t, RELAY_WORDS, MAX_RELAYS, i, ORDER)
+}
+
+pub fn block_at(t: &[u8], i: usize) -> u64
+    requires { ⌜ IsTable relay-words max-relays (words (now t)) (length (now t)) ⌝ }
+    requires { ⌜ i < getD (words (now t)) 0 0 ⌝ }
+    ensures { λ r. ⌜ r ≡ relay-at (words (now (t .entry))) i .block ⌝ }
+{
+    tables::cell(t, RELAY_WORDS, MAX_RELAYS, i, BLOCK)
+}
+
+pub fn key_at(t: &[u8], i: usize) -> u64
+    requires { ⌜ IsTable relay-words max-relays (words (now t)) (length (now t)) ⌝ }
+    requires { ⌜ i < getD (words (now t)) 0 0 ⌝ }
+    ensures { λ r. ⌜ r ≡ relay-at (words (now (t .entry))) i .key ⌝ }
+{
+    tables::cell(t, RELAY_WORDS, MAX_RELAYS, i, KEY)
+}
+
+// A relay more, as the youngest.
+pub fn append(t: &mut [u8], view: u64, bucket: u64, order: u64, block: u64, key: u64)
+    requires { ⌜ IsTable relay-words max-relays (words (now t)) (length (now t)) ⌝ }
+    requires { ⌜ getD (words (now t)) 0 0 < max-relays ⌝ }
+    ensures { λ _. ⌜ words (now (t .exit)) ≡ change-relays (λ l. l ++ relay view bucket order block key ∷ []) (words (now (t .entry))) ⌝ }
+{
+    let n = words::read(t, 0) as usize;
+    let row = [view, bucket, order, block, key];
+    tables::insert_row(t, RELAY_WORDS, MAX_RELAYS, n, &row);
+}
+
+// The relay at an index leaves the bag.
+pub fn remove(t: &mut [u8], i: usize)
+    requires { ⌜ IsTable relay-words max-relays (words (now t)) (length (now t)) ⌝ }
+    requires { ⌜ i < getD (words (now t)) 0 0 ⌝ }
+    ensures { λ _. ⌜ words (now (t .exit)) ≡ change-relays (λ l. remove-at l i) (words (now (t .entry))) ⌝ }
+{
+    tables::remove_row(t, RELAY_WORDS, MAX_RELAYS, i)
+}
