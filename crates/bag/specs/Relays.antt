@@ -1,35 +1,22 @@
 -- The bag in words: a table whose rows are relays (view, bucket, order number, block, key), oldest first.
-use mathlib.Core.List.{List, [], _∷_}
+use mathlib.Core.List.{List}
 use Prim.Native.Nat.{ℕ}
 use lib.ListN.{getD}
-use Rattle.rules.specs.Limits.{max-relays}
+use Rattle.lists.specs.Rows.{table-dec, table-enc}
 use Rattle.rules.specs.State.{Relay, blank-relay}
-use Rattle.tables.specs.Tables.{table-words, table-dec, table-enc}
+use Rattle.layout.specs.Disk.{relay-row}
 
 -- words in a row
 abbrev pub relay-words : ℕ
-relay-words = 5
-
--- words in the bag
-abbrev pub bag-words : ℕ
-bag-words = table-words relay-words max-relays
-
-abbrev pub relay : ℕ → ℕ → ℕ → ℕ → ℕ → Relay
-relay v g o b k = record { view = v; bucket = g; order = o; block = b; key = k }
-
-abbrev pub relay-of : List ℕ → Relay
-relay-of r = relay (getD r 0 0) (getD r 1 0) (getD r 2 0) (getD r 3 0) (getD r 4 0)
-
-abbrev pub row-of : Relay → List ℕ
-row-of r = r .view ∷ r .bucket ∷ r .order ∷ r .block ∷ r .key ∷ []
+relay-words = relay-row .size
 
 -- the relays that words hold
 unfoldable pub relays : List ℕ → List Relay
-relays ws = table-dec relay-words relay-of ws
+relays ws = table-dec relay-words (relay-row .read) ws
 
 -- relays written over words
 unfoldable pub write-relays : List Relay → List ℕ → List ℕ
-write-relays l ws = table-enc relay-words row-of l ws
+write-relays l ws = table-enc relay-words (relay-row .write) l ws
 
 -- a bag's words with its relays changed
 abbrev pub change-relays : (List Relay → List Relay) → List ℕ → List ℕ

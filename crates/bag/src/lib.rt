@@ -7,12 +7,11 @@ ghost use Rattle.words.specs.Words.{words};
 ghost use Rattle.rules.specs.Limits.{max-relays};
 ghost use Rattle.rules.specs.Maps.{remove-at};
 ghost use Rattle.tables.specs.Tables.{IsTable};
-ghost use Rattle.bag.specs.Relays.{relay-words, relay, relay-at, change-relays};
+ghost use Rattle.layout.specs.Disk.{relay};
+ghost use Rattle.bag.specs.Relays.{relay-words, relay-at, change-relays};
+use layout::sizes::RELAY_WORDS;
+use rules::constants::MAX_RELAYS;
 
-// words in a row, and relays that the bag holds at most
-const RELAY_WORDS: usize = 5;
-
-const MAX_RELAYS: usize = 64;
 // what the words of a row are
 const VIEW: usize = 0;
 

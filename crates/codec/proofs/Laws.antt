@@ -1,12 +1,15 @@
 -- Every way of laying values out keeps the number of words, and writing the same value twice is writing it once.
 use mathlib.Core.Path.{_≡_, refl, sym, ap, _∙_}
 use mathlib.Core.List.{List, [], _∷_, _++_}
-use Prim.Native.Nat.{ℕ, zero, suc, _+_, _*_}
-use native.Mathlib.Nat.{suc-mul, zero-mul, add-comm}
+use Prim.Native.Nat.{ℕ, zero, suc, _+_, _*_, _≤_}
+use native.Mathlib.Nat.{suc-mul, zero-mul, mul-le-mul-right}
 use native.Mathlib.Omega.{arith}
-use lib.ListN.{length, take, drop, length-append, length-drop}
+use lib.ListN.{length, take, drop, length-append, length-drop, length-take}
 use lib.Seq.{take-at, drop-at, length-take-le}
-use Rattle.codec.specs.Codec.{Codec, Two, word, flag, Reading, via, enc-two, _then_, enc-many, many, over, table, enc-slot, slot}
+use Rattle.lists.specs.Runs.{enc-all, Sized, none, more}
+use Rattle.lists.specs.Rows.{over-rows}
+use Rattle.lists.proofs.Runs.{length-enc-all}
+use Rattle.codec.specs.Codec.{Codec, Two, word, flag, Reading, via, enc-two, _then_, enc-many, many, Row, table, enc-slot, slot}
 
 pub record Lawful {A : Type 0} (c : Codec A) : Type 0 where
   pub keeps : (a : A) (w : List ℕ) → length w ≡ c .size → length (c .enc a w) ≡ c .size
@@ -115,53 +118,45 @@ pub many-law : {A : Type 0} {c : Codec A} (n : ℕ) (blank : A) → Lawful c →
 many-law {c = c} n blank l = record { keeps = many-keeps c l n; idem = many-idem c l n }
 
 -- ---- a table
-module _ {A : Type 0} (c : Codec A) where
-  module _ (n : ℕ) (w : List ℕ) (h : length w ≡ suc n * c .size) where
-    rest : length w ≡ n * c .size + c .size
-    rest = rw suc-mul at h
-
-    pub over-left : length (take (c .size) w) ≡ c .size
-    over-left = length-take-le (c .size) w (omega (arith, rest))
-
-    pub over-right : length (drop (c .size) w) ≡ n * c .size
-    over-right = length-drop (c .size) w ∙ omega (arith, rest)
-
-  module _ (law : Lawful c) where
-    pub over-keeps : (n : ℕ) (l : List A) (w : List ℕ) → length w ≡ n * c .size → length (over c n l w) ≡ n * c .size
-    unfolding over
-    over-keeps zero l w h = h
-    over-keeps (suc n) [] w h = h
-    over-keeps (suc n) (x ∷ l) w h =
-        rw (
-          length-append,
-          law .keeps x (take (c .size) w) (over-left n w h),
-          over-keeps n l (drop (c .size) w) (over-right n w h),
-          suc-mul,
-          add-comm (n * c .size) (c .size),
-        )
-
-    over-idem : (n : ℕ) (l : List A) (w : List ℕ) → length w ≡ n * c .size → over c n l (over c n l w) ≡ over c n l w
-    unfolding over
-    over-idem zero l w h = refl
-    over-idem (suc n) [] w h = refl
-    over-idem (suc n) (x ∷ l) w h =
-        let k = law .keeps x (take (c .size) w) (over-left n w h) in
-        rw (
-          take-at (c .enc x (take (c .size) w)) (over c n l (drop (c .size) w)) (c .size) k,
-          drop-at (c .enc x (take (c .size) w)) (over c n l (drop (c .size) w)) (c .size) k,
-          law .idem x (take (c .size) w) (over-left n w h),
-          over-idem n l (drop (c .size) w) (over-right n w h),
-        )
+-- what a row holds is read from its words, and the other way round
+pub record Exact {A : Type 0} (r : Row A) : Type 0 where
+  pub sized : (a : A) → length (r .write a) ≡ r .size
+  pub back : (a : A) → r .read (r .write a) ≡ a
+  pub exact : (w : List ℕ) → length w ≡ r .size → r .write (r .read w) ≡ w
 
 -- the words after the first
 pub rest-length : (n : ℕ) (w : List ℕ) → length w ≡ 1 + n → length (drop 1 w) ≡ n
 rest-length n w h = length-drop 1 w ∙ omega arith
 
-pub table-law : {A : Type 0} {c : Codec A} (most : ℕ) → Lawful c → Lawful (table most c)
-table-law {c = c} most law = record {
-  keeps = λ l w h. omega (arith, over-keeps c law most l (drop 1 w) (rest-length (most * c .size) w h));
-  idem = λ l w h. ap (λ (v : List ℕ). length l ∷ v) (over-idem c law most l (drop 1 w) (rest-length (most * c .size) w h));
-}
+module _ {A : Type 0} {r : Row A} (x : Exact r) where
+  pub all-sized : (l : List A) → Sized (r .write) (r .size) l
+  all-sized [] = none
+  all-sized (a ∷ l) = more (x .sized a) (all-sized l)
+
+  module _ (most : ℕ) (l : List A) (w : List ℕ) (h : length w ≡ most * r .size) where
+    -- rows cut to at most so many
+    abbrev cut : List A
+    cut = take most l
+
+    cut-words : length (enc-all (r .write) cut) ≡ length cut * r .size
+    cut-words = length-enc-all (r .write) (r .size) (all-sized cut)
+
+    cut-few : length cut * r .size ≤ most * r .size
+    cut-few = mul-le-mul-right (r .size) (rw length-take (omega arith))
+
+    over-keeps : length (over-rows (r .size) (r .write) cut w) ≡ most * r .size
+    over-keeps = let f = cut-few in rw (length-append, cut-words, length-drop, h) (omega arith)
+
+    over-idem : over-rows (r .size) (r .write) cut (over-rows (r .size) (r .write) cut w) ≡ over-rows (r .size) (r .write) cut w
+    over-idem =
+        ap (λ (v : List ℕ). enc-all (r .write) cut ++ v)
+        (drop-at (enc-all (r .write) cut) (drop (length cut * r .size) w) (length cut * r .size) cut-words)
+
+  pub table-law : (most : ℕ) → Lawful (table most r)
+  table-law most = record {
+    keeps = λ l w h. omega (arith, over-keeps most l (drop 1 w) (rest-length (most * r .size) w h));
+    idem = λ l w h. ap (λ (v : List ℕ). length l ∷ v) (over-idem most l (drop 1 w) (rest-length (most * r .size) w h));
+  }
 
 -- ---- a slot
 module _ {A : Type 0} (c : Codec A) (law : Lawful c) where

@@ -1,17 +1,17 @@
--- What code that writes values one after the other leaves: a loop over many values, a table as one list of rows, a table copied over another.
+-- What code that writes values one after the other leaves: a loop over many values, two values, a table.
 use mathlib.Core.Path.{_≡_, refl, sym, ap, _∙_}
 use mathlib.Core.List.{List, [], _∷_, _++_, append-assoc, append-nil}
-use Prim.Native.Nat.{ℕ, zero, suc, _+_, _*_, _≤_, _<_}
-use native.Mathlib.Nat.{suc-mul, zero-mul, add-comm, add-zero, not-suc-le-zero, le-of-suc-le-suc, mul-le-mul-right}
+use Prim.Native.Nat.{ℕ, suc, _+_, _*_, _≤_, _<_}
+use native.Mathlib.Nat.{suc-mul, zero-mul, add-zero, not-suc-le-zero}
 use native.Mathlib.Omega.{arith}
-use lib.ListN.{length, take, drop, getD, set, length-drop}
-use lib.Seq.{take-at, drop-at, drop-drop, drop-length, take-length, take-add, length-take-le}
+use lib.ListN.{length, take, drop, set}
+use lib.Seq.{take-at, drop-at, take-all, take-nil, drop-drop, drop-length, take-length, take-add, length-take-le}
 use Rattle.lists.specs.Runs.{run, on-run, part, enc-all}
+use Rattle.lists.specs.Rows.{table-enc}
 use Rattle.lists.proofs.Runs.{fits-in, run-length, on-right, on-length, on-by, on-twice, on-within}
-use Rattle.codec.specs.Codec.{Codec, Two, enc-two, enc-many, rows, over, table}
-use Rattle.codec.proofs.Laws.{Lawful, two-is, two-left, two-right, many-none, many-last, many-keeps, over-left, over-right, rest-length}
+use Rattle.codec.specs.Codec.{Codec, Two, enc-two, enc-many, Row, table}
+use Rattle.codec.proofs.Laws.{Lawful, two-is, two-left, two-right, many-none, many-last, many-keeps}
 use Rattle.codec.proofs.Focus.{on-whole}
-use Rattle.codec.proofs.Round.{CleanIf, Any, length-rows}
 
 -- ---- what a loop over n values has written after i turns: the first i values, and past them what was there
 unfoldable pub written : {A : Type 0} → Codec A → ℕ → (ℕ → A) → List ℕ → List ℕ
@@ -92,73 +92,13 @@ module _ {A B : Type 0} (c : Codec A) (d : Codec B) (l : Lawful c) (x : Two A B)
       ∙ ap (on-run (a + c .size) (d .size) (d .enc (x .snd)))
       (on-within a n 0 (c .size) (c .enc (x .fst)) w h (omega arith) ∙ ap (λ (o : ℕ). on-run o (c .size) (c .enc (x .fst)) w) (add-zero a))
 
--- ---- a table emptied: its count alone is written
-over-nil : {A : Type 0} (c : Codec A) (m : ℕ) (w : List ℕ) → over c m [] w ≡ w
-unfolding over
-over-nil c zero w = refl
-over-nil c (suc m) w = refl
+-- ---- a table: at most so many rows written, and none
+module _ {A : Type 0} (r : Row A) (most : ℕ) where
+  pub table-is : (l : List A) (w : List ℕ) → length l ≤ most → table most r .enc l w ≡ table-enc (r .size) (r .write) l w
+  unfolding table-enc
+  table-is l w h = rw (take-all most l h)
 
-pub table-cleared : {A : Type 0} (c : Codec A) (most : ℕ) (w : List ℕ) → 0 < length w → table most c .enc [] w ≡ set w 0 0
-table-cleared c most [] h = absurd (not-suc-le-zero h)
-table-cleared c most (x ∷ w) h = ap (λ (v : List ℕ). 0 ∷ v) (over-nil c most w)
-
--- ---- rows that fill their words: what is written does not depend on what was there
-pub record Plain {A : Type 0} (c : Codec A) : Type 0 where
-  pub row : A → List ℕ
-  pub writes : (a : A) (w : List ℕ) → length w ≡ c .size → c .enc a w ≡ row a
-  pub any : CleanIf c Any
-
-module _ {A : Type 0} (c : Codec A) (plain : Plain c) where
-  -- rows written one after the other, and past them what was there
-  over-is : (most : ℕ) (l : List A) (w : List ℕ) → length l ≤ most → length w ≡ most * c .size
-      → over c most l w ≡ enc-all (plain .row) l ++ drop (length l * c .size) w
-  unfolding over enc-all
-  over-is zero [] w h g = rw zero-mul
-  over-is zero (x ∷ l) w h g = absurd (not-suc-le-zero h)
-  over-is (suc m) [] w h g = rw zero-mul
-  over-is (suc m) (x ∷ l) w h g =
-      rw (
-        plain .writes x (take (c .size) w) (over-left c m w g),
-        over-is m l (drop (c .size) w) (le-of-suc-le-suc h) (over-right c m w g),
-        drop-drop (length l * c .size) (c .size) w,
-        suc-mul (length l) (c .size),
-        add-comm (length l * c .size) (c .size),
-        append-assoc,
-      )
-
-  -- a table's words are its count, its rows one after the other, and what was there
-  pub table-is : (most : ℕ) (l : List A) (w : List ℕ) → length l ≤ most → length w ≡ 1 + most * c .size
-      → table most c .enc l w ≡ length l ∷ (enc-all (plain .row) l ++ drop (length l * c .size) (drop 1 w))
-  table-is most l w h g = ap (λ (v : List ℕ). length l ∷ v) (over-is most l (drop 1 w) h (rest-length (most * c .size) w g))
-
-  -- the rows read are the words of the rows
-  pub rows-are : (n : ℕ) (w : List ℕ) → n * c .size ≤ length w → enc-all (plain .row) (rows c n w) ≡ take (n * c .size) w
-  unfolding rows enc-all
-  rows-are zero w h = rw zero-mul
-  rows-are (suc n) w h =
-      let g : n * c .size + c .size ≤ length w = rw suc-mul at h in
-      let t : length (take (c .size) w) ≡ c .size = length-take-le (c .size) w (omega arith) in
-      let one : plain .row (c .dec (take (c .size) w)) ≡ take (c .size) w =
-      sym (plain .writes (c .dec (take (c .size) w)) (take (c .size) w) t) ∙ plain .any .clean (take (c .size) w) t tt in
-      rw (
-        one,
-        rows-are n (drop (c .size) w) (rw length-drop (omega arith)),
-        suc-mul n (c .size),
-        add-comm (n * c .size) (c .size),
-        take-add (c .size) (n * c .size) w,
-      )
-
-  -- the table in w copied over the words v: the count and the rows in use
-  pub table-copy : (most : ℕ) (w v : List ℕ) → getD w 0 0 ≤ most → length w ≡ 1 + most * c .size → length v ≡ 1 + most * c .size
-      → table most c .enc (table most c .dec w) v ≡ take (1 + getD w 0 0 * c .size) w ++ drop (1 + getD w 0 0 * c .size) v
-  table-copy most w v h g l =
-      let n = getD w 0 0 in
-      let r : length (rows c n (drop 1 w)) ≡ n = length-rows c n (drop 1 w) in
-      let few : n * c .size ≤ length (drop 1 w) = rw (rest-length (most * c .size) w g) (mul-le-mul-right (c .size) h) in
-      table-is most (rows c n (drop 1 w)) v (rw r h) l
-      ∙ rw (r, rows-are n (drop 1 w) few, drop-drop (n * c .size) 1 v, take-add 1 (n * c .size) w)
-      (ap (λ (x : List ℕ). x ++ drop (1 + n * c .size) v) (one w (take (n * c .size) (drop 1 w)) (omega arith)))
-    where
-      one : (w x : List ℕ) → 0 < length w → getD w 0 0 ∷ x ≡ take 1 w ++ x
-      one [] x p = absurd (not-suc-le-zero p)
-      one (y ∷ w) x p = refl
+  pub table-cleared : (w : List ℕ) → 0 < length w → table most r .enc [] w ≡ set w 0 0
+  unfolding enc-all
+  table-cleared [] h = absurd (not-suc-le-zero h)
+  table-cleared (x ∷ w) h = rw (take-nil {A = A} most, zero-mul (r .size))

@@ -1,21 +1,23 @@
 -- There and back, for each way of laying values out: which words are clean, and which values are read back.
 use mathlib.Core.Path.{_≡_, refl, sym, ap, _∙_, fun-ext}
-use mathlib.Core.List.{List, [], _∷_, List·Memᴰ, List·Memᴰ·head, List·Memᴰ·tail}
+use mathlib.Core.List.{List, [], _∷_, List·Memᴰ}
 use mathlib.Core.Bool.{Bool, true, false, cond}
 use Prim.Native.Nat.{ℕ, zero, suc, _+_, _*_, _≤_, _<_}
-use native.Mathlib.Nat.{suc-mul, zero-mul, add-zero, not-suc-le-zero, le-of-suc-le-suc}
+use native.Mathlib.Nat.{suc-mul, zero-mul, add-zero, le-refl, le-of-lt, mul-le-mul-right}
 use native.Mathlib.Omega.{arith}
 use lib.Dec.{eqb, lit<}
 use borrow.Author.Tests.{lt-ltb}
 use lib.ListN.{length, take, drop, getD, take-append-drop}
-use lib.Seq.{take-at, drop-at, drop-cons, getD-take, getD-drop}
+use lib.Seq.{take-at, drop-at, take-all, drop-cons, getD-take, getD-drop}
 use Rattle.lists.specs.Runs.{run, part, Below, none, more}
+use Rattle.lists.specs.Rows.{rows, over-rows, table-dec}
 use Rattle.lists.proofs.Tests.{by-eq, by-lt}
-use Rattle.lists.proofs.Runs.{fits-in, run-length, run-front, run-all, below-append, below-take, below-drop}
+use Rattle.lists.proofs.Runs.{fits-in, run-length, run-front, run-all, below-append, below-take, below-drop, below-enc-all}
+use Rattle.lists.proofs.Rows.{length-rows, rows-take, enc-rows, rows-back}
 use Rattle.codec.specs.Codec.{Codec, Clean, Fits, word-limit, word, flag, Reading, via, Two, enc-two, _then_, enc-many, many}
-use Rattle.codec.specs.Codec.{rows, over, table, enc-slot, slot}
+use Rattle.codec.specs.Codec.{Row, table, enc-slot, slot}
 use Rattle.codec.proofs.Laws.{Lawful, two-is, two-left, two-right, two-take, two-drop, many-none, many-last, many-left, many-right}
-use Rattle.codec.proofs.Laws.{over-left, over-right, rest-length}
+use Rattle.codec.proofs.Laws.{Exact, all-sized, rest-length}
 use Rattle.codec.proofs.Focus.{Focus, part-of, clean-part, nth, slot-none, slot-some}
 
 -- ---- words that are clean: where something holds of them, or whatever they hold
@@ -91,27 +93,26 @@ clean-many {c = c} n blank k = record {
       many-clean c n (many n blank c .dec w) w h (λ i p. rw (lt-ltb i n p) (k .clean (part (c .size) i w) (part-long (c .size) n i w p h) (e i p)));
 }
 
-module _ {A : Type 0} (c : Codec A) where
-  pub length-rows : (n : ℕ) (w : List ℕ) → length (rows c n w) ≡ n
-  unfolding rows
-  length-rows zero w = refl
-  length-rows (suc n) w = ap suc (length-rows n (drop (c .size) w))
+-- a table is clean whatever its words are; a count of more rows than there are names all of them
+module _ {A : Type 0} {r : Row A} (x : Exact r) (most : ℕ) where
+  rows-clean : (n k : ℕ) (w : List ℕ) → length w ≡ most * r .size → k ≤ most → take most (rows (r .size) (r .read) n w) ≡ rows (r .size) (r .read) k w
+      → over-rows (r .size) (r .write) (take most (rows (r .size) (r .read) n w)) w ≡ w
+  rows-clean n k w h few e =
+      let i : k * r .size ≤ length w = rw h (mul-le-mul-right (r .size) few) in
+      rw (e, length-rows (r .size) (r .read) k w, enc-rows (r .size) (r .read) (r .write) (x .exact) k w i) (take-append-drop (k * r .size) w)
 
-  rows-clean : CleanIf c Any → (most n : ℕ) (w : List ℕ) → length w ≡ most * c .size → over c most (rows c n w) w ≡ w
-  unfolding over rows
-  rows-clean k zero zero w h = refl
-  rows-clean k zero (suc n) w h = refl
-  rows-clean k (suc m) zero w h = refl
-  rows-clean k (suc m) (suc n) w h =
-      rw (k .clean (take (c .size) w) (over-left c m w h) tt, rows-clean k m n (drop (c .size) w) (over-right c m w h)) (take-append-drop (c .size) w)
+  any-rows : (n : ℕ) (w : List ℕ) → length w ≡ most * r .size → over-rows (r .size) (r .write) (take most (rows (r .size) (r .read) n w)) w ≡ w
+  any-rows n w h =
+      by-lt most n (λ _ l. rows-clean n most w h (le-refl most) (rows-take (r .size) (r .read) most n w (le-of-lt l)))
+      (λ _ l. rows-clean n n w h l (take-all most (rows (r .size) (r .read) n w) (rw (length-rows (r .size) (r .read) n w) l)))
 
--- rows that are clean whatever they hold make such a table
-pub clean-table : {A : Type 0} {c : Codec A} (most : ℕ) → CleanIf c Any → CleanIf (table most c) Any
-clean-table {c = c} most k = record {
-  clean = λ w h _.
-      rw (length-rows c (getD w 0 0) (drop 1 w), rows-clean c k most (getD w 0 0) (drop 1 w) (rest-length (most * c .size) w h))
-      (sym (drop-cons w 0 0 (omega arith)));
-}
+  pub clean-table : CleanIf (table most r) Any
+  unfolding table-dec
+  clean-table = record {
+    clean = λ w h _.
+        rw (length-rows (r .size) (r .read) (getD w 0 0) (drop 1 w), any-rows (getD w 0 0) (drop 1 w) (rest-length (most * r .size) w h))
+        (sym (drop-cons w 0 0 (omega arith)));
+  }
 
 -- the words of an empty slot are not in use
 pub clean-slot : {A : Type 0} {c : Codec A} {P : List ℕ → Type 0} (blank : A) → CleanIf c P → CleanIf (slot blank c) (λ w. 0 < getD w 0 0 → P (drop 1 w))
@@ -171,33 +172,15 @@ module _ {A : Type 0} (c : Codec A) (law : Lawful c) where
           (λ q p. rw q (ap (c .dec) (part-of (nth law n blank i p) f w h (λ j s z. refl)) ∙ e i p .back (part (c .size) i w) (part-long (c .size) n i w p h)))
           (λ q p. rw q (sym (b i p)))
 
-  rows-back : (most : ℕ) (l : List A) (w : List ℕ) → length l ≤ most → length w ≡ most * c .size → ((x : A) → List·Memᴰ x l → Fits c x)
-      → rows c (length l) (over c most l w) ≡ l
-  unfolding over rows
-  rows-back most [] w h g e = refl
-  rows-back zero (x ∷ l) w h g e = absurd (not-suc-le-zero h)
-  rows-back (suc m) (x ∷ l) w h g e =
-      let k = law .keeps x (take (c .size) w) (over-left c m w g) in
-      rw (
-        take-at (c .enc x (take (c .size) w)) (over c m l (drop (c .size) w)) (c .size) k,
-        drop-at (c .enc x (take (c .size) w)) (over c m l (drop (c .size) w)) (c .size) k,
-        e x (List·Memᴰ·head refl) .back (take (c .size) w) (over-left c m w g),
-        rows-back m l (drop (c .size) w) (le-of-suc-le-suc h) (over-right c m w g) (λ y p. e y (List·Memᴰ·tail p)),
-      )
-
-  over-small : (most : ℕ) (l : List A) (w : List ℕ) → length w ≡ most * c .size → ((x : A) → List·Memᴰ x l → Fits c x) → Below word-limit w
-      → Below word-limit (over c most l w)
-  unfolding over
-  over-small zero l w g e b = b
-  over-small (suc m) [] w g e b = b
-  over-small (suc m) (x ∷ l) w g e b =
-      below-append (e x (List·Memᴰ·head refl) .small (take (c .size) w) (over-left c m w g) (below-take (c .size) b))
-      (over-small m l (drop (c .size) w) (over-right c m w g) (λ y p. e y (List·Memᴰ·tail p)) (below-drop (c .size) b))
-
-  pub fits-table : (most : ℕ) (l : List A) → most < word-limit → length l ≤ most → ((x : A) → List·Memᴰ x l → Fits c x) → Fits (table most c) l
+module _ {A : Type 0} {r : Row A} (x : Exact r) where
+  pub fits-table : (most : ℕ) (l : List A) → most < word-limit → length l ≤ most → ((a : A) → List·Memᴰ a l → Below word-limit (r .write a)) → Fits (table most r) l
+  unfolding table-dec
   fits-table most l m h e = record {
-    back = λ w g. rows-back most l (drop 1 w) h (rest-length (most * c .size) w g) e;
-    small = λ w g b. more {b = length l} (omega arith) (over-small most l (drop 1 w) (rest-length (most * c .size) w g) e (below-drop 1 b));
+    back = λ w g.
+        rw (take-all most l h) (rows-back (r .size) (r .read) (r .write) (x .back) (all-sized x l) (drop (length l * r .size) (drop 1 w)));
+    small = λ w g b.
+        rw (take-all most l h)
+        (more {b = length l} (omega arith) (below-append (below-enc-all (r .write) l e) (below-drop (length l * r .size) (below-drop 1 b))));
   }
 
 module _ {A : Type 0} (c : Codec A) where

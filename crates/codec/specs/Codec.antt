@@ -7,6 +7,7 @@ use Prim.Native.Nat.{ℕ, zero, suc, _+_, _*_, _^_}
 use lib.Dec.{ltb, eqb}
 use lib.ListN.{length, take, drop, getD}
 use Rattle.lists.specs.Runs.{part, Below}
+use Rattle.lists.specs.Rows.{over-rows, table-words, table-dec}
 
 pub record Codec (A : Type 0) : Type 0 where
   pub size : ℕ
@@ -16,6 +17,10 @@ pub record Codec (A : Type 0) : Type 0 where
 -- these words are what writing their value over them gives
 abbrev pub Clean : {A : Type 0} → Codec A → List ℕ → Type 0
 Clean c w = c .enc (c .dec w) w ≡ w
+
+-- words with the value that they hold changed
+abbrev pub change : {A : Type 0} → Codec A → (A → A) → List ℕ → List ℕ
+change c f w = c .enc (f (c .dec w)) w
 
 -- a word has 64 bits
 abbrev pub word-limit : ℕ
@@ -69,21 +74,18 @@ enc-many c (suc n) f w = enc-many c n f (take (n * c .size) w) ++ c .enc (f n) (
 abbrev pub many : {A : Type 0} → ℕ → A → Codec A → Codec (ℕ → A)
 many n blank c = record { size = n * c .size; dec = λ w i. cond (ltb i n) (c .dec (part (c .size) i w)) blank; enc = enc-many c n }
 
+-- ---- a row: a value that fills its words
+pub record Row (A : Type 0) : Type 0 where
+  pub size : ℕ
+  pub read : List ℕ → A
+  pub write : A → List ℕ
+
 -- ---- a count and rows, at most so many; rows past the count keep what they hold
-unfoldable pub rows : {A : Type 0} → Codec A → ℕ → List ℕ → List A
-rows c zero w = []
-rows c (suc n) w = c .dec (take (c .size) w) ∷ rows c n (drop (c .size) w)
-
-unfoldable pub over : {A : Type 0} → Codec A → ℕ → List A → List ℕ → List ℕ
-over c zero l w = w
-over c (suc n) [] w = w
-over c (suc n) (x ∷ l) w = c .enc x (take (c .size) w) ++ over c n l (drop (c .size) w)
-
-abbrev pub table : {A : Type 0} → ℕ → Codec A → Codec (List A)
-table most c = record {
-  size = 1 + most * c .size;
-  dec = λ w. rows c (getD w 0 0) (drop 1 w);
-  enc = λ l w. length l ∷ over c most l (drop 1 w);
+abbrev pub table : {A : Type 0} → ℕ → Row A → Codec (List A)
+table most r = record {
+  size = table-words (r .size) most;
+  dec = table-dec (r .size) (r .read);
+  enc = λ l w. length l ∷ over-rows (r .size) (r .write) (take most l) (drop 1 w);
 }
 
 -- ---- an id and, where it is not 0, a value; under id 0 the words are not in use

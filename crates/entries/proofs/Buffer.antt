@@ -11,7 +11,8 @@ use Rattle.lists.specs.Tests.{only}
 use Rattle.lists.proofs.Tests.{by}
 use Rattle.rules.specs.Numbers.{bucket-of}
 use Rattle.rules.specs.Entries.{waits-for}
-use Rattle.tables.specs.Tables.{table-dec, row, first-at, kept, sifting}
+use Rattle.lists.specs.Rows.{table-dec, row}
+use Rattle.tables.specs.Tables.{first-at, kept, sifting}
 use Rattle.tables.proofs.Changes.{word-at, kept-few, sift-read, sift-yes, sift-no, sift-end, kept-next}
 use Rattle.entries.specs.Words.{entries-words, entries, write-entries}
 use Rattle.entries.specs.Steps.{sifted, stays}

@@ -11,60 +11,62 @@ use lib.ListN.{length, getD, take, drop, set}
 use lib.Seq.{getD-take, getD-drop, ext-getD}
 use borrow.Author.Tests.{ltb-true, lt-ltb, eqb-true, eq-eqb}
 use Rattle.lists.specs.Tests.{_and_, _or_, all-below, only}
-use Rattle.lists.specs.Runs.{run, on-run, enc-all, Sized, none, more}
+use Rattle.lists.specs.Runs.{run, on-run, enc-all}
 use Rattle.lists.proofs.Tests.{by-eq, by-lt, same-test, both, and-l, and-r, all-true, all-at}
 use Rattle.lists.proofs.Runs.{run-length, on-by}
-use Rattle.lists.proofs.Ascending.{rising-from}
 use Rattle.rules.specs.Entries.{Entry, entry, look, has, insert, remove, takes, ascending}
 use Rattle.rules.specs.Sound.{same-entries}
-use Rattle.tables.specs.Tables.{table-dec, table-enc, row, insert-at, remove-at, first-at, rises-at, ascends, same-at, same-rows, Sorted, Place, HereAt, GapAt}
-use Rattle.tables.proofs.Rows.{row-at, enc-rows, in-rows, table-clean, table-back, table-over, table-keeps, count-cons}
-use Rattle.tables.proofs.Typed.{typed, typed-rows, typed-length, typed-insert, typed-append, typed-remove, typed-only, typed-at, typed-set}
-use Rattle.entries.specs.Words.{entries-words, entry-of, row-of, entries, write-entries, entry-at}
+use Rattle.lists.specs.Rows.{table-dec, table-enc, row}
+use Rattle.tables.specs.Tables.{insert-at, remove-at, first-at, same-at, same-rows, Sorted, Place, HereAt, GapAt}
+use Rattle.lists.proofs.Rows.{row-at, enc-rows, in-rows, count-cons}
+use Rattle.codec.proofs.Loops.{table-is}
+use Rattle.tables.proofs.Typed.{typed, typed-back, typed-over, typed-keeps, typed-clean, typed-rows, typed-length, typed-insert, typed-append, typed-remove, typed-only, typed-at, typed-set}
+use Rattle.entries.specs.Words.{entries-words, entries, write-entries, entry-at}
+use Rattle.layout.specs.Disk.{entry-row}
+use Rattle.layout.specs.Layout.{entries-codec}
+use Rattle.layout.proofs.Codecs.{entry-exact}
 use Rattle.entries.proofs.Sorted.{look-at, look-none, has-at, has-none, insert-gap, insert-here, remove-none, remove-here}
 use Rattle.entries.proofs.Sorted.{ascending-of, ascending-rises, same-self, same-is}
 
--- ---- a row and its entry
-pub exact : (r : List ℕ) → length r ≡ 2 → row-of (entry-of r) ≡ r
-exact [] h = let z : _≡_ {A = ℕ} 0 1 = omega arith in absurd (omega arith)
-exact (a ∷ []) h = let z : _≡_ {A = ℕ} 0 1 = omega arith in absurd (omega arith)
-exact (a ∷ b ∷ []) h = refl
-exact (a ∷ b ∷ c ∷ r) h = let z : _≡_ {A = ℕ} 0 1 = omega arith in absurd (omega arith)
+-- ---- as the layout's codec reads and writes them
+pub entries-read : (most : ℕ) (ws : List ℕ) → entries ws ≡ entries-codec most .dec ws
+unfolding entries
+entries-read most ws = refl
 
-pub sized-entries : (l : List Entry) → Sized row-of 2 l
-sized-entries [] = none
-sized-entries (e ∷ l) = more refl (sized-entries l)
+pub entries-written : (most : ℕ) (l : List Entry) (ws : List ℕ) → length l ≤ most → write-entries l ws ≡ entries-codec most .enc l ws
+unfolding write-entries
+entries-written most l ws h = sym (table-is entry-row most l ws h)
 
 module _ (most : ℕ) (ws : List ℕ) (hl : length ws ≡ entries-words most) where
   -- ---- written and read
   pub entries-back : (l : List Entry) → entries (write-entries l ws) ≡ l
   unfolding entries write-entries
-  entries-back l = table-back 2 most ws hl entry-of row-of (λ a. refl) (sized-entries l)
+  entries-back l = typed-back entry-exact most ws hl l
 
   -- over fewer entries
   pub entries-over : (k l : List Entry) → length k ≤ length l → write-entries l (write-entries k ws) ≡ write-entries l ws
   unfolding write-entries
-  entries-over k l h = table-over 2 most ws hl entry-of row-of (sized-entries k) l h
+  entries-over k l h = typed-over entry-exact most ws hl k l h
 
   pub entries-keeps : (l : List Entry) → length l ≤ most → length (write-entries l ws) ≡ length ws
   unfolding write-entries
-  entries-keeps l h = table-keeps 2 most ws hl entry-of row-of (sized-entries l) h
+  entries-keeps l h = typed-keeps entry-exact most ws hl l h
 
   module _ (few : getD ws 0 0 ≤ most) where
     pub entries-clean : write-entries (entries ws) ws ≡ ws
     unfolding entries write-entries
-    entries-clean = table-clean 2 most ws hl entry-of row-of exact few
+    entries-clean = typed-clean entry-exact most ws hl few
 
     pub entries-length : length (entries ws) ≡ getD ws 0 0
     unfolding entries
-    entries-length = typed-length 2 entry-of row-of exact most ws hl few
+    entries-length = typed-length entry-exact most ws hl few
 
     pub at-words : (i : ℕ) → i < getD ws 0 0 → entry-at (entries ws) i ≡ entry (getD ws (1 + i * 2) 0) (getD ws (2 + i * 2) 0)
     unfolding entries table-dec
     at-words i h =
         let e : 1 + (i * 2 + 1) ≡ 2 + i * 2 = omega arith in
         let z : i * 2 + 0 ≡ i * 2 = omega arith in
-        row-at 2 entry-of (getD ws 0 0) i (drop 1 ws) (entry 0 0) h
+        row-at 2 (entry-row .read) (getD ws 0 0) i (drop 1 ws) (entry 0 0) h
         ∙ rw (
           getD-take 2 (drop (i * 2) (drop 1 ws)) 0 0 (omega arith),
           getD-take 2 (drop (i * 2) (drop 1 ws)) 1 0 (omega arith),
@@ -85,24 +87,24 @@ module _ (most : ℕ) (ws : List ℕ) (hl : length ws ≡ entries-words most) wh
     -- ---- rows put in, set, taken out, kept
     pub put-row : (p b k : ℕ) → table-enc 2 row (insert-at p (b ∷ k ∷ []) (table-dec 2 row ws)) ws ≡ write-entries (insert-at p (entry b k) (entries ws)) ws
     unfolding entries write-entries
-    put-row p b k = typed-insert 2 entry-of row-of exact most ws hl few p (entry b k)
+    put-row p b k = typed-insert entry-exact most ws hl few p (entry b k)
 
     pub set-key : (p k : ℕ) → p < getD ws 0 0
         → table-enc 2 row (set (table-dec 2 row ws) p (set (getD (table-dec 2 row ws) p []) 1 k)) ws
         ≡ write-entries (set (entries ws) p (entry (entry-at (entries ws) p .block) k)) ws
     unfolding entries write-entries
     set-key p k h =
-        let l = table-dec 2 entry-of ws in
-        rw (typed-at 2 entry-of row-of exact most ws hl few p (entry 0 0) h) (typed-set 2 entry-of row-of exact most ws hl few p (entry (entry-at l p .block) k))
+        let l = table-dec 2 (entry-row .read) ws in
+        rw (typed-at entry-exact most ws hl few p (entry 0 0) h) (typed-set entry-exact most ws hl few p (entry (entry-at l p .block) k))
 
     pub drop-row : (p : ℕ) → table-enc 2 row (remove-at p (table-dec 2 row ws)) ws ≡ write-entries (remove-at p (entries ws)) ws
     unfolding entries write-entries
-    drop-row p = typed-remove 2 entry-of row-of exact most ws hl few p
+    drop-row p = typed-remove entry-exact most ws hl few p
 
-    pub keep-rows : (test : List ℕ → Bool) (p : Entry → Bool) → ((e : Entry) → test (row-of e) ≡ p e)
+    pub keep-rows : (test : List ℕ → Bool) (p : Entry → Bool) → ((e : Entry) → test (entry-row .write e) ≡ p e)
         → table-enc 2 row (only test (table-dec 2 row ws)) ws ≡ write-entries (only p (entries ws)) ws
     unfolding entries write-entries
-    keep-rows test p e = typed-only 2 entry-of row-of exact most ws hl few test p e
+    keep-rows test p e = typed-only entry-exact most ws hl few test p e
 
 -- ---- a sorted table
 module _ (most : ℕ) (ws : List ℕ) (len : ℕ) (hl : length ws ≡ entries-words most) (s : Sorted 2 most ws len) where
@@ -179,17 +181,6 @@ module _ (most : ℕ) (ws : List ℕ) (hl : length ws ≡ entries-words most) (f
       rw (block-at most ws hl few i (omega arith), block-at most ws hl few j h) at
       (ascending-rises 0 (entries ws) y i j p (rw (entries-length most ws hl few) h))
 
-  pub ascending-is : ascends 2 ws ≡ ascending 0 (entries ws)
-  unfolding ascends
-  ascending-is =
-      same-test (all-below (getD ws 0 0 - 1) (rises-at 2 ws)) (ascending 0 (entries ws))
-      (λ y. let up = rising-from (first-at 2 ws) (getD ws 0 0)
-      (λ i h. ltb-true (first-at 2 ws i) (first-at 2 ws (i + 1)) (all-at (getD ws 0 0 - 1) (rises-at 2 ws) y i h)) in
-      ascending-of 0 (entries ws) (λ i h. omega arith) (λ i j p h. let q : j < getD ws 0 0 = rw (entries-length most ws hl few) at h in
-      rw (block-at most ws hl few i (omega arith), block-at most ws hl few j q) (up i j p q)))
-      (λ y. all-true (getD ws 0 0 - 1) (rises-at 2 ws) (λ i h. lt-ltb (first-at 2 ws i) (first-at 2 ws (i + 1))
-      (rises-of y i (i + 1) (omega arith) (omega arith))))
-
 module _ (most : ℕ) (ws vs : List ℕ) (hl : length ws ≡ entries-words most) (hv : length vs ≡ entries-words most) (few : getD ws 0 0 ≤ most)
     (fewv : getD vs 0 0 ≤ most) where
   words-same : getD ws 0 0 ≡ getD vs 0 0 → all-below (getD ws 0 0 * 2) (same-at ws vs) ≡ true → entries ws ≡ entries vs
@@ -207,8 +198,8 @@ module _ (most : ℕ) (ws vs : List ℕ) (hl : length ws ≡ entries-words most)
   entries-same e i h =
       let n : getD ws 0 0 ≡ getD vs 0 0 = sym (entries-length most ws hl few) ∙ ap length e ∙ entries-length most vs hv fewv in
       let t : take (getD ws 0 0 * 2) (drop 1 ws) ≡ take (getD vs 0 0 * 2) (drop 1 vs) =
-      sym (enc-rows 2 entry-of row-of exact (getD ws 0 0) (drop 1 ws) (in-rows 2 most ws hl few)) ∙ ap (enc-all row-of) e
-      ∙ enc-rows 2 entry-of row-of exact (getD vs 0 0) (drop 1 vs) (in-rows 2 most vs hv fewv) in
+      sym (enc-rows 2 (entry-row .read) (entry-row .write) (entry-exact .exact) (getD ws 0 0) (drop 1 ws) (in-rows 2 most ws hl few)) ∙ ap (enc-all (entry-row .write)) e
+      ∙ enc-rows 2 (entry-row .read) (entry-row .write) (entry-exact .exact) (getD vs 0 0) (drop 1 vs) (in-rows 2 most vs hv fewv) in
       let g : getD (take (getD ws 0 0 * 2) (drop 1 ws)) i 0 ≡ getD (take (getD vs 0 0 * 2) (drop 1 vs)) i 0 = ap (λ (l : List ℕ). getD l i 0) t in
       eq-eqb _ _ (sym (getD-take (getD ws 0 0 * 2) (drop 1 ws) i 0 h ∙ getD-drop 1 ws i 0) ∙ g
       ∙ getD-take (getD vs 0 0 * 2) (drop 1 vs) i 0 (omega arith) ∙ getD-drop 1 vs i 0)
@@ -239,7 +230,7 @@ no-entries most ws hl = ap (λ (v : List ℕ). set v 0 0) (count-cons ws (omega 
 pub append-leaves : (most : ℕ) (ws : List ℕ) (hl : length ws ≡ entries-words most) (few : getD ws 0 0 ≤ most) (n b k : ℕ) → n ≡ getD ws 0 0
     → table-enc 2 row (insert-at n (b ∷ k ∷ []) (table-dec 2 row ws)) ws ≡ write-entries (entries ws ++ entry b k ∷ []) ws
 unfolding entries write-entries
-append-leaves most ws hl few n b k e = typed-append 2 entry-of row-of exact most ws hl few n (entry b k) e
+append-leaves most ws hl few n b k e = typed-append entry-exact most ws hl few n (entry b k) e
 
 -- ---- a table copied over another
 pub copy-leaves : (most from to : ℕ) (ws : List ℕ) → from + entries-words most ≤ length ws → getD ws from 0 ≤ most
@@ -250,8 +241,8 @@ copy-leaves most from to ws h few =
     let t = run from (entries-words most) ws in
     let l : length t ≡ entries-words most = run-length from (entries-words most) ws h in
     let c : getD t 0 0 ≡ getD ws from 0 = getD-take (entries-words most) (drop from ws) 0 0 (omega arith) ∙ getD-drop from ws 0 0 ∙ rw (add-zero from) in
-    on-by to (entries-words most) (table-enc 2 row (table-dec 2 row t)) (table-enc 2 row-of (table-dec 2 entry-of t)) ws
-    (typed 2 row-of (table-dec 2 entry-of t) (table-dec 2 row t) (typed-rows 2 entry-of row-of exact most t l (rw c few)) (run to (entries-words most) ws))
+    on-by to (entries-words most) (table-enc 2 row (table-dec 2 row t)) (table-enc 2 (entry-row .write) (table-dec 2 (entry-row .read) t)) ws
+    (typed entry-row (table-dec 2 (entry-row .read) t) (table-dec 2 row t) (typed-rows entry-exact most t l (rw c few)) (run to (entries-words most) ws))
 
 -- ---- a sorted table, by its entries
 pub entries-count : (l : List Entry) (ws : List ℕ) → getD (write-entries l ws) 0 0 ≡ length l

@@ -1,32 +1,26 @@
 -- Entries in words: a table whose rows are (block, key). Bucket copies and items are sorted by block; an append buffer is in arrival order.
-use mathlib.Core.List.{List, [], _∷_}
+use mathlib.Core.List.{List}
 use Prim.Native.Nat.{ℕ}
 use lib.ListN.{getD}
 use Rattle.lists.specs.Runs.{run, on-run}
+use Rattle.lists.specs.Rows.{table-words, table-dec, table-enc}
 use Rattle.rules.specs.Entries.{Entry, entry}
-use Rattle.tables.specs.Tables.{table-words, table-dec, table-enc}
+use Rattle.layout.specs.Disk.{entry-row}
 
--- words in a row
+-- words in a row, and in a table of at most so many entries
 abbrev pub entry-words : ℕ
-entry-words = 2
+entry-words = entry-row .size
 
--- words in a table of at most so many entries
 abbrev pub entries-words : ℕ → ℕ
 entries-words most = table-words entry-words most
 
-abbrev pub entry-of : List ℕ → Entry
-entry-of r = entry (getD r 0 0) (getD r 1 0)
-
-abbrev pub row-of : Entry → List ℕ
-row-of e = e .block ∷ e .key ∷ []
-
--- the entries that words hold
+-- the entries that words hold: what the layout's codec of a table reads, whatever it has room for
 unfoldable pub entries : List ℕ → List Entry
-entries ws = table-dec entry-words entry-of ws
+entries ws = table-dec entry-words (entry-row .read) ws
 
--- entries written over words
+-- entries written over words: what that codec writes of as many as it has room for
 unfoldable pub write-entries : List Entry → List ℕ → List ℕ
-write-entries l ws = table-enc entry-words row-of l ws
+write-entries l ws = table-enc entry-words (entry-row .write) l ws
 
 abbrev pub entry-at : List Entry → ℕ → Entry
 entry-at l i = getD l i (entry 0 0)

@@ -9,20 +9,19 @@ ghost use Rattle.lists.specs.Tests.{only};
 ghost use Rattle.lists.specs.Runs.{run};
 ghost use Rattle.words.specs.Words.{words};
 ghost use Rattle.rules.specs.Limits.{buckets};
-ghost use Rattle.rules.specs.Entries.{entry, look, has, insert, remove, takes, waits-for, ascending};
+ghost use Rattle.rules.specs.Entries.{entry, look, has, insert, remove, takes, waits-for};
 ghost use Rattle.rules.specs.Sound.{same-entries};
 ghost use lib.Dec.{eqb};
 ghost use Rattle.rules.specs.Numbers.{bucket-of};
 ghost use Rattle.tables.specs.Tables.{TwoTables, IsTable, Sorted};
 ghost use Rattle.entries.specs.Words.{entry-words, entries-words, entries, change-entries, copied-entries, entry-at};
 ghost use Rattle.entries.specs.Steps.{SiftStep, take-in, drained-at, drained-words, Drains};
+use layout::sizes::ENTRY_WORDS;
 use rules::numbers::BlockNumber;
 use rules::settings::Settings;
 use tables::Spot;
 
-// words in a row: the block, the key
-const ENTRY_WORDS: usize = 2;
-
+// where a row has its key
 const KEY: usize = 1;
 
 // ---- look-up
@@ -93,15 +92,7 @@ pub fn takes(t: &[u8], most: usize, b: u64) -> bool
     (words::read(t, 0) as usize) < most
 }
 
-// ---- checks
-
-// Do the blocks ascend strictly?
-pub fn is_ascending(t: &[u8], most: usize) -> bool
-    requires { ⌜ IsTable entry-words most (words (now t)) (length (now t)) ⌝ }
-    ensures { λ r. ⌜ r ≡ ascending 0 (entries (words (now (t .entry)))) ⌝ }
-{
-    tables::is_sorted(t, ENTRY_WORDS, most)
-}
+// ---- comparison
 
 // Have two tables the same entries?
 pub fn same(a: &[u8], b: &[u8], most: usize) -> bool

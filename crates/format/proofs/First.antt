@@ -6,7 +6,7 @@ use native.Mathlib.Nat.{zero-add, add-zero}
 use native.Mathlib.Omega.{arith}
 use lib.ListN.{length, take, drop, set, length-set}
 use lib.Seq.{sets, sets-eq, drop-length, take-nil}
-use Rattle.lists.specs.Runs.{run, on-run}
+use Rattle.lists.specs.Runs.{run, on-run, enc-all}
 use Rattle.lists.proofs.Runs.{run-length, on-right, on-length, on-by, on-set}
 use Rattle.rules.specs.declared.settings.Settings.{Settings}
 use Rattle.rules.specs.Limits.{buckets, max-relays}
@@ -15,12 +15,12 @@ use Rattle.rules.specs.Format.{format}
 use Rattle.rules.proofs.Limits.{Limits}
 use Rattle.log.specs.Log.{log-enc}
 use Rattle.log.proofs.Changes.{cleared}
-use Rattle.codec.specs.Codec.{Codec, _&_, enc-two, _then_, over, table}
+use Rattle.codec.specs.Codec.{Codec, _&_, enc-two, _then_, Row, table}
 use Rattle.codec.proofs.Laws.{Lawful}
 use Rattle.codec.proofs.Focus.{on-whole, many-same, slot-some}
 use Rattle.codec.proofs.Loops.{then-written, table-cleared}
-use Rattle.layout.specs.Disk.{Copies, Brick, Disk, blank-proxy, blank-copies, brick-reading, disk-reading}
-use Rattle.layout.specs.Layout.{entry-codec, relay-codec, head-codec, agreed-codec, proxy-codec, status-codec, buffer-codec, copy-codec, copies-codec}
+use Rattle.layout.specs.Disk.{Copies, Brick, Disk, entry-row, relay-row, blank-proxy, blank-copies, brick-reading, disk-reading}
+use Rattle.layout.specs.Layout.{head-codec, agreed-codec, proxy-codec, status-codec, buffer-codec, copy-codec, copies-codec}
 use Rattle.layout.specs.Layout.{all-copies-codec, log-codec, brick-codec, place-codec, status-words, copy-words, copies-words, log-words, place-words}
 use Rattle.layout.specs.Layout.{buffer-at, all-copies-at, log-at}
 use Rattle.layout.specs.Layout.{bag-codec, all-agreed-codec, all-proxies-codec, all-places-codec, disk-codec, head-words, bag-words, store-words}
@@ -58,15 +58,15 @@ status-steps w0 w1 w2 w3 w4 w5 h e1 e2 e3 e4 e5 = e5 ∙ rw (e4, e3, e2, e1) (se
 zero-run : (f : List ℕ → List ℕ) (a n : ℕ) (w : List ℕ) → a + n ≤ length w → 0 < n → f (run a n w) ≡ set (run a n w) 0 0 → on-run a n f w ≡ set w a 0
 zero-run f a n w h p e = on-by a n f (λ v. set v 0 0) w e ∙ on-set a n 0 0 w h p ∙ ap (λ (i : ℕ). set w i 0) (add-zero a)
 
-pub table-run : {A : Type 0} (c : Codec A) (most a : ℕ) (w : List ℕ) → a + table most c .size ≤ length w
-    → on-run a (table most c .size) (table most c .enc []) w ≡ set w a 0
-table-run c most a w h =
-    let l = run-length a (table most c .size) w h in
-    zero-run (table most c .enc []) a (table most c .size) w h (omega arith)
-    (table-cleared c most (run a (table most c .size) w) (omega arith))
+pub table-run : {A : Type 0} (r : Row A) (most a : ℕ) (w : List ℕ) → a + table most r .size ≤ length w
+    → on-run a (table most r .size) (table most r .enc []) w ≡ set w a 0
+table-run r most a w h =
+    let l = run-length a (table most r .size) w h in
+    zero-run (table most r .enc []) a (table most r .size) w h (omega arith)
+    (table-cleared r most (run a (table most r .size) w) (omega arith))
 
 pub proxy-written : (w : List ℕ) → length w ≡ 66 → set (set w 0 0) 1 0 ≡ proxy-codec .enc blank-proxy w
-unfolding enc-two over
+unfolding enc-two enc-all
 proxy-written [] h = absurd (omega arith)
 proxy-written (a ∷ []) h = absurd (omega arith)
 proxy-written (a ∷ b ∷ w) h = refl
@@ -75,10 +75,10 @@ pub copies-written : (c : Settings) (w : List ℕ) → length w ≡ copies-words
 copies-written c w h =
     let k : ℕ = copy-words c in
     let clear : List ℕ → List ℕ = copy-codec c .enc [] in
-    let one : on-run 0 k clear w ≡ set w 0 0 = table-run entry-codec (c .entries) 0 w (omega arith) in
+    let one : on-run 0 k clear w ≡ set w 0 0 = table-run entry-row (c .entries) 0 w (omega arith) in
     let l : length (set w 0 0) ≡ length w = length-set w 0 0 in
     let two : on-run (0 + k) k clear (on-run 0 k clear w) ≡ set (set w 0 0) k 0 =
-    rw (one, zero-add k) (table-run entry-codec (c .entries) k (set w 0 0) (omega arith)) in
+    rw (one, zero-add k) (table-run entry-row (c .entries) k (set w 0 0) (omega arith)) in
     sym two ∙ sym (then-written (copy-codec c) (copy-codec c) (copy-law c) ([] & []) 0 w (omega arith))
     ∙ on-whole (copies-words c) (copies-codec c .enc blank-copies) w h
 
@@ -138,7 +138,7 @@ module _ (c : Settings) (i : ℕ) (w : List ℕ) (o : 0 < i) (h : length w ≡ p
       let one = then-written status-codec (buffer-codec then all-copies-codec c then log-codec c) status-law (brick-reading .from first-brick) 1 with-id
       (omega arith) in
       let two = then-written buffer-codec (all-copies-codec c then log-codec c) buffer-law ([] & empty & []) buffer-at with-status (omega arith) in
-      let buffer = table-run entry-codec 32 buffer-at with-status (omega arith) in
+      let buffer = table-run entry-row 32 buffer-at with-status (omega arith) in
       let three = then-written (all-copies-codec c) (log-codec c) (all-copies-law c) (empty & []) all-copies-at with-buffer (omega arith) in
       let cells = zero-run (log-codec c .enc []) (log-at c) log with-copies (omega arith) (omega arith)
       (log-cleared c (run (log-at c) log with-copies) (run-length (log-at c) log with-copies (omega arith))) in
@@ -215,5 +215,5 @@ pub first-steps : (c : Settings) → Limits c → (p b q : ℕ) (w0 w1 w2 w3 w4 
 first-steps c l p b q w0 w1 w2 w3 w4 w5 h ep eb eq e1 e2 e3 e4 e5 =
     let d : Disk = first-disk c in
     let all : List ℕ → List ℕ = on-run (places-at c) (all-places-codec c .size) (all-places-codec c .enc first-place) in
-    let bag = table-run relay-codec max-relays (bag-at c) (with-proxies c d w0 h) (rw (proxies-long c d w0 h) (omega arith)) in
+    let bag = table-run relay-row max-relays (bag-at c) (with-proxies c d w0 h) (rw (proxies-long c d w0 h) (omega arith)) in
     e5 ∙ rw (eq, e4, eb, e3, ep, e2, e1) (ap all (sym bag) ∙ sym (disk-written c d w0 h) ∙ sym (as-first c l w0))

@@ -8,23 +8,21 @@ use lib.Seq.{drop-drop, getD-drop, getD-take}
 use Rattle.lists.specs.Runs.{run}
 use Rattle.lists.proofs.Runs.{fits-in, run-length, run-front, run-rest, run-all}
 use Rattle.rules.specs.declared.settings.Settings.{Settings}
-use Rattle.rules.specs.Entries.{Entry}
-use Rattle.rules.specs.State.{Relay}
 use Rattle.rules.specs.Limits.{proxies, buckets, max-relays, max-items, max-waiting}
 use Rattle.codec.specs.Codec.{Codec, Clean, enc-two, word, _then_, many}
 use Rattle.codec.proofs.Focus.{clean-part}
-use Rattle.codec.proofs.Loops.{Plain}
 use Rattle.codec.proofs.Round.{CleanIf, Any, clean-word, clean-flag, clean-via, clean-two, flag-part, clean-many, clean-table, clean-slot}
 use Rattle.layout.specs.Disk.{blank-agreed, blank-proxy, blank-copies, blank-brick, blank-place}
-use Rattle.layout.specs.Disk.{entry-reading, relay-reading, settings-reading, head-reading, agreed-reading, proxy-reading, status-reading}
+use Rattle.layout.specs.Disk.{settings-reading, head-reading, agreed-reading, proxy-reading, status-reading}
 use Rattle.layout.specs.Disk.{copies-reading, brick-reading, disk-reading}
-use Rattle.layout.specs.Layout.{entry-codec, relay-codec, head-codec, agreed-codec, proxy-codec, bag-codec, status-codec, buffer-codec, copies-codec}
+use Rattle.layout.specs.Layout.{head-codec, agreed-codec, proxy-codec, bag-codec, status-codec, buffer-codec, copies-codec}
 use Rattle.layout.specs.Layout.{all-copies-codec, log-codec, place-codec, all-agreed-codec, all-proxies-codec, disk-codec}
 use Rattle.layout.specs.Layout.{head-words, agreed-words, log-words, place-words, store-words, agreed-at, proxies-at, bag-at, places-at, place-at}
 use Rattle.layout.specs.Layout.{agreed-part, place-part, ready-at, fetched-at, up-at, member-at, began-at, log-at}
+use Rattle.layout.proofs.Codecs.{entry-exact, relay-exact}
 use Rattle.layout.proofs.Foci.{ready-in, fetched-in, up-of, member-of, began-of, log-of, agreed-focus, place-focus}
 
--- ---- rows, the header, a proxy, the bag, buffers and copies: any words
+-- ---- the header, a proxy, the bag, buffers and copies: any words
 any-two : {A B : Type 0} {c : Codec A} {d : Codec B} → CleanIf c Any → CleanIf d Any → CleanIf (c then d) Any
 any-two k l = record { clean = λ w h _. clean-two k l .clean w h (tt, tt) }
 
@@ -37,41 +35,14 @@ words-two = any-two clean-word clean-word
 words-four : CleanIf (word then word then word then word) Any
 words-four = any-two clean-word (any-two clean-word words-two)
 
-pub entry-any : CleanIf entry-codec Any
-entry-any = clean-via entry-reading (λ t. refl) words-two
-
-pub relay-any : CleanIf relay-codec Any
-relay-any = clean-via relay-reading (λ t. refl) (any-two clean-word words-four)
-
--- rows fill their words, so tables of them are lists of rows
-abbrev pub entry-row : Entry → List ℕ
-entry-row e = e .block ∷ e .key ∷ []
-
-abbrev pub relay-row : Relay → List ℕ
-relay-row r = r .view ∷ r .bucket ∷ r .order ∷ r .block ∷ r .key ∷ []
-
-pub entry-writes : (e : Entry) (w : List ℕ) → length w ≡ entry-codec .size → entry-codec .enc e w ≡ entry-row e
-unfolding enc-two
-entry-writes e w h = refl
-
-pub relay-writes : (r : Relay) (w : List ℕ) → length w ≡ relay-codec .size → relay-codec .enc r w ≡ relay-row r
-unfolding enc-two
-relay-writes r w h = refl
-
-abbrev pub entry-plain : Plain entry-codec
-entry-plain = record { row = entry-row; writes = entry-writes; any = entry-any }
-
-abbrev pub relay-plain : Plain relay-codec
-relay-plain = record { row = relay-row; writes = relay-writes; any = relay-any }
-
 head-any : CleanIf head-codec Any
 head-any = clean-via head-reading (λ t. refl) (any-two (clean-via settings-reading (λ t. refl) words-four) (any-two clean-word words-two))
 
-proxy-any : CleanIf proxy-codec Any
-proxy-any = clean-via proxy-reading (λ t. refl) (any-two clean-word (clean-table max-items entry-any))
+pub proxy-any : CleanIf proxy-codec Any
+proxy-any = clean-via proxy-reading (λ t. refl) (any-two clean-word (clean-table entry-exact max-items))
 
 copies-any : (c : Settings) → CleanIf (copies-codec c) Any
-copies-any c = clean-via copies-reading (λ t. refl) (any-two (clean-table (c .entries) entry-any) (clean-table (c .entries) entry-any))
+copies-any c = clean-via copies-reading (λ t. refl) (any-two (clean-table entry-exact (c .entries)) (clean-table entry-exact (c .entries)))
 
 log-if : (c : Settings) → CleanIf (log-codec c) (Clean (log-codec c))
 log-if c = record { clean = λ w h k. k }
@@ -128,7 +99,7 @@ module _ (c : Settings) (w : List ℕ) (h : length w ≡ place-words c) where
       clean-slot blank-brick
       (clean-via brick-reading (λ t. refl)
       (clean-two (clean-via status-reading (λ t. refl) (clean-two clean-flag (clean-two clean-flag (clean-two clean-flag words-two))))
-      (clean-two (clean-table max-waiting entry-any) (clean-two (any-many (buckets c) blank-copies (copies-any c)) (log-if c))))) .clean w h
+      (clean-two (clean-table entry-exact max-waiting) (clean-two (any-many (buckets c) blank-copies (copies-any c)) (log-if c))))) .clean w h
       (λ z. let p = k z in
       let front : List ℕ = take 5 (drop 1 w) in
       let one : getD (take 1 front) 0 0 ≤ 1 = rw (first-of front, getD-take 5 (drop 1 w) 0 0 (omega arith), getD-drop 1 w 0 0) (p .up) in
@@ -176,7 +147,7 @@ module _ (c : Settings) (ws : List ℕ) (h : length ws ≡ store-words c) where
       (clean-two head-any
       (clean-two (clean-many (buckets c) blank-agreed agreed-if)
       (clean-two (any-many proxies blank-proxy proxy-any)
-      (clean-two (clean-table max-relays relay-any) (clean-many (c .places) blank-place (place-if c)))))) .clean ws h (
+      (clean-two (clean-table relay-exact max-relays) (clean-many (c .places) blank-place (place-if c)))))) .clean ws h (
         tt,
         (
           λ g l. subst AgreedClean (sym (part-in head-words (buckets c) g agreed-words ws l (omega arith))) (k .agreed g l),

@@ -1,22 +1,43 @@
 -- Each codec of the layout keeps the number of words, and writing a value twice is writing it once.
-use Prim.Native.Nat.{_/_}
+use mathlib.Core.Path.{_≡_, refl}
+use mathlib.Core.List.{List, [], _∷_}
+use Prim.Native.Nat.{ℕ, _/_}
+use native.Mathlib.Omega.{arith}
+use lib.ListN.{length}
 use Rattle.rules.specs.declared.settings.Settings.{Settings}
 use Rattle.rules.specs.Limits.{proxies, buckets, max-relays, max-items, max-waiting}
 use Rattle.log.proofs.Codec.{log-keeps, log-idem}
-use Rattle.codec.proofs.Laws.{Lawful, word-law, flag-law, via-law, then-law, many-law, table-law, slot-law}
-use Rattle.layout.specs.Layout.{entry-codec, relay-codec, settings-codec, head-codec, agreed-codec, items-codec, proxy-codec, bag-codec}
+use Rattle.codec.proofs.Laws.{Lawful, Exact, word-law, flag-law, via-law, then-law, many-law, table-law, slot-law}
+use Rattle.layout.specs.Layout.{settings-codec, head-codec, agreed-codec, items-codec, proxy-codec, bag-codec}
 use Rattle.layout.specs.Layout.{status-codec, buffer-codec, copy-codec, copies-codec, all-copies-codec, log-codec, brick-codec, place-codec}
 use Rattle.layout.specs.Layout.{all-agreed-codec, all-proxies-codec, all-places-codec, disk-codec}
 use Rattle.layout.specs.Disk.{blank-agreed, blank-proxy, blank-copies, blank-brick, blank-place}
-use Rattle.layout.specs.Disk.{entry-reading, relay-reading, settings-reading, head-reading, agreed-reading, proxy-reading, status-reading}
+use Rattle.layout.specs.Disk.{entry-row, relay-row, settings-reading, head-reading, agreed-reading, proxy-reading, status-reading}
 use Rattle.layout.specs.Disk.{copies-reading, brick-reading, disk-reading}
 
-pub entry-law : Lawful entry-codec
-entry-law = via-law entry-reading (then-law word-law word-law)
+-- ---- rows fill their words
+two-exact : (w : List ℕ) → length w ≡ 2 → entry-row .write (entry-row .read w) ≡ w
+two-exact [] h = absurd (omega arith)
+two-exact (a ∷ []) h = absurd (omega arith)
+two-exact (a ∷ b ∷ []) h = refl
+two-exact (a ∷ b ∷ c ∷ w) h = absurd (omega arith)
 
-pub relay-law : Lawful relay-codec
-relay-law = via-law relay-reading (then-law word-law (then-law word-law (then-law word-law (then-law word-law word-law))))
+pub entry-exact : Exact entry-row
+entry-exact = record { sized = λ e. refl; back = λ e. refl; exact = two-exact }
 
+five-exact : (w : List ℕ) → length w ≡ 5 → relay-row .write (relay-row .read w) ≡ w
+five-exact [] h = absurd (omega arith)
+five-exact (a ∷ []) h = absurd (omega arith)
+five-exact (a ∷ b ∷ []) h = absurd (omega arith)
+five-exact (a ∷ b ∷ c ∷ []) h = absurd (omega arith)
+five-exact (a ∷ b ∷ c ∷ d ∷ []) h = absurd (omega arith)
+five-exact (a ∷ b ∷ c ∷ d ∷ e ∷ []) h = refl
+five-exact (a ∷ b ∷ c ∷ d ∷ e ∷ f ∷ w) h = absurd (omega arith)
+
+pub relay-exact : Exact relay-row
+relay-exact = record { sized = λ r. refl; back = λ r. refl; exact = five-exact }
+
+-- ---- the parts
 pub settings-law : Lawful settings-codec
 settings-law = via-law settings-reading (then-law word-law (then-law word-law (then-law word-law word-law)))
 
@@ -29,23 +50,23 @@ agreed-law =
     (then-law flag-law (then-law flag-law (then-law word-law word-law)))))))
 
 pub items-law : Lawful items-codec
-items-law = table-law max-items entry-law
+items-law = table-law entry-exact max-items
 
 pub proxy-law : Lawful proxy-codec
 proxy-law = via-law proxy-reading (then-law word-law items-law)
 
 pub bag-law : Lawful bag-codec
-bag-law = table-law max-relays relay-law
+bag-law = table-law relay-exact max-relays
 
 pub status-law : Lawful status-codec
 status-law = via-law status-reading (then-law flag-law (then-law flag-law (then-law flag-law (then-law word-law word-law))))
 
 pub buffer-law : Lawful buffer-codec
-buffer-law = table-law max-waiting entry-law
+buffer-law = table-law entry-exact max-waiting
 
 module _ (c : Settings) where
   pub copy-law : Lawful (copy-codec c)
-  copy-law = table-law (c .entries) entry-law
+  copy-law = table-law entry-exact (c .entries)
 
   pub copies-law : Lawful (copies-codec c)
   copies-law = via-law copies-reading (then-law copy-law copy-law)

@@ -6,7 +6,7 @@ use Prim.Native.Nat.{ℕ, _*_, _/_, _≤_, _<_}
 use native.Mathlib.Nat.{mod-le}
 use native.Mathlib.Omega.{arith}
 use lib.ListN.{length}
-use Rattle.lists.specs.Runs.{Below}
+use Rattle.lists.specs.Runs.{Below, none, more}
 use Rattle.lists.proofs.Tests.{by, by-lt, clash}
 use Rattle.rules.specs.declared.settings.Settings.{Settings}
 use Rattle.rules.specs.Limits.{proxies, buckets, max-relays, max-items, max-waiting}
@@ -18,25 +18,22 @@ use Rattle.rules.specs.Sound.{sound}
 use Rattle.rules.proofs.Limits.{Limits, limits}
 use Rattle.rules.proofs.Sound.{EntryOk, RelayOk, KeyOf, Sound}
 use Rattle.log.proofs.Codec.{log-back, log-small}
-use Rattle.codec.specs.Codec.{Fits, word-limit, word, flag, _&_, _then_, table}
+use Rattle.codec.specs.Codec.{Fits, word-limit, word, flag, _&_, _then_}
 use Rattle.codec.proofs.Laws.{word-law, flag-law}
 use Rattle.codec.proofs.Round.{fits-word, fits-flag, fits-via, fits-two, fits-many, fits-table, fits-slot}
 use Rattle.layout.specs.Disk.{Copies, Brick, Disk, blank-agreed, blank-proxy, blank-copies, blank-brick, blank-place}
-use Rattle.layout.specs.Disk.{entry-reading, relay-reading, settings-reading, head-reading, agreed-reading, proxy-reading, status-reading}
+use Rattle.layout.specs.Disk.{relay-row, settings-reading, head-reading, agreed-reading, proxy-reading, status-reading}
 use Rattle.layout.specs.Disk.{copies-reading, brick-reading, disk-reading}
-use Rattle.layout.specs.Layout.{entry-codec, relay-codec, settings-codec, head-codec, agreed-codec, items-codec, proxy-codec, bag-codec}
+use Rattle.layout.specs.Layout.{entries-codec, settings-codec, head-codec, agreed-codec, items-codec, proxy-codec, bag-codec}
 use Rattle.layout.specs.Layout.{status-codec, buffer-codec, copy-codec, copies-codec, all-copies-codec, log-codec, brick-codec, place-codec}
 use Rattle.layout.specs.Layout.{all-agreed-codec, all-proxies-codec, all-places-codec, disk-codec, settings-of, store-words}
 use Rattle.layout.specs.Store.{to-state, brick-in, agreed-in, to-disk, decode, render}
-use Rattle.layout.proofs.Codecs.{entry-law, relay-law, settings-law, head-law, agreed-law, proxy-law, bag-law, status-law, buffer-law}
+use Rattle.layout.proofs.Codecs.{entry-exact, relay-exact, settings-law, head-law, agreed-law, proxy-law, bag-law, status-law, buffer-law}
 use Rattle.layout.proofs.Codecs.{copy-law, copies-law, all-copies-law, place-law, all-agreed-law, all-proxies-law, disk-law}
 use Rattle.layout.proofs.Views.{Proper, state-back}
 use Rattle.layout.proofs.Sound.{SoundWords}
 
 -- ---- rows
-entry-fits : (e : Entry) → e .block < word-limit → e .key < word-limit → Fits entry-codec e
-entry-fits e b k = fits-via entry-reading (word then word) e refl (fits-two word-law (fits-word (e .block) b) (fits-word (e .key) k))
-
 -- a key whose id is at most 255 is a word
 key-small : (k given : ℕ) → home-of k ≤ given → given ≤ 255 → k < word-limit
 key-small k given h g = omega arith
@@ -53,17 +50,16 @@ module _ (s : State) (sd : Sound s) where
   key-fits k o = key-small k (s .given) (o .born) (sd .bricks .few)
 
   rows-fit : (P : ℕ → Type 0) (most : ℕ) (l : List Entry) → most < word-limit → length l ≤ most
-      → ((e : Entry) → List·Memᴰ e l → EntryOk (KeyOf s) P e) → Fits (table most entry-codec) l
+      → ((e : Entry) → List·Memᴰ e l → EntryOk (KeyOf s) P e) → Fits (entries-codec most) l
   rows-fit P most l m h t =
-      fits-table entry-codec entry-law most l m h (λ e x. let k = t e x in entry-fits e (omega (arith, k .small)) (key-fits (e .key) (k .key)))
+      fits-table entry-exact most l m h (λ e x. let k = t e x in more {b = e .block} (omega (arith, k .small)) (more {b = e .key} (key-fits (e .key) (k .key)) none))
 
-  relay-fits : (r : Relay) → RelayOk (KeyOf s) (buckets (s .settings)) r → Fits relay-codec r
+  relay-fits : (r : Relay) → RelayOk (KeyOf s) (buckets (s .settings)) r → Below word-limit (relay-row .write r)
   relay-fits r k =
-      fits-via relay-reading (word then word then word then word then word) r refl
-      (fits-two word-law (fits-word (r .view) (omega (arith, k .view)))
-      (fits-two word-law (fits-word (r .bucket) (rw (k .bucket) at (bucket-small (buckets (s .settings)) (r .block) (k .small))))
-      (fits-two word-law (fits-word (r .order) (omega (arith, k .order)))
-      (fits-two word-law (fits-word (r .block) (omega (arith, k .small))) (fits-word (r .key) (key-fits (r .key) (k .key)))))))
+      more {b = r .view} (omega (arith, k .view))
+      (more {b = r .bucket} (rw (k .bucket) at (bucket-small (buckets (s .settings)) (r .block) (k .small)))
+      (more {b = r .order} (omega (arith, k .order))
+      (more {b = r .block} (omega (arith, k .small)) (more {b = r .key} (key-fits (r .key) (k .key)) none))))
 
   -- ---- the header, a bucket's record, a proxy
   head-fits : Fits head-codec (to-disk s .head)
@@ -207,7 +203,7 @@ module _ (s : State) (sd : Sound s) where
       (fits-many proxy-codec proxy-law proxies blank-proxy (to-disk s .proxy) (λ p h. proxy-fits p)
       (λ p h. ap (λ (k : ℕ). record { known = k; items = s .items p }) (sd .no-known p h)
       ∙ ap (λ (l : List Entry). record { known = 0; items = l }) (sd .no-items p h)))
-      (fits-two bag-law (fits-table relay-codec relay-law max-relays (s .bag) (omega arith) (sd .bag-room) (λ r m. relay-fits r (sd .relays r m)))
+      (fits-two bag-law (fits-table relay-exact max-relays (s .bag) (omega arith) (sd .bag-room) (λ r m. relay-fits r (sd .relays r m)))
       (fits-many (place-codec c) (place-law c) (c .places) blank-place (to-disk s .place) (λ p h. place-fits p) place-beyond)))))
 
   -- ---- what is rendered is read back

@@ -1,17 +1,22 @@
--- Code that lends part i of a slice, in turn, to a function that writes value i there.
+-- Code that lends a part of a slice: what its words are, and what a loop leaves that lends part i to a function that writes value i there.
 use mathlib.Core.Path.{_≡_, refl, _∙_}
 use mathlib.Core.List.{List, _++_}
-use Prim.Native.Nat.{ℕ, _+_, _*_, _≤_, _<_}
+use Prim.Native.Nat.{ℕ, _+_, _*_, _-_, _≤_, _<_}
 use native.Mathlib.Numerals.{add-one}
 use native.Mathlib.Omega.{arith}
 use lib.ListN.{length, take, drop, length-append, length-drop}
 use lib.Seq.{length-take-le}
+use Rattle.lists.specs.Runs.{run}
 use Rattle.lists.proofs.Runs.{fits-in}
 use Rattle.words.specs.Words.{words}
-use Rattle.words.proofs.Laws.{lent-run}
+use Rattle.words.proofs.Laws.{lent-run, words-part}
 use Rattle.codec.specs.Codec.{Codec}
 use Rattle.codec.proofs.Laws.{Lawful}
 use Rattle.codec.proofs.Loops.{written, loop-turn}
+
+-- &s[o..e], n words from word a on
+pub lent : (s : List ℕ) (o e a n : ℕ) → o ≡ 8 * a → e ≡ o + 8 * n → 8 * (a + n) ≤ length s → words (take (e - o) (drop o s)) ≡ run a n (words s)
+lent s o e a n eo ee h = words-part s o (e - o) a n eo (omega arith) (omega arith)
 
 -- a turn of such a loop over n values: o and k are where the part starts and how many bytes it has, t what comes back
 pub lent-turn : {A : Type 0} (c : Codec A) → Lawful c → (n : ℕ) (f : ℕ → A) (w : List ℕ) → length w ≡ n * c .size → (i : ℕ) → i < n

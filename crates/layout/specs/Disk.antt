@@ -1,22 +1,27 @@
 -- What a store holds, place by place, and how each record is made of its parts in the order in which they lie.
-use mathlib.Core.List.{List, []}
+use mathlib.Core.List.{List, [], _∷_}
 use mathlib.Core.Bool.{Bool, true, false}
 use Prim.Native.Nat.{ℕ}
+use lib.ListN.{getD}
 use Rattle.rules.specs.declared.settings.Settings.{Settings}
 use Rattle.rules.specs.Entries.{Entry, entry}
 use Rattle.rules.specs.Chunks.{Chunk}
 use Rattle.rules.specs.State.{Relay}
-use Rattle.codec.specs.Codec.{Reading, Two, _&_}
+use Rattle.codec.specs.Codec.{Reading, Row, Two, _&_}
 
--- ---- rows
-abbrev pub entry-reading : Reading (Two ℕ ℕ) Entry
-entry-reading = record { to = λ t. entry (t .fst) (t .snd); from = λ e. e .block & e .key }
+-- ---- rows: block, key
+abbrev pub entry-row : Row Entry
+entry-row = record { size = 2; read = λ w. entry (getD w 0 0) (getD w 1 0); write = λ e. e .block ∷ e .key ∷ [] }
 
 -- the bag is a list of records: view, bucket, order number, block, key
-abbrev pub relay-reading : Reading (Two ℕ (Two ℕ (Two ℕ (Two ℕ ℕ)))) Relay
-relay-reading = record {
-  to = λ t. record { view = t .fst; bucket = t .snd .fst; order = t .snd .snd .fst; block = t .snd .snd .snd .fst; key = t .snd .snd .snd .snd };
-  from = λ r. r .view & r .bucket & r .order & r .block & r .key;
+abbrev pub relay : ℕ → ℕ → ℕ → ℕ → ℕ → Relay
+relay v g o b k = record { view = v; bucket = g; order = o; block = b; key = k }
+
+abbrev pub relay-row : Row Relay
+relay-row = record {
+  size = 5;
+  read = λ w. relay (getD w 0 0) (getD w 1 0) (getD w 2 0) (getD w 3 0) (getD w 4 0);
+  write = λ r. r .view ∷ r .bucket ∷ r .order ∷ r .block ∷ r .key ∷ [];
 }
 
 -- ---- the header

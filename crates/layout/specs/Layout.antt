@@ -11,19 +11,16 @@ use Rattle.rules.specs.State.{Relay}
 use Rattle.log.specs.Log.{log-words as log-size, log-dec, log-enc}
 use Rattle.codec.specs.Codec.{Codec, word, flag, via, _then_, many, table, slot}
 use Rattle.layout.specs.Disk.{Head, Agreed, Proxy, Status, Copies, Brick, Place, Disk, blank-agreed, blank-proxy, blank-copies, blank-brick, blank-place}
-use Rattle.layout.specs.Disk.{entry-reading, relay-reading, settings-reading, head-reading, agreed-reading, proxy-reading, status-reading}
+use Rattle.layout.specs.Disk.{entry-row, relay-row, settings-reading, head-reading, agreed-reading, proxy-reading, status-reading}
 use Rattle.layout.specs.Disk.{copies-reading, brick-reading, disk-reading}
 
 -- a word has 8 bytes, so a block is whole words
 abbrev pub word-bytes : ℕ
 word-bytes = 8
 
--- ---- rows: block, key; view, bucket, order number, block, key
-abbrev pub entry-codec : Codec Entry
-entry-codec = via entry-reading (word then word)
-
-abbrev pub relay-codec : Codec Relay
-relay-codec = via relay-reading (word then word then word then word then word)
+-- ---- a table of entries
+abbrev pub entries-codec : ℕ → Codec (List Entry)
+entries-codec most = table most entry-row
 
 -- ---- the header: N, S, M, L, view, given, started
 abbrev pub settings-codec : Codec Settings
@@ -38,23 +35,23 @@ agreed-codec = via agreed-reading (word then word then word then word then flag 
 
 -- ---- a proxy: the view it knows, its items sorted by block; the bag, oldest first
 abbrev pub items-codec : Codec (List Entry)
-items-codec = table max-items entry-codec
+items-codec = entries-codec max-items
 
 abbrev pub proxy-codec : Codec Proxy
 proxy-codec = via proxy-reading (word then items-codec)
 
 abbrev pub bag-codec : Codec (List Relay)
-bag-codec = table max-relays relay-codec
+bag-codec = table max-relays relay-row
 
 -- ---- a brick: up, member, began, next, ceiling; the buffer in arrival order; for each bucket the copies in memory and on disk, sorted by block; the log
 abbrev pub status-codec : Codec Status
 status-codec = via status-reading (flag then flag then flag then word then word)
 
 abbrev pub buffer-codec : Codec (List Entry)
-buffer-codec = table max-waiting entry-codec
+buffer-codec = entries-codec max-waiting
 
 abbrev pub copy-codec : Settings → Codec (List Entry)
-copy-codec c = table (c .entries) entry-codec
+copy-codec c = entries-codec (c .entries)
 
 abbrev pub copies-codec : Settings → Codec Copies
 copies-codec c = via copies-reading (copy-codec c then copy-codec c)

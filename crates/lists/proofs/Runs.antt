@@ -7,7 +7,7 @@ use native.Mathlib.Numerals.{add-one, sub-one}
 use native.Mathlib.Omega.{arith}
 use lib.ListN.{length, take, drop, getD, set, replicate, length-append, length-drop, take-append-drop, List·getD-append}
 use lib.Seq.{take-take, take-add, take-all, take-append-le, drop-append-le, drop-cons, drop-drop, take-at, drop-at, set-split}
-use lib.Seq.{paste, getD-take, length-take-le, take-append-add, drop-append-add}
+use lib.Seq.{paste, getD-take, getD-drop, length-take-le, take-append-add, drop-append-add}
 use lib.Dec.{ltb}
 use mathlib.Core.Bool.{Bool, true}
 use borrow.Author.Tests.{ltb-true, lt-ltb}
@@ -44,6 +44,10 @@ run-rest n a k w = rw (drop-drop a n w)
 
 pub run-all : (n : ℕ) (w : List ℕ) → length w ≡ n → take n w ≡ w
 run-all n w h = take-all n w (omega arith)
+
+-- an element of a run
+pub run-at : (a n i : ℕ) (w : List ℕ) → i < n → getD (run a n w) i 0 ≡ getD w (a + i) 0
+run-at a n i w h = getD-take n (drop a w) i 0 h ∙ getD-drop a w i 0
 
 -- ---- one run changed
 module _ (a k : ℕ) (f : List ℕ → List ℕ) where

@@ -5,6 +5,7 @@ use mathlib.Core.List.{List·Memᴰ·append-cases, List·Memᴰ·eq-of-singleton
 use mathlib.Core.Bool.{Bool, true, false, not, cond}
 use mathlib.Core.Logic.{_⊎_, inl, inr}
 use Prim.Native.Nat.{ℕ, zero, suc, _+_, _≤_, _<_}
+use native.Mathlib.Nat.{not-suc-le-zero, le-of-suc-le-suc}
 use native.Mathlib.Omega.{arith}
 use lib.Dec.{ltb, leb, eqb}
 use lib.ListN.{length, getD}
@@ -61,6 +62,25 @@ pub both : (a b : Bool) → a ≡ true → b ≡ true → (a and b) ≡ true
 unfolding _and_
 both a b e f = cc
 
+-- where one side is known
+pub no-first : (a b : Bool) → a ≡ false → (a and b) ≡ false
+unfolding _and_
+no-first a b e = rw e
+
+pub no-second : (a b : Bool) → b ≡ false → (a and b) ≡ false
+unfolding _and_
+no-second true b e = e
+no-second false b e = refl
+
+pub yes-first : (a b : Bool) → a ≡ true → (a and b) ≡ b
+unfolding _and_
+yes-first a b e = rw e
+
+pub yes-second : (a b : Bool) → b ≡ true → (a and b) ≡ a
+unfolding _and_
+yes-second true b e = e
+yes-second false b e = refl
+
 pub or-cases : (a b : Bool) → (a or b) ≡ true → (a ≡ true) ⊎ (b ≡ true)
 unfolding _or_
 or-cases true b h = inl refl
@@ -78,6 +98,10 @@ or-r false b e = e
 -- where the first is no, the second decides
 pub or-second : (a b : Bool) → (a or b) ≡ true → a ≡ false → b ≡ true
 or-second a b h n = elim (or-cases a b h) [ inl y ↦ clash n y | inr y ↦ y ]
+
+pub or-no : (a b : Bool) → a ≡ false → (a or b) ≡ b
+unfolding _or_
+or-no a b e = rw e
 
 -- an implication, as a test
 pub if-so : (a b : Bool) → (not a or b) ≡ true → a ≡ true → b ≡ true
@@ -103,6 +127,12 @@ all-at (suc n) test y k l = by-eq k n (λ _ e. rw e (and-r _ _ y)) (λ _ e. all-
 
 pub all-false : (n : ℕ) (test : ℕ → Bool) (k : ℕ) → k < n → test k ≡ false → all-below n test ≡ false
 all-false n test k l e = by (all-below n test) (λ y. clash e (all-at n test y k l)) (λ z. z)
+
+-- tests that agree below a bound
+pub all-same : (n : ℕ) (f g : ℕ → Bool) → ((k : ℕ) → k < n → f k ≡ g k) → all-below n f ≡ all-below n g
+unfolding all-below
+all-same zero f g e = refl
+all-same (suc n) f g e = rw (all-same n f g (λ k h. e k (omega arith)), e n (omega arith))
 
 -- ---- some index below a bound
 pub some-at : (n : ℕ) (test : ℕ → Bool) (k : ℕ) → k < n → test k ≡ true → some-below n test ≡ true
@@ -143,6 +173,18 @@ pub every-of : {A : Type 0} (test : A → Bool) (l : List A) → ((x : A) → Li
 unfolding every
 every-of test [] f = refl
 every-of test (z ∷ l) f = both _ _ (f z (List·Memᴰ·head refl)) (every-of test l (λ x m. f x (List·Memᴰ·tail m)))
+
+-- by their places
+pub every-by : {A : Type 0} (test : A → Bool) (l : List A) (d : A) → ((i : ℕ) → i < length l → test (getD l i d) ≡ true) → every test l ≡ true
+unfolding every
+every-by test [] d f = refl
+every-by test (x ∷ l) d f = both _ _ (f 0 (omega arith)) (every-by test l d (λ i h. f (suc i) (omega arith)))
+
+pub every-at : {A : Type 0} (test : A → Bool) (l : List A) (d : A) → every test l ≡ true → (i : ℕ) → i < length l → test (getD l i d) ≡ true
+unfolding every
+every-at test [] d y i h = absurd (not-suc-le-zero h)
+every-at test (x ∷ l) d y zero h = and-l _ _ y
+every-at test (x ∷ l) d y (suc i) h = every-at test l d (and-r _ _ y) i (le-of-suc-le-suc h)
 
 pub some-in : {A : Type 0} (test : A → Bool) (l : List A) → some test l ≡ true → (x : A) × List·Memᴰ x l × (test x ≡ true)
 unfolding some

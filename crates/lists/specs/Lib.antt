@@ -1,3 +1,4 @@
 pub mod Tests
 pub mod Columns
 pub mod Runs
+pub mod Rows

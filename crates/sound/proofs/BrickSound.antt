@@ -19,10 +19,9 @@ use Rattle.rules.specs.State.{State}
 use Rattle.rules.specs.Sound.{sound-key, sound-buffer, sound-log, sound-copies, sound-brick}
 use Rattle.rules.proofs.Limits.{Limits}
 use Rattle.codec.specs.Codec.{Clean, word-limit}
-use Rattle.codec.proofs.Round.{length-rows}
 use Rattle.layout.specs.Places.{Apart}
 use Rattle.layout.specs.Disk.{Copies}
-use Rattle.layout.specs.Layout.{entry-codec, buffer-codec, copies-codec, all-copies-codec, log-codec, settings-of, store-words, place-words, copies-words, log-words}
+use Rattle.layout.specs.Layout.{buffer-codec, copies-codec, all-copies-codec, log-codec, settings-of, store-words, place-words, copies-words, log-words}
 use Rattle.layout.specs.Layout.{place-at, place-part, up-at, member-at, began-at, next-at, ceiling-at, buffer-at, all-copies-at, copies-at, log-at}
 use Rattle.layout.specs.Store.{decode}
 use Rattle.layout.proofs.Foci.{up-of, member-of, next-of, ceiling-of, buffer-of, copies-of, log-of}
@@ -35,8 +34,11 @@ use Rattle.sound.specs.Rows.{table-good}
 use Rattle.sound.specs.Copies.{copies-good, copies-at-good}
 use Rattle.sound.specs.Chunks.{log-good}
 use Rattle.sound.specs.Places.{status-good, buffer-good, brick-good}
-use Rattle.sound.proofs.Tests.{all-same}
-use Rattle.sound.proofs.RowLaws.{run-at}
+use Rattle.lists.proofs.Tests.{all-same}
+use Rattle.lists.proofs.Runs.{run-at}
+use Rattle.lists.specs.Rows.{table-dec}
+use Rattle.lists.proofs.Rows.{length-rows}
+use Rattle.layout.specs.Disk.{entry-row}
 use Rattle.sound.proofs.TableSound.{copy-is-sound, buffer-is-sound}
 
 -- ---- a log, of a state with these settings
@@ -133,8 +135,9 @@ module _ (ws : List ℕ) (h : length ws ≡ store-words (settings-of ws)) (apart
       )
 
   waiting : length (s .bricks .buffer i) ≡ getD w buffer-at 0
+  unfolding table-dec
   waiting =
-      ap length buffer-seen ∙ length-rows entry-codec (getD (run buffer-at (buffer-codec .size) w) 0 0) _
+      ap length buffer-seen ∙ length-rows 2 (entry-row .read) (getD (run buffer-at (buffer-codec .size) w) 0 0) _
       ∙ run-at buffer-at (buffer-codec .size) 0 w (omega arith)
 
   buffer-sound : buffer-good c (sound-key s) up w

@@ -20,7 +20,7 @@ use Rattle.layout.proofs.Parts.{settings-are}
 use Rattle.layout.proofs.Sound.{words-limits}
 use Rattle.layout.proofs.Bytes.{bytes-sound, bytes-size}
 use Rattle.sound.specs.Store.{header-good, parts-good}
-use Rattle.sound.proofs.Tests.{no-first, yes-first}
+use Rattle.lists.proofs.Tests.{no-first, yes-first}
 use Rattle.sound.proofs.StoreSound.{parts-sound}
 
 pub header-given : (c : Settings) (ws : List ℕ) → header-good c ws ≡ true → getD ws given-at 0 ≤ max-id

@@ -19,7 +19,7 @@ use Rattle.log.proofs.Codec.{dec-length}
 use Rattle.log.proofs.Check.{good-over, is-log, good-in-order, row-far, row-flag, row-fine, row-key-by, order-all}
 use Rattle.layout.specs.Layout.{log-codec, log-words}
 use Rattle.sound.specs.Chunks.{key-before, row-passes, log-good}
-use Rattle.sound.proofs.Tests.{no-first, no-second, every-by, every-at}
+use Rattle.lists.proofs.Tests.{no-first, no-second, every-by, every-at}
 
 -- ---- what one turn tells of the row at position j
 module _ (good : ℕ → Bool) (L n : ℕ) (ws : List ℕ) (j p : ℕ) (e : p ≡ position-at L ws j) where

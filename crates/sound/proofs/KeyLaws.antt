@@ -20,8 +20,8 @@ use Rattle.layout.proofs.Places.{of-same}
 use Rattle.sound.specs.Rows.{key-below}
 use Rattle.sound.specs.Places.{id-at}
 use Rattle.sound.specs.Limits.{was-given, next-in, Given, Filled}
-use Rattle.sound.proofs.Tests.{no-first, yes-first}
-use Rattle.sound.proofs.RowLaws.{run-at}
+use Rattle.lists.proofs.Tests.{no-first, yes-first}
+use Rattle.lists.proofs.Runs.{run-at}
 
 -- key 0 stands nowhere: no brick has id 0
 pub zero-not-below : (limits : List ℕ) → getD limits 0 0 ≡ 0 → key-below limits 0 ≡ false

@@ -1,5 +1,3 @@
-pub mod Tests
-pub mod Lent
 pub mod RowLaws
 pub mod KeyLaws
 pub mod ChunkLaws

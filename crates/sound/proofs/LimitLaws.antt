@@ -17,7 +17,7 @@ use Rattle.layout.specs.Places.{of}
 use Rattle.layout.proofs.Places.{of-zero}
 use Rattle.sound.specs.Places.{id-at}
 use Rattle.sound.specs.Limits.{was-given, with-limit, next-in, Given, Filled}
-use Rattle.sound.proofs.Tests.{no-first, no-second}
+use Rattle.lists.proofs.Tests.{no-first, no-second}
 
 -- ---- an id given
 pub given-yes : (given i : ℕ) → 0 < i → i ≤ given → was-given given i ≡ true

@@ -21,7 +21,7 @@ use Rattle.layout.specs.Store.{decode}
 use Rattle.layout.proofs.Clean.{PlaceClean}
 use Rattle.layout.proofs.Parts.{given-read, id-read}
 use Rattle.sound.specs.Places.{brick-good, id-at, alone-at, place-at-good}
-use Rattle.sound.proofs.Tests.{all-same}
+use Rattle.lists.proofs.Tests.{all-same}
 use Rattle.sound.proofs.KeyLaws.{id-here}
 use Rattle.sound.proofs.BrickSound.{brick-there, brick-back}
 

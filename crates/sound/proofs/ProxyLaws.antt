@@ -9,18 +9,18 @@ use lib.ListN.{length, drop, getD, length-drop}
 use lib.Seq.{getD-take}
 use Rattle.lists.specs.Tests.{_and_}
 use Rattle.lists.specs.Runs.{run}
+use Rattle.lists.specs.Rows.{rows, table-dec}
 use Rattle.lists.proofs.Runs.{run-all}
 use Rattle.lists.proofs.Tests.{by-eq, both, or-l}
 use Rattle.rules.specs.declared.settings.Settings.{Settings}
 use Rattle.rules.specs.Limits.{max-number, max-items, max-waiting}
-use Rattle.codec.specs.Codec.{rows}
 use Rattle.layout.specs.Layout.{proxy-codec, items-codec, proxy-words, items-at, buffer-codec, buffer-at}
 use Rattle.sound.specs.declared.rows.Whose.the-variants.{Proxy, Anyone}
 use Rattle.sound.specs.Rows.{entries-in, rows-good, table-good}
 use Rattle.sound.specs.Proxies.{proxy-good}
 use Rattle.sound.specs.Places.{buffer-good}
-use Rattle.sound.proofs.Tests.{no-second, yes-second, or-no}
-use Rattle.sound.proofs.RowLaws.{run-at}
+use Rattle.lists.proofs.Tests.{no-second, yes-second, or-no}
+use Rattle.lists.proofs.Runs.{run-at}
 
 module _ (c : Settings) (good : ℕ → Bool) where
   pub proxy-is : (p : ℕ) (ws v : List ℕ) → length ws ≡ proxy-words → v ≡ run items-at (items-codec .size) ws
@@ -35,7 +35,7 @@ module _ (c : Settings) (good : ℕ → Bool) where
     count = run-at buffer-at (buffer-codec .size) 0 w (omega arith)
 
     none : getD w buffer-at 0 ≡ 0 → table-good c good Anyone max-waiting (buffer-codec .dec (run buffer-at (buffer-codec .size) w)) ≡ true
-    unfolding table-good rows-good rows _and_
+    unfolding table-good rows-good rows table-dec _and_
     none e = rw (count ∙ e)
 
     -- of a down brick it is empty

@@ -25,7 +25,7 @@ use Rattle.sound.specs.Agreed.{agreed-at-good}
 use Rattle.sound.specs.Proxies.{proxy-at-good}
 use Rattle.sound.specs.Places.{place-at-good}
 use Rattle.sound.specs.Store.{contents-good, parts-good}
-use Rattle.sound.proofs.Tests.{all-same}
+use Rattle.lists.proofs.Tests.{all-same}
 use Rattle.sound.proofs.PartSound.{header-is, bucket-there, bucket-back, proxy-is-sound, bag-is}
 use Rattle.sound.proofs.PlaceSound.{places-apart, place-there, place-back}
 

@@ -18,7 +18,7 @@ use Rattle.sound.specs.declared.rows.Whose.{Whose}
 use Rattle.sound.specs.declared.rows.Whose.the-variants.{Bucket, Proxy, Anyone}
 use Rattle.sound.specs.Rows.{belongs, floor-after, entry-good, rows-good, table-good}
 use Rattle.sound.specs.Bag.{relay-good, bag-good}
-use Rattle.sound.proofs.Tests.{no-second, yes-first}
+use Rattle.lists.proofs.Tests.{no-second, yes-first}
 
 -- ---- connectives
 and-four : (a b x y : Bool) → (a and b and (x and y)) ≡ (a and x and (b and y))

@@ -10,14 +10,14 @@ use Rattle.rules.specs.declared.settings.Settings.{Settings}
 use Rattle.rules.specs.Limits.{buckets, max-number, max-relays}
 use Rattle.rules.specs.Numbers.{blocks, bucket-of}
 use Rattle.rules.specs.State.{Relay}
+use Rattle.layout.specs.Disk.{relay}
 use Rattle.layout.specs.Layout.{bag-words}
 use Rattle.sound.specs.Rows.{ids}
 
 -- relay i, in the words of the bag
 abbrev pub relay-at : List ℕ → ℕ → Relay
 relay-at ws i =
-    let at = 1 + 5 * i in
-    record { view = getD ws at 0; bucket = getD ws (at + 1) 0; order = getD ws (at + 2) 0; block = getD ws (at + 3) 0; key = getD ws (at + 4) 0 }
+    let at = 1 + 5 * i in relay (getD ws at 0) (getD ws (at + 1) 0) (getD ws (at + 2) 0) (getD ws (at + 3) 0) (getD ws (at + 4) 0)
 
 unfoldable pub relay-good : Settings → (ℕ → Bool) → Relay → Bool
 relay-good c good r =

@@ -6,12 +6,12 @@ use Prim.Native.Nat.{ℕ, suc, _+_, _*_, _≤_}
 use lib.Dec.{ltb, leb, eqb}
 use lib.ListN.{length, getD, drop}
 use Rattle.lists.specs.Tests.{_and_}
+use Rattle.lists.specs.Rows.{rows, table-dec}
 use Rattle.rules.specs.declared.settings.Settings.{Settings}
 use Rattle.rules.specs.Limits.{buckets, max-id, max-entries}
 use Rattle.rules.specs.Numbers.{blocks, proxy-of, bucket-of, home-of, sequence-of}
 use Rattle.rules.specs.Entries.{Entry}
-use Rattle.codec.specs.Codec.{rows}
-use Rattle.layout.specs.Layout.{entry-codec}
+use Rattle.layout.specs.Disk.{entry-row}
 use Rattle.sound.specs.declared.rows.Whose.{Whose}
 use Rattle.sound.specs.declared.rows.Whose.the-variants.{Bucket, Proxy, Anyone}
 
@@ -47,9 +47,12 @@ pub record RowsFit (limits bytes n : ℕ) : Type 0 where
   pub known : limits ≡ ids
   pub room : 8 * (1 + 2 * n) ≤ bytes
 
--- a table, whatever the number of rows that it has room for
+-- the first n entries, and all in use
+abbrev pub first-entries : ℕ → List ℕ → List Entry
+first-entries n ws = rows (entry-row .size) (entry-row .read) n (drop 1 ws)
+
 abbrev pub entries-in : List ℕ → List Entry
-entries-in ws = rows entry-codec (getD ws 0 0) (drop 1 ws)
+entries-in ws = table-dec (entry-row .size) (entry-row .read) ws
 
 unfoldable pub table-good : Settings → (ℕ → Bool) → Whose → ℕ → List Entry → Bool
 table-good c good whose most l = leb (length l) most and rows-good c good whose 0 l
@@ -58,8 +61,3 @@ pub record TableFit (limits bytes most : ℕ) : Type 0 where
   pub known : limits ≡ ids
   pub size : bytes ≡ 8 * (1 + 2 * most)
   pub few : most ≤ max-entries
-
--- two tables with room for as many rows, the first of which has room for its own
-pub record SameFit (ws : List ℕ) (one other : ℕ) : Type 0 where
-  pub room : 8 * (1 + 2 * getD ws 0 0) ≤ one
-  pub equal : one ≡ other

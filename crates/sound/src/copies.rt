@@ -17,20 +17,31 @@ fn copies_good(settings: Settings, limits: &[u64], bucket: u64, up: bool, copies
     requires { ⌜ CopiesFit settings (length (now limits)) (length (now copies)) ⌝ }
     ensures { λ r. ⌜ r ≡ copies-good settings (key-below (now (limits .entry))) bucket up (copies-codec settings .dec (words (now (copies .entry)))) ⌝ }
 {
-    let entries = settings.entries;
     let half = 8 * sizes::copy_words(settings);
     let memory = &copies[0..half];
-    if !rows::table_good(settings, limits, Whose::Bucket(bucket), memory, entries) {
+    if !rows::table_good(
+        settings,
+        limits,
+        Whose::Bucket(bucket),
+        memory,
+        settings.entries,
+    ) {
         return false;
     }
     let disk = &copies[half..half + half];
-    if !rows::table_good(settings, limits, Whose::Bucket(bucket), disk, entries) {
+    if !rows::table_good(
+        settings,
+        limits,
+        Whose::Bucket(bucket),
+        disk,
+        settings.entries,
+    ) {
         return false;
     }
     if up {
         return true;
     }
-    rows::same_tables(memory, disk)
+    entries::same(memory, disk, settings.entries)
 }
 
 // The copies of all buckets.

@@ -1,14 +1,11 @@
 // Keys, entries, and tables of entries: bucket copies, items, append buffers.
 ghost use mathlib.Core.Path.{_≡_};
-ghost use Prim.Native.Nat.{_+_, _*_, _<_, _≤_};
-ghost use lib.ListN.{length, drop};
+ghost use Prim.Native.Nat.{_<_};
+ghost use lib.ListN.{length};
 ghost use Rattle.words.specs.Words.{words};
 ghost use Rattle.rules.specs.Numbers.{blocks};
 ghost use Rattle.rules.specs.Entries.{entry};
-ghost use Rattle.rules.specs.Sound.{same-entries};
-ghost use Rattle.codec.specs.Codec.{rows};
-ghost use Rattle.layout.specs.Layout.{entry-codec};
-ghost use Rattle.sound.specs.Rows.{ids, key-below, belongs, floor-after, entry-good, rows-good, entries-in, table-good, RowsFit, TableFit, SameFit};
+ghost use Rattle.sound.specs.Rows.{ids, key-below, belongs, floor-after, entry-good, rows-good, first-entries, entries-in, table-good, RowsFit, TableFit};
 use rules::constants;
 use rules::numbers::BlockNumber;
 use rules::numbers::ChunkKey;
@@ -67,7 +64,7 @@ fn entry_good(settings: Settings, limits: &[u64], whose: Whose, block: u64, key:
 // The first n rows of a table.
 fn rows_good(settings: Settings, limits: &[u64], whose: Whose, table: &[u8], n: usize) -> bool
     requires { ⌜ RowsFit (length (now limits)) (length (now table)) n ⌝ }
-    ensures { λ r. ⌜ r ≡ rows-good settings (key-below (now (limits .entry))) whose 0 (rows entry-codec n (drop 1 (words (now (table .entry))))) ⌝ }
+    ensures { λ r. ⌜ r ≡ rows-good settings (key-below (now (limits .entry))) whose 0 (first-entries n (words (now (table .entry)))) ⌝ }
 {
     let mut floor = 0;
     let mut i = 0;
@@ -102,34 +99,4 @@ pub fn table_good(
         return false;
     }
     rows_good(settings, limits, whose, bytes, count as usize)
-}
-
-// Are the first n rows of two tables the same?
-fn same_rows(one: &[u8], other: &[u8], n: usize) -> bool
-    requires { ⌜ (8 * (1 + 2 * n) ≤ length (now one)) × (8 * (1 + 2 * n) ≤ length (now other)) ⌝ }
-    ensures { λ r. ⌜ r ≡ same-entries (rows entry-codec n (drop 1 (words (now (one .entry))))) (rows entry-codec n (drop 1 (words (now (other .entry))))) ⌝ }
-{
-    let mut i = 0;
-    while i < n {
-        if words::read(one, 1 + 2 * i) != words::read(other, 1 + 2 * i) {
-            return false;
-        }
-        if words::read(one, 2 + 2 * i) != words::read(other, 2 + 2 * i) {
-            return false;
-        }
-        i += 1;
-    }
-    true
-}
-
-// Are two tables the same?
-pub fn same_tables(one: &[u8], other: &[u8]) -> bool
-    requires { ⌜ SameFit (words (now one)) (length (now one)) (length (now other)) ⌝ }
-    ensures { λ r. ⌜ r ≡ same-entries (entries-in (words (now (one .entry)))) (entries-in (words (now (other .entry)))) ⌝ }
-{
-    let count = words::read(one, 0);
-    if count != words::read(other, 0) {
-        return false;
-    }
-    same_rows(one, other, count as usize)
 }

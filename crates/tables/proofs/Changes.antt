@@ -14,8 +14,9 @@ use Rattle.lists.proofs.Tests.{by, length-only}
 use Rattle.lists.proofs.Lists.{only-more}
 use Rattle.lists.proofs.Runs.{fits-in, sized-take, sized-only, on-left, on-set, on-within, on-record, enc-all-append, length-enc-all, paste-run, on-by}
 use Rattle.lists.proofs.Runs.{run-length}
-use Rattle.tables.specs.Tables.{table-words, rows, table-dec, table-enc, row, insert-at, remove-at, kept, sifting}
-use Rattle.tables.proofs.Rows.{length-rows, rows-take, rows-drop, row-at, enc-rows, sized-rows, count-cons, tail-length, in-rows}
+use Rattle.lists.specs.Rows.{table-words, rows, table-dec, table-enc, row}
+use Rattle.tables.specs.Tables.{insert-at, remove-at, kept, sifting}
+use Rattle.lists.proofs.Rows.{length-rows, rows-take, rows-drop, row-at, enc-rows, sized-rows, count-cons, tail-length, in-rows}
 
 -- ---- lists: a run moved up with another in the gap, and a run moved down
 -- one element before the list

@@ -8,8 +8,11 @@ use lib.ListN.{length, getD, drop, set, drop-of-length-le}
 use lib.Seq.{take-all}
 use Rattle.lists.specs.Tests.{only}
 use Rattle.lists.proofs.Lists.{getD-map-in, map-only}
-use Rattle.tables.specs.Tables.{table-words, table-dec, table-enc, row, insert-at, remove-at}
-use Rattle.tables.proofs.Rows.{length-rows, enc-raw, dec-raw}
+use Rattle.lists.specs.Rows.{table-words, table-dec, table-enc, row}
+use Rattle.tables.specs.Tables.{insert-at, remove-at}
+use Rattle.codec.specs.Codec.{Row}
+use Rattle.codec.proofs.Laws.{Exact, all-sized}
+use Rattle.lists.proofs.Rows.{length-rows, enc-raw, dec-raw, table-clean, table-back, table-over, table-keeps}
 
 map-insert : {A B : Type 0} (f : A → B) (p : ℕ) (x : A) (l : List A) → map f (insert-at p x l) ≡ insert-at p (f x) (map f l)
 map-insert f zero x l = refl
@@ -28,45 +31,61 @@ map-set f zero x (y ∷ l) = refl
 map-set {A} {B} f (suc p) x (y ∷ l) = ap (λ (r : List B). f y ∷ r) (map-set f p x l)
 
 -- rows that are values, written
-pub typed : {A : Type 0} (w : ℕ) (write : A → List ℕ) (l : List A) (rs : List (List ℕ)) → rs ≡ map write l → (ws : List ℕ)
-    → table-enc w row rs ws ≡ table-enc w write l ws
-typed w write l rs e ws = rw e (enc-raw w write l ws)
+pub typed : {A : Type 0} (r : Row A) (l : List A) (rs : List (List ℕ)) → rs ≡ map (r .write) l → (ws : List ℕ)
+    → table-enc (r .size) row rs ws ≡ table-enc (r .size) (r .write) l ws
+typed r l rs e ws = rw e (enc-raw (r .size) (r .write) l ws)
 
-module _ {A : Type 0} (w : ℕ) (read : List ℕ → A) (write : A → List ℕ) (exact : (r : List ℕ) → length r ≡ w → write (read r) ≡ r) where
-  module _ (most : ℕ) (ws : List ℕ) (hl : length ws ≡ table-words w most) (few : getD ws 0 0 ≤ most) where
-    pub typed-rows : table-dec w row ws ≡ map write (table-dec w read ws)
-    typed-rows = sym (dec-raw w most ws hl read write exact few)
+module _ {A : Type 0} {r : Row A} (x : Exact r) (most : ℕ) (ws : List ℕ) (hl : length ws ≡ table-words (r .size) most) where
+  -- the rows, as lists of words and as values
+  abbrev raw : List (List ℕ)
+  raw = table-dec (r .size) row ws
 
-    pub typed-length : length (table-dec w read ws) ≡ getD ws 0 0
+  abbrev values : List A
+  values = table-dec (r .size) (r .read) ws
+
+  -- values written are read back; over fewer; in as many words
+  pub typed-back : (l : List A) → table-dec (r .size) (r .read) (table-enc (r .size) (r .write) l ws) ≡ l
+  typed-back l = table-back (r .size) most ws hl (r .read) (r .write) (x .back) (all-sized x l)
+
+  pub typed-over : (k l : List A) → length k ≤ length l
+      → table-enc (r .size) (r .write) l (table-enc (r .size) (r .write) k ws) ≡ table-enc (r .size) (r .write) l ws
+  typed-over k l h = table-over (r .size) most ws hl (r .read) (r .write) (all-sized x k) l h
+
+  pub typed-keeps : (l : List A) → length l ≤ most → length (table-enc (r .size) (r .write) l ws) ≡ length ws
+  typed-keeps l h = table-keeps (r .size) most ws hl (r .read) (r .write) (all-sized x l) h
+
+  module _ (few : getD ws 0 0 ≤ most) where
+    pub typed-clean : table-enc (r .size) (r .write) values ws ≡ ws
+    typed-clean = table-clean (r .size) most ws hl (r .read) (r .write) (x .exact) few
+
+    pub typed-rows : raw ≡ map (r .write) values
+    typed-rows = sym (dec-raw (r .size) most ws hl (r .read) (r .write) (x .exact) few)
+
+    pub typed-length : length values ≡ getD ws 0 0
     unfolding table-dec
-    typed-length = length-rows w read (getD ws 0 0) (drop 1 ws)
+    typed-length = length-rows (r .size) (r .read) (getD ws 0 0) (drop 1 ws)
 
-    pub typed-insert : (p : ℕ) (x : A) → table-enc w row (insert-at p (write x) (table-dec w row ws)) ws ≡ table-enc w write (insert-at p x (table-dec w read ws)) ws
-    typed-insert p x =
-        typed w write (insert-at p x (table-dec w read ws)) (insert-at p (write x) (table-dec w row ws))
-        (rw typed-rows (sym (map-insert write p x (table-dec w read ws)))) ws
+    pub typed-insert : (p : ℕ) (a : A) → table-enc (r .size) row (insert-at p (r .write a) raw) ws ≡ table-enc (r .size) (r .write) (insert-at p a values) ws
+    typed-insert p a = typed r (insert-at p a values) (insert-at p (r .write a) raw) (rw typed-rows (sym (map-insert (r .write) p a values))) ws
 
     -- at the end
-    pub typed-append : (n : ℕ) (x : A) → n ≡ getD ws 0 0
-        → table-enc w row (insert-at n (write x) (table-dec w row ws)) ws ≡ table-enc w write (table-dec w read ws ++ x ∷ []) ws
-    typed-append n x e =
-        let l : length (table-dec w read ws) ≤ n = rw (typed-length, e) (le-refl (getD ws 0 0)) in
-        typed-insert n x
-        ∙ ap (λ (r : List A). table-enc w write r ws) (rw (take-all n (table-dec w read ws) l, drop-of-length-le (table-dec w read ws) l))
+    pub typed-append : (n : ℕ) (a : A) → n ≡ getD ws 0 0
+        → table-enc (r .size) row (insert-at n (r .write a) raw) ws ≡ table-enc (r .size) (r .write) (values ++ a ∷ []) ws
+    typed-append n a e =
+        let l : length values ≤ n = rw (typed-length, e) (le-refl (getD ws 0 0)) in
+        typed-insert n a
+        ∙ ap (λ (k : List A). table-enc (r .size) (r .write) k ws) (rw (take-all n values l, drop-of-length-le values l))
 
-    pub typed-remove : (p : ℕ) → table-enc w row (remove-at p (table-dec w row ws)) ws ≡ table-enc w write (remove-at p (table-dec w read ws)) ws
-    typed-remove p =
-        typed w write (remove-at p (table-dec w read ws)) (remove-at p (table-dec w row ws)) (rw typed-rows (sym (map-remove write p (table-dec w read ws)))) ws
+    pub typed-remove : (p : ℕ) → table-enc (r .size) row (remove-at p raw) ws ≡ table-enc (r .size) (r .write) (remove-at p values) ws
+    typed-remove p = typed r (remove-at p values) (remove-at p raw) (rw typed-rows (sym (map-remove (r .write) p values))) ws
 
-    pub typed-only : (test : List ℕ → Bool) (p : A → Bool) → ((a : A) → test (write a) ≡ p a)
-        → table-enc w row (only test (table-dec w row ws)) ws ≡ table-enc w write (only p (table-dec w read ws)) ws
-    typed-only test p e =
-        typed w write (only p (table-dec w read ws)) (only test (table-dec w row ws)) (rw typed-rows (sym (map-only write p test e (table-dec w read ws)))) ws
+    pub typed-only : (test : List ℕ → Bool) (p : A → Bool) → ((a : A) → test (r .write a) ≡ p a)
+        → table-enc (r .size) row (only test raw) ws ≡ table-enc (r .size) (r .write) (only p values) ws
+    typed-only test p e = typed r (only p values) (only test raw) (rw typed-rows (sym (map-only (r .write) p test e values))) ws
 
     -- the value at a place, and another in its stead
-    pub typed-at : (p : ℕ) (d : A) → p < getD ws 0 0 → getD (table-dec w row ws) p [] ≡ write (getD (table-dec w read ws) p d)
-    typed-at p d h = rw typed-rows (getD-map-in write (table-dec w read ws) p [] d (rw typed-length h))
+    pub typed-at : (p : ℕ) (d : A) → p < getD ws 0 0 → getD raw p [] ≡ r .write (getD values p d)
+    typed-at p d h = rw typed-rows (getD-map-in (r .write) values p [] d (rw typed-length h))
 
-    pub typed-set : (p : ℕ) (x : A) → table-enc w row (set (table-dec w row ws) p (write x)) ws ≡ table-enc w write (set (table-dec w read ws) p x) ws
-    typed-set p x =
-        typed w write (set (table-dec w read ws) p x) (set (table-dec w row ws) p (write x)) (rw typed-rows (sym (map-set write p x (table-dec w read ws)))) ws
+    pub typed-set : (p : ℕ) (a : A) → table-enc (r .size) row (set raw p (r .write a)) ws ≡ table-enc (r .size) (r .write) (set values p a) ws
+    typed-set p a = typed r (set values p a) (set raw p (r .write a)) (rw typed-rows (sym (map-set (r .write) p a values))) ws

@@ -1,33 +1,13 @@
--- A table in a run of words: a count, then rows of one width. Rows past the count are not in use and keep what they hold.
+-- What the functions on a table of any width need and leave.
 use mathlib.Core.Path.{_≡_}
 use mathlib.Core.Bool.{Bool}
 use mathlib.Core.List.{List, [], _∷_, _++_}
-use Prim.Native.Nat.{ℕ, zero, suc, _+_, _*_, _-_, _≤_, _<_}
-use lib.Dec.{ltb, eqb}
+use Prim.Native.Nat.{ℕ, suc, _+_, _*_, _≤_, _<_}
+use lib.Dec.{eqb}
 use lib.ListN.{length, getD, take, drop, set}
 use Rattle.lists.specs.Tests.{_and_, all-below, only}
-use Rattle.lists.specs.Runs.{run, on-run, enc-all}
-
--- so many words has a table of at most so many rows
-abbrev pub table-words : ℕ → ℕ → ℕ
-table-words width most = 1 + most * width
-
--- the first n rows, each read from `width` words
-unfoldable pub rows : {A : Type 0} → ℕ → (List ℕ → A) → ℕ → List ℕ → List A
-rows width read zero ws = []
-rows width read (suc n) ws = read (take width ws) ∷ rows width read n (drop width ws)
-
--- the rows in use
-unfoldable pub table-dec : {A : Type 0} → ℕ → (List ℕ → A) → List ℕ → List A
-table-dec width read ws = rows width read (getD ws 0 0) (drop 1 ws)
-
--- rows written over words: the count, the rows one after the other, and past them what was there
-unfoldable pub table-enc : {A : Type 0} → ℕ → (A → List ℕ) → List A → List ℕ → List ℕ
-table-enc width write l ws = length l ∷ (enc-all write l ++ drop (length l * width) (drop 1 ws))
-
--- a row as the list of its words
-abbrev pub row : List ℕ → List ℕ
-row r = r
+use Rattle.lists.specs.Runs.{run, on-run}
+use Rattle.lists.specs.Rows.{over-rows, table-words, table-dec, table-enc, row}
 
 -- a table's words with its rows changed
 abbrev pub change-table : ℕ → (List (List ℕ) → List (List ℕ)) → List ℕ → List ℕ
@@ -57,19 +37,11 @@ abbrev pub kept : ℕ → (List ℕ → Bool) → ℕ → List ℕ → List (Lis
 kept width test i ws = only test (take i (table-dec width row ws))
 
 unfoldable pub sifting : ℕ → (List ℕ → Bool) → ℕ → List ℕ → List ℕ
-sifting width test i ws =
-    let l = kept width test i ws in getD ws 0 0 ∷ (enc-all row l ++ drop (length l * width) (drop 1 ws))
+sifting width test i ws = getD ws 0 0 ∷ over-rows width row (kept width test i ws) (drop 1 ws)
 
 -- ---- by the first word of each row
 abbrev pub first-at : ℕ → List ℕ → ℕ → ℕ
 first-at width ws i = getD ws (1 + i * width) 0
-
--- they ascend strictly
-abbrev pub rises-at : ℕ → List ℕ → ℕ → Bool
-rises-at width ws i = ltb (first-at width ws i) (first-at width ws (i + 1))
-
-unfoldable pub ascends : ℕ → List ℕ → Bool
-ascends width ws = all-below (getD ws 0 0 - 1) (rises-at width ws)
 
 -- two tables with the same rows
 abbrev pub same-at : List ℕ → List ℕ → ℕ → Bool

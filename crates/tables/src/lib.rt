@@ -5,7 +5,8 @@ ghost use Prim.Native.Nat.{_+_, _*_, _≤_, _<_};
 ghost use lib.ListN.{length, getD};
 ghost use Rattle.lists.specs.Tests.{all-below};
 ghost use Rattle.words.specs.Words.{words};
-ghost use Rattle.tables.specs.Tables.{table-dec, change-table, row, cell-at, set-cell, insert-at, remove-at, copied, ascends, same-at, same-rows};
+ghost use Rattle.lists.specs.Rows.{table-dec, row};
+ghost use Rattle.tables.specs.Tables.{change-table, cell-at, set-cell, insert-at, remove-at, copied, same-at, same-rows};
 ghost use Rattle.tables.specs.Tables.{TwoTables, IsTable, Sorted, Place};
 ghost use Rattle.tables.specs.Spots.{SpotOf};
 
@@ -60,26 +61,7 @@ pub fn find(t: &[u8], width: usize, most: usize, x: u64) -> Spot
     Spot::Gap(p)
 }
 
-// ---- checks
-
-// Do the first words of the rows ascend strictly?
-pub fn is_sorted(t: &[u8], width: usize, most: usize) -> bool
-    requires { ⌜ IsTable width most (words (now t)) (length (now t)) ⌝ }
-    requires { ⌜ 1 ≤ width ⌝ }
-    ensures { λ r. ⌜ r ≡ ascends width (words (now (t .entry))) ⌝ }
-{
-    let n = words::read(t, 0) as usize;
-    let mut i = 0;
-    while i + 1 < n {
-        let at = words::offset(i, width, most);
-        let next = words::offset(i + 1, width, most);
-        if words::read(t, 1 + next) <= words::read(t, 1 + at) {
-            return false;
-        }
-        i += 1;
-    }
-    true
-}
+// ---- comparison
 
 // Do the n words after the first agree?
 fn same_words(a: &[u8], b: &[u8], n: usize) -> bool

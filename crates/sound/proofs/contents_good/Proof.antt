@@ -7,8 +7,8 @@ use Rattle.layout.specs.Layout.{bag-codec, bag-at, bag-words}
 use Rattle.sound.specs.Rows.{key-below}
 use Rattle.sound.specs.Bag.{bag-good}
 use Rattle.sound.specs.Store.{contents-good}
-use Rattle.sound.proofs.Tests.{no-first, no-second, yes-first}
-use Rattle.sound.proofs.Lent.{lent}
+use Rattle.lists.proofs.Tests.{no-first, no-second, yes-first}
+use Rattle.layout.proofs.Lent.{lent}
 use native.Mathlib.Omega.{arith}
 use borrow.Author.Needs.{needs}
 use Rattle.sound.proofs.contents_good.Statement.{statement}

@@ -14,7 +14,7 @@ use Rattle.layout.specs.Store.{decode}
 use Rattle.sound.specs.Rows.{ids}
 use Rattle.sound.specs.Agreed.{agreed-at-good}
 use Rattle.sound.specs.Store.{contents-good, parts-good}
-use Rattle.sound.proofs.Tests.{no-first, no-second, yes-first}
+use Rattle.lists.proofs.Tests.{no-first, no-second, yes-first}
 use Rattle.sound.proofs.KeyLaws.{zeros, zero-limit, keys-below}
 use Rattle.sound.proofs.ByteLaws.{header-given}
 use native.Mathlib.Omega.{arith}

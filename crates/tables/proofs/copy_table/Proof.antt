@@ -3,7 +3,7 @@ use native.Mathlib.Omega.{arith}
 use native.Mathlib.Nat.{mul-le-mul-right}
 use Rattle.words.specs.Words.{words}
 use Rattle.words.proofs.Laws.{room}
-use Rattle.tables.specs.Tables.{table-words}
+use Rattle.lists.specs.Rows.{table-words}
 use Rattle.tables.proofs.Changes.{copied-run}
 use borrow.Author.Needs.{needs}
 use Rattle.tables.proofs.copy_table.Statement.{statement}

@@ -8,7 +8,7 @@ use Rattle.words.specs.Words.{words}
 use Rattle.rules.specs.Limits.{buckets}
 use Rattle.layout.specs.Layout.{agreed-words, agreed-at}
 use Rattle.sound.specs.Agreed.{agreed-good, agreed-at-good}
-use Rattle.sound.proofs.Lent.{lent}
+use Rattle.layout.proofs.Lent.{lent}
 use native.Mathlib.Omega.{arith}
 use borrow.Author.Needs.{needs}
 use Rattle.sound.proofs.agreed.all_agreed_good.Statement.{statement}

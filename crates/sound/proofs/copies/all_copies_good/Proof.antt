@@ -8,7 +8,7 @@ use Rattle.words.specs.Words.{words}
 use Rattle.rules.specs.Limits.{buckets}
 use Rattle.sound.specs.Rows.{key-below}
 use Rattle.sound.specs.Copies.{copies-at-good}
-use Rattle.sound.proofs.Lent.{lent}
+use Rattle.layout.proofs.Lent.{lent}
 use Rattle.sound.proofs.CopyLaws.{copies-part}
 use native.Mathlib.Omega.{arith}
 use borrow.Author.Needs.{needs}

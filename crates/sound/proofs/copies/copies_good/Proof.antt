@@ -1,16 +1,11 @@
-use mathlib.Core.Path.{refl, sym, _∙_}
-use Prim.Native.Nat.{_+_, _*_, _-_}
-use lib.ListN.{take, drop}
+use mathlib.Core.Path.{sym, _∙_}
+use Prim.Native.Nat.{_*_}
 use borrow.Author.Tests.{not-true, not-false}
-use Rattle.lists.proofs.Tests.{both, or-l}
-use Rattle.words.specs.Words.{words}
-use Rattle.words.proofs.Laws.{length-words}
-use Rattle.layout.specs.Layout.{copy-codec}
+use Rattle.lists.proofs.Tests.{both, or-l, no-first, no-second, yes-first, or-no}
+use Rattle.entries.proofs.Words.{entries-read}
 use Rattle.sound.specs.Rows.{key-below}
-use Rattle.sound.proofs.Tests.{no-first, no-second, yes-first, or-no}
-use Rattle.sound.proofs.Lent.{lent}
 use Rattle.sound.proofs.RowLaws.{table-few}
-use Rattle.sound.proofs.CopyLaws.{copies-are}
+use Rattle.sound.proofs.CopyLaws.{copies-lent}
 use native.Mathlib.Omega.{arith}
 use borrow.Author.Needs.{needs}
 use Rattle.sound.proofs.copies.copies_good.Statement.{statement}
@@ -36,10 +31,9 @@ table-good-requires c κs = search needs
 
 returns : tie.Need-returns
 returns c =
-    let s = c .before .before .before .before .before .before .args .copies .now in
-    let h = 8 * c .before .before .before .copy-words .result in
-    let k = copy-codec (c .before .before .before .before .before .before .args .settings) .size in
-    let e = copies-are (c .before .before .before .before .before .before .args .settings) (key-below (c .before .before .before .before .before .before .args .limits .now)) (c .before .before .before .before .before .before .args .up) (c .before .before .before .before .before .before .args .bucket) (words s) _ _ (length-words s ∙ omega arith) (lent s 0 (8 * c .before .before .before .copy-words .result) 0 k refl (omega arith) (omega arith)) (lent s h (h + h) k k (omega arith) (omega arith) (omega arith)) in
+    let s = c .before .before .before .before .before .before in
+    let e = copies-lent (s .args .settings) (key-below (s .args .limits .now)) (s .args .up) (s .args .bucket)
+    (8 * c .before .before .before .copy-words .result) (s .args .copies .now) (omega arith) (omega arith) in
     sym (e ∙ no-first _ _ (no-first _ _ (sym (c .before .table-good .ensures) ∙ not-true _ (c .if1 .taken))))
 
 add-disk : tie.Need-add-disk
@@ -59,30 +53,38 @@ table-good-requires-2 c κs = search needs
 
 returns-2 : tie.Need-returns-2
 returns-2 c =
-    let s = c .before .before .before .before .before .before .before .before .before .args .copies .now in
-    let h = 8 * c .before .before .before .before .before .before .copy-words .result in
-    let k = copy-codec (c .before .before .before .before .before .before .before .before .before .args .settings) .size in
-    let e = copies-are (c .before .before .before .before .before .before .before .before .before .args .settings) (key-below (c .before .before .before .before .before .before .before .before .before .args .limits .now)) (c .before .before .before .before .before .before .before .before .before .args .up) (c .before .before .before .before .before .before .before .before .before .args .bucket) (words s) _ _ (length-words s ∙ omega arith) (lent s 0 (8 * c .before .before .before .before .before .before .copy-words .result) 0 k refl (omega arith) (omega arith)) (lent s h (h + h) k k (omega arith) (omega arith) (omega arith)) in
+    let s = c .before .before .before .before .before .before .before .before .before in
+    let e = copies-lent (s .args .settings) (key-below (s .args .limits .now)) (s .args .up) (s .args .bucket)
+    (8 * c .before .before .before .before .before .before .copy-words .result) (s .args .copies .now) (omega arith) (omega arith) in
     sym (e ∙ no-first _ _ (no-second _ _ (sym (c .before .table-good2 .ensures) ∙ not-true _ (c .if2 .taken))))
 
 returns-3 : tie.Need-returns-3
 returns-3 c =
-    let s = c .before .before .before .before .before .before .before .before .before .before .args .copies .now in
-    let h = 8 * c .before .before .before .before .before .before .before .copy-words .result in
-    let k = copy-codec (c .before .before .before .before .before .before .before .before .before .before .args .settings) .size in
-    let e = copies-are (c .before .before .before .before .before .before .before .before .before .before .args .settings) (key-below (c .before .before .before .before .before .before .before .before .before .before .args .limits .now)) (c .before .before .before .before .before .before .before .before .before .before .args .up) (c .before .before .before .before .before .before .before .before .before .before .args .bucket) (words s) _ _ (length-words s ∙ omega arith) (lent s 0 (8 * c .before .before .before .before .before .before .before .copy-words .result) 0 k refl (omega arith) (omega arith)) (lent s h (h + h) k k (omega arith) (omega arith) (omega arith)) in
-    sym (e ∙ both _ _ (both _ _ (sym (c .before .before .before .before .before .table-good .ensures) ∙ not-false _ (c .before .before .before .before .if1 .left)) (sym (c .before .before .table-good2 .ensures) ∙ not-false _ (c .before .if2 .left))) (or-l _ _ (c .if3 .taken)))
+    let s = c .before .before .before .before .before .before .before .before .before .before in
+    let e = copies-lent (s .args .settings) (key-below (s .args .limits .now)) (s .args .up) (s .args .bucket)
+    (8 * c .before .before .before .before .before .before .before .copy-words .result) (s .args .copies .now) (omega arith) (omega arith) in
+    let after-memory = c .before .before .before .before in
+    let memory = sym (after-memory .before .table-good .ensures) ∙ not-false _ (after-memory .if1 .left) in
+    let disk = sym (c .before .before .table-good2 .ensures) ∙ not-false _ (c .before .if2 .left) in
+    sym (e ∙ both _ _ (both _ _ memory disk) (or-l _ _ (c .if3 .taken)))
 
-same-tables-requires : tie.Need-same-tables-requires
-same-tables-requires c κs = let few = table-few _ _ _ _ (words (take (8 * c .before .before .before .before .before .before .before .copy-words .result - 0) (drop 0 (c .before .before .before .before .before .before .before .before .before .before .args .copies .now)))) (sym (c .before .before .before .before .before .table-good .ensures) ∙ not-false _ (c .before .before .before .before .if1 .left)) in search needs
+same-requires : tie.Need-same-requires
+same-requires c κs =
+    let after-memory = c .before .before .before .before in
+    let few = table-few _ _ _ _ _ (sym (after-memory .before .table-good .ensures) ∙ not-false _ (after-memory .if1 .left)) in
+    let fewd = table-few _ _ _ _ _ (sym (c .before .before .table-good2 .ensures) ∙ not-false _ (c .before .if2 .left)) in
+    (record { few = few; size = search needs }, record { few = fewd; size = search needs })
 
 returns-4 : tie.Need-returns-4
 returns-4 c =
-    let s = c .before .before .before .before .before .before .before .before .before .before .before .args .copies .now in
-    let h = 8 * c .before .before .before .before .before .before .before .before .copy-words .result in
-    let k = copy-codec (c .before .before .before .before .before .before .before .before .before .before .before .args .settings) .size in
-    let e = copies-are (c .before .before .before .before .before .before .before .before .before .before .before .args .settings) (key-below (c .before .before .before .before .before .before .before .before .before .before .before .args .limits .now)) (c .before .before .before .before .before .before .before .before .before .before .before .args .up) (c .before .before .before .before .before .before .before .before .before .before .before .args .bucket) (words s) _ _ (length-words s ∙ omega arith) (lent s 0 (8 * c .before .before .before .before .before .before .before .before .copy-words .result) 0 k refl (omega arith) (omega arith)) (lent s h (h + h) k k (omega arith) (omega arith) (omega arith)) in
-    c .same-tables .ensures ∙ sym (e ∙ yes-first _ _ (both _ _ (sym (c .before .before .before .before .before .before .table-good .ensures) ∙ not-false _ (c .before .before .before .before .before .if1 .left)) (sym (c .before .before .before .table-good2 .ensures) ∙ not-false _ (c .before .before .if2 .left))) ∙ or-no _ _ (c .before .if3 .left))
+    let s = c .before .before .before .before .before .before .before .before .before .before .before in
+    let e = copies-lent (s .args .settings) (key-below (s .args .limits .now)) (s .args .up) (s .args .bucket)
+    (8 * c .before .before .before .before .before .before .before .before .copy-words .result) (s .args .copies .now) (omega arith) (omega arith) in
+    let after-memory = c .before .before .before .before .before in
+    let memory = sym (after-memory .before .table-good .ensures) ∙ not-false _ (after-memory .if1 .left) in
+    let disk = sym (c .before .before .before .table-good2 .ensures) ∙ not-false _ (c .before .before .if2 .left) in
+    c .same .ensures ∙ rw (entries-read (s .args .settings .entries) _, entries-read (s .args .settings .entries) _)
+    (sym (e ∙ yes-first _ _ (both _ _ memory disk) ∙ or-no _ _ (c .before .if3 .left)))
 
 pub copies-good-spec : {M : Type 1} → statement M
 copies-good-spec =
@@ -102,5 +104,5 @@ copies-good-spec =
     table-good-requires-2
     returns-2
     returns-3
-    same-tables-requires
+    same-requires
     returns-4)

@@ -15,8 +15,8 @@ use Rattle.sound.specs.Rows.{key-below}
 use Rattle.sound.specs.Copies.{copies-at-good}
 use Rattle.sound.specs.Chunks.{log-good}
 use Rattle.sound.specs.Places.{buffer-good, brick-good}
-use Rattle.sound.proofs.Tests.{no-first, no-second, yes-first}
-use Rattle.sound.proofs.Lent.{lent}
+use Rattle.lists.proofs.Tests.{no-first, no-second, yes-first}
+use Rattle.layout.proofs.Lent.{lent}
 use native.Mathlib.Omega.{arith}
 use borrow.Author.Needs.{needs}
 use Rattle.sound.proofs.place.brick_good.Statement.{statement}

@@ -4,7 +4,7 @@ use borrow.Author.Tests.{not-true, not-false}
 use Rattle.words.specs.Words.{words}
 use Rattle.layout.specs.Layout.{buffer-at, buffer-codec}
 use Rattle.rules.specs.Limits.{buckets}
-use Rattle.sound.proofs.Lent.{lent}
+use Rattle.layout.proofs.Lent.{lent}
 use Rattle.sound.proofs.ProxyLaws.{buffer-down, buffer-up}
 use native.Mathlib.Omega.{arith}
 use borrow.Author.Needs.{needs}

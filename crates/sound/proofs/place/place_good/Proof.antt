@@ -7,7 +7,7 @@ use Rattle.layout.specs.Layout.{place-at, place-words}
 use Rattle.layout.proofs.Bounds.{store-small}
 use Rattle.sound.specs.Rows.{key-below}
 use Rattle.sound.specs.Places.{brick-good}
-use Rattle.sound.proofs.Lent.{lent}
+use Rattle.layout.proofs.Lent.{lent}
 use Rattle.sound.proofs.PlaceLaws.{place-empty, place-far, place-twice, place-brick}
 use native.Mathlib.Omega.{arith}
 use borrow.Author.Needs.{needs}

@@ -9,7 +9,7 @@ use Rattle.rules.specs.Limits.{buckets, proxies}
 use Rattle.layout.specs.Layout.{proxy-codec, proxy-words, proxy-at, proxies-at}
 use Rattle.sound.specs.Rows.{key-below}
 use Rattle.sound.specs.Proxies.{proxy-good, proxy-at-good}
-use Rattle.sound.proofs.Lent.{lent}
+use Rattle.layout.proofs.Lent.{lent}
 use native.Mathlib.Omega.{arith}
 use borrow.Author.Needs.{needs}
 use Rattle.sound.proofs.proxies.proxies_good.Statement.{statement}

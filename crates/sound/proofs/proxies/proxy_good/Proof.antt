@@ -5,8 +5,8 @@ use Rattle.words.specs.Words.{words}
 use Rattle.words.proofs.Laws.{length-words}
 use Rattle.layout.specs.Layout.{items-at, items-codec, proxy-words}
 use Rattle.sound.specs.Rows.{key-below}
-use Rattle.sound.proofs.Tests.{no-first, yes-first}
-use Rattle.sound.proofs.Lent.{lent}
+use Rattle.lists.proofs.Tests.{no-first, yes-first}
+use Rattle.layout.proofs.Lent.{lent}
 use Rattle.sound.proofs.ProxyLaws.{proxy-is}
 use native.Mathlib.Omega.{arith}
 use borrow.Author.Needs.{needs}

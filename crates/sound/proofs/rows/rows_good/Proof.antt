@@ -3,16 +3,15 @@ use Prim.Native.Nat.{_-_, _≤_}
 use lib.ListN.{drop}
 use borrow.Author.Tests.{not-true, not-false}
 use Rattle.words.specs.Words.{words}
-use Rattle.codec.specs.Codec.{rows}
-use Rattle.layout.specs.Layout.{entry-codec}
-use Rattle.sound.specs.Rows.{key-below, rows-good}
+use Rattle.sound.specs.Rows.{key-below, rows-good, first-entries}
 use Rattle.sound.proofs.RowLaws.{rows-left, rows-begin, rows-end, rows-low, rows-bad, rows-next, entry-small}
 use borrow.Author.Needs.{needs}
 use Rattle.sound.proofs.rows.rows_good.Statement.{statement}
 use Rattle.sound.proofs.rows.rows_good.Tie as tie
 
 abbrev Inv-loop : tie.InvT-loop
-Inv-loop settings limits whose table n floor₀ i₀ floor i = (i ≤ n) × (rows-good settings (key-below limits) whose 0 (rows entry-codec n (drop 1 (words table))) ≡ rows-left settings (key-below limits) whose n (words table) floor i)
+Inv-loop settings limits whose table n floor₀ i₀ floor i =
+    (i ≤ n) × (rows-good settings (key-below limits) whose 0 (first-entries n (words table)) ≡ rows-left settings (key-below limits) whose n (words table) floor i)
 
 abbrev μ-loop : tie.MeasureT-loop
 μ-loop settings limits whose table n floor₀ i₀ floor i = n - i

@@ -3,12 +3,13 @@ use mathlib.Core.Path.{_≡_, refl, sym, ap, _∙_}
 use mathlib.Core.List.{List, [], _∷_, _++_, append-assoc, map}
 use Prim.Native.Nat.{ℕ, zero, suc, _+_, _*_, _-_, _≤_, _<_}
 use native.Mathlib.Nat.{suc-mul, zero-mul, add-comm, le-of-suc-le-suc, not-suc-le-zero, mul-le-mul-right}
+use native.Mathlib.Numerals.{add-one}
 use native.Mathlib.Omega.{arith}
 use lib.ListN.{length, take, drop, getD, length-append, length-drop, length-map, take-append-drop}
-use lib.Seq.{drop-append-add, take-add, take-at, drop-at, drop-drop, drop-cons, length-take-le}
+use lib.Seq.{drop-append-add, take-add, take-at, drop-at, drop-drop, drop-cons, drop-length, length-take-le}
 use Rattle.lists.specs.Runs.{part, enc-all, Sized, none, more}
+use Rattle.lists.specs.Rows.{table-words, rows, over-rows, table-dec, table-enc, row}
 use Rattle.lists.proofs.Runs.{length-enc-all}
-use Rattle.tables.specs.Tables.{table-words, rows, table-dec, table-enc, row}
 
 -- ---- rows by place
 module _ {A : Type 0} (w : ℕ) (read : List ℕ → A) where
@@ -37,6 +38,16 @@ module _ {A : Type 0} (w : ℕ) (read : List ℕ → A) where
   row-at (suc n) zero ws d h = rw zero-mul
   row-at (suc n) (suc j) ws d h =
       row-at n j (drop w ws) d (le-of-suc-le-suc h) ∙ rw (drop-drop (j * w) w ws, suc-mul j w, add-comm (j * w) w)
+
+  -- from row j on: that row, and the rows after it; past the last none
+  pub rows-from : (n j : ℕ) (ws : List ℕ) → j < n → drop j (rows w read n ws) ≡ read (part w j ws) ∷ drop (j + 1) (rows w read n ws)
+  rows-from n j ws h =
+      let d = read [] in
+      let l : j < length (rows w read n ws) = rw (length-rows n ws) h in
+      drop-cons (rows w read n ws) j d l ∙ rw (row-at n j ws d h, add-one j)
+
+  pub rows-past : (n : ℕ) (ws : List ℕ) → drop n (rows w read n ws) ≡ []
+  rows-past n ws = ap (λ (k : ℕ). drop k (rows w read n ws)) (sym (length-rows n ws)) ∙ drop-length (rows w read n ws)
 
 -- ---- rows whose words are what was read: written one after the other they are the words
 module _ {A : Type 0} (w : ℕ) (read : List ℕ → A) (write : A → List ℕ) (exact : (r : List ℕ) → length r ≡ w → write (read r) ≡ r) where
