@@ -7,8 +7,10 @@ ghost use Rattle.words.specs.Words.{words};
 ghost use Rattle.rules.specs.Limits.{max-relays};
 ghost use Rattle.rules.specs.Maps.{remove-at};
 ghost use Rattle.tables.specs.Tables.{IsTable};
+ghost use Rattle.codec.specs.Codec.{change};
 ghost use Rattle.layout.specs.Disk.{relay};
-ghost use Rattle.bag.specs.Relays.{relay-words, relay-at, change-relays};
+ghost use Rattle.layout.specs.Layout.{bag-codec};
+ghost use Rattle.bag.specs.Relays.{relay-words, relay-at};
 use layout::sizes::RELAY_WORDS;
 use rules::constants::MAX_RELAYS;
 
@@ -67,7 +69,7 @@ pub fn key_at(t: &[u8], i: usize) -> u64
 pub fn append(t: &mut [u8], view: u64, bucket: u64, order: u64, block: u64, key: u64)
     requires { ⌜ IsTable relay-words max-relays (words (now t)) (length (now t)) ⌝ }
     requires { ⌜ getD (words (now t)) 0 0 < max-relays ⌝ }
-    ensures { λ _. ⌜ words (now (t .exit)) ≡ change-relays (λ l. l ++ relay view bucket order block key ∷ []) (words (now (t .entry))) ⌝ }
+    ensures { λ _. ⌜ words (now (t .exit)) ≡ change bag-codec (λ l. l ++ relay view bucket order block key ∷ []) (words (now (t .entry))) ⌝ }
 {
     let n = words::read(t, 0) as usize;
     let row = [view, bucket, order, block, key];
@@ -78,7 +80,7 @@ pub fn append(t: &mut [u8], view: u64, bucket: u64, order: u64, block: u64, key:
 pub fn remove(t: &mut [u8], i: usize)
     requires { ⌜ IsTable relay-words max-relays (words (now t)) (length (now t)) ⌝ }
     requires { ⌜ i < getD (words (now t)) 0 0 ⌝ }
-    ensures { λ _. ⌜ words (now (t .exit)) ≡ change-relays (λ l. remove-at l i) (words (now (t .entry))) ⌝ }
+    ensures { λ _. ⌜ words (now (t .exit)) ≡ change bag-codec (λ l. remove-at l i) (words (now (t .entry))) ⌝ }
 {
     tables::remove_row(t, RELAY_WORDS, MAX_RELAYS, i)
 }

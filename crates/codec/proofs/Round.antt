@@ -8,14 +8,13 @@ use native.Mathlib.Omega.{arith}
 use lib.Dec.{eqb, lit<}
 use borrow.Author.Tests.{lt-ltb}
 use lib.ListN.{length, take, drop, getD, take-append-drop}
-use lib.Seq.{take-at, drop-at, take-all, drop-cons, getD-take, getD-drop}
+use lib.Seq.{take-all, drop-cons, getD-take, getD-drop}
 use Rattle.lists.specs.Runs.{run, part, Below, none, more}
 use Rattle.lists.specs.Rows.{rows, over-rows, table-dec}
 use Rattle.lists.proofs.Tests.{by-eq, by-lt}
 use Rattle.lists.proofs.Runs.{fits-in, run-length, run-front, run-all, below-append, below-take, below-drop, below-enc-all}
 use Rattle.lists.proofs.Rows.{length-rows, rows-take, enc-rows, rows-back}
-use Rattle.codec.specs.Codec.{Codec, Clean, Fits, word-limit, word, flag, Reading, via, Two, enc-two, _then_, enc-many, many}
-use Rattle.codec.specs.Codec.{Row, table, enc-slot, slot}
+use Rattle.codec.specs.Codec.{Codec, Clean, Fits, word-limit, word, flag, Reading, via, Two, enc-two, _then_, enc-many, many, Row, table, enc-slot, slot}
 use Rattle.codec.proofs.Laws.{Lawful, two-is, two-left, two-right, two-take, two-drop, many-none, many-last, many-left, many-right}
 use Rattle.codec.proofs.Laws.{Exact, all-sized, rest-length}
 use Rattle.codec.proofs.Focus.{Focus, part-of, clean-part, nth, slot-none, slot-some}

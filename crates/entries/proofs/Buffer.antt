@@ -14,9 +14,10 @@ use Rattle.rules.specs.Entries.{waits-for}
 use Rattle.lists.specs.Rows.{table-dec, row}
 use Rattle.tables.specs.Tables.{first-at, kept, sifting}
 use Rattle.tables.proofs.Changes.{word-at, kept-few, sift-read, sift-yes, sift-no, sift-end, kept-next}
-use Rattle.entries.specs.Words.{entries-words, entries, write-entries}
+use Rattle.layout.specs.Layout.{entries-codec}
+use Rattle.entries.specs.Words.{entries-words}
 use Rattle.entries.specs.Steps.{sifted, stays}
-use Rattle.entries.proofs.Words.{keep-rows}
+use Rattle.entries.proofs.Words.{entries, keep-rows}
 
 module _ (most : ℕ) (ws : List ℕ) (hl : length ws ≡ entries-words most) (few : getD ws 0 0 ≤ most) (count g : ℕ) where
   module _ (i o : ℕ) (v : List ℕ) (h : i < getD ws 0 0) (ev : v ≡ sifting 2 (stays count g) i ws) (eo : o ≡ length (kept 2 (stays count g) i ws)) where
@@ -44,10 +45,8 @@ module _ (most : ℕ) (ws : List ℕ) (hl : length ws ≡ entries-words most) (f
         swap false = refl
 
   pub buffer-end : (i o : ℕ) → i ≡ getD ws 0 0 → o ≡ length (kept 2 (stays count g) i ws)
-      → set (sifting 2 (stays count g) i ws) 0 o ≡ write-entries (only (λ e. not (waits-for count g e)) (entries ws)) ws
+      → set (sifting 2 (stays count g) i ws) 0 o ≡ entries-codec most .enc (only (λ e. not (waits-for count g e)) (entries ws)) ws
   unfolding waits-for
   buffer-end i o ei eo =
       rw eo (sift-end 2 most ws hl few (stays count g) i ei) ∙ keep-rows most ws hl few (stays count g) (λ e. not (eqb (bucket-of count (e .block)) g))
       (λ e. refl)
-
--- a copied table, as entries

@@ -16,11 +16,12 @@ use Rattle.lists.proofs.Runs.{run-length, on-at-before, on-by, on-id, on-twice,
 use Rattle.rules.specs.Numbers.{bucket-of}
 use Rattle.rules.specs.Entries.{Entry, entry, waits-for, drain, ascending}
 use Rattle.tables.specs.Tables.{Sorted}
-use Rattle.entries.specs.Words.{entries-words, entries, write-entries, entry-at}
-use Rattle.entries.specs.Steps.{take-in, drained-at, Drains}
+use Rattle.codec.specs.Codec.{change}
+use Rattle.layout.specs.Layout.{entries-codec}
+use Rattle.entries.specs.Words.{entries-words, entry-at}
+use Rattle.entries.specs.Steps.{take-in, drained-at, drained-words, Drains}
 use Rattle.entries.proofs.Sorted.{take-grows, drain-more, drain-ascends, drain-few}
-use Rattle.entries.proofs.Words.{entries-back, entries-keeps, entries-over, entries-clean, entries-length, entries-count, at-words, sorted-of}
-use Rattle.entries.proofs.Words.{sorted-ascends}
+use Rattle.entries.proofs.Words.{entries, entries-back, entries-keeps, entries-over, entries-clean, entries-length, at-words, sorted-of, sorted-ascends}
 
 -- the copy after the first i entries of the buffer
 abbrev pub drained : ℕ → ℕ → ℕ → ℕ → ℕ → ℕ → List ℕ → ℕ → List Entry
@@ -60,35 +61,35 @@ module _ (count g buffer waiting copy most : ℕ) (ws : List ℕ) where
     part-few : length (entries part) ≤ most
     part-few = rw (entries-length most part part-length (d .sorted .few)) (d .sorted .few)
 
+    few-after : (i : ℕ) → length (after i) ≤ most
+    few-after i = drain-few most (entries part) (only (waits-for count g) (take i (entries queue))) part-ascends part-few
+
     module _ (i : ℕ) where
       after-ascends : ascending 0 (after i) ≡ true
       after-ascends = drain-ascends most (entries part) (only (waits-for count g) (take i (entries queue))) part-ascends
 
-      after-few : length (after i) ≤ most
-      after-few = drain-few most (entries part) (only (waits-for count g) (take i (entries queue))) part-ascends part-few
+      written : length (entries-codec most .enc (after i) part) ≡ size
+      written = entries-keeps most part part-length (after i)
 
-      written : length (write-entries (after i) part) ≡ size
-      written = entries-keeps most part part-length (after i) after-few ∙ part-length
-
-      module _ (v : List ℕ) (ev : v ≡ on-run copy size (write-entries (after i)) ws) where
-        part-is : run copy size v ≡ write-entries (after i) part
-        part-is = rw ev (on-same copy size (write-entries (after i)) ws hw written)
+      module _ (v : List ℕ) (ev : v ≡ on-run copy size (entries-codec most .enc (after i)) ws) where
+        part-is : run copy size v ≡ entries-codec most .enc (after i) part
+        part-is = rw ev (on-same copy size (entries-codec most .enc (after i)) ws hw written)
 
         -- the copy is a sorted table still
         pub still-sorted : Sorted 2 most (run copy size v) (8 * size)
         still-sorted =
-            rw part-is (sorted-of most (write-entries (after i) part) (8 * size) written refl (rw (entries-count (after i) part) after-few)
-            (rw (entries-back most part part-length (after i)) after-ascends))
+            rw part-is (sorted-of most (entries-codec most .enc (after i) part) (8 * size) written refl (few-after i)
+            (rw (entries-back most part part-length (after i) (few-after i)) after-ascends))
 
         -- one entry taken in
-        taken : (e : Entry) → on-run copy size (λ c. write-entries (take-in most (entries c) e) c) v
-            ≡ on-run copy size (write-entries (take-in most (after i) e)) ws
-        taken e =
-            let f : List ℕ → List ℕ = λ c. write-entries (take-in most (entries c) e) c in
-            ap (on-run copy size f) ev ∙ sym (on-twice copy size (write-entries (after i)) f ws hw written)
-            ∙ on-by copy size (λ c. f (write-entries (after i) c)) (write-entries (take-in most (after i) e)) ws
-            (rw (entries-back most part part-length (after i))
-            (entries-over most part part-length (after i) (take-in most (after i) e) (take-grows most (after i) e after-ascends)))
+        taken : (e : Entry) → length (take-in most (after i) e) ≤ most
+            → on-run copy size (change (entries-codec most) (λ l. take-in most l e)) v ≡ on-run copy size (entries-codec most .enc (take-in most (after i) e)) ws
+        taken e few =
+            let f : List ℕ → List ℕ = change (entries-codec most) (λ l. take-in most l e) in
+            ap (on-run copy size f) ev ∙ sym (on-twice copy size (entries-codec most .enc (after i)) f ws hw written)
+            ∙ on-by copy size (λ c. f (entries-codec most .enc (after i) c)) (entries-codec most .enc (take-in most (after i) e)) ws
+            (rw (entries-back most part part-length (after i) (few-after i))
+            (entries-over most part part-length (after i) (take-in most (after i) e) (take-grows most (after i) e after-ascends) few))
 
         module _ (at : ℕ) (ea : at ≡ buffer + (1 + i * 2)) (h : i < getD ws buffer 0) where
           abbrev next : Entry
@@ -100,7 +101,7 @@ module _ (count g buffer waiting copy most : ℕ) (ws : List ℕ) where
               let f = d .few in
               let one : (j : ℕ) → j < entries-words waiting → getD queue j 0 ≡ getD v (buffer + j) 0 = λ j q.
               getD-take (entries-words waiting) (drop buffer ws) j 0 q ∙ getD-drop buffer ws j 0
-              ∙ sym (rw ev (on-at-before copy size (write-entries (after i)) ws (buffer + j) (omega arith) (omega arith))) in
+              ∙ sym (rw ev (on-at-before copy size (entries-codec most .enc (after i)) ws (buffer + j) (omega arith) (omega arith))) in
               let e2 : buffer + (2 + i * 2) ≡ at + 1 = omega arith in
               at-words waiting queue queue-length queue-few i (rw queue-count h) ∙ rw (one (1 + i * 2) (omega arith), one (2 + i * 2) (omega arith), e2, ea)
 
@@ -121,16 +122,18 @@ module _ (count g buffer waiting copy most : ℕ) (ws : List ℕ) where
               let z : waits-for count g (entry-at (entries queue) i) ≡ false = rw next-is q in
               ap (drain most (entries part)) (only-more (waits-for count g) (entries queue) i (entry 0 0) in-queue ∙ rw z)
 
-          pub drain-turn : (v1 : List ℕ) → v1 ≡ drained-at count g at copy most v → v1 ≡ on-run copy size (write-entries (after (suc i))) ws
+          pub drain-turn : (v1 : List ℕ) → v1 ≡ drained-at count g at copy most v → v1 ≡ on-run copy size (entries-codec most .enc (after (suc i))) ws
           unfolding drained-at
           drain-turn v1 e =
-              e ∙ by (eqb (bucket-of count (getD v at 0)) g) (λ q. rw (q, yes q) (taken next)) (λ q. rw (q, no q) ev)
+              e ∙ by (eqb (bucket-of count (getD v at 0)) g) (λ q. rw (q, yes q) (taken next (rw (yes q) at (few-after (suc i))))) (λ q. rw (q, no q) ev)
 
-    pub drain-start : ws ≡ on-run copy size (write-entries (after 0)) ws
+    pub drain-start : ws ≡ on-run copy size (entries-codec most .enc (after 0)) ws
     unfolding drain only
-    drain-start = sym (on-id copy size (write-entries (entries part)) ws (entries-clean most part part-length (d .sorted .few)))
+    drain-start = sym (on-id copy size (entries-codec most .enc (entries part)) ws (entries-clean most part part-length))
 
-    pub drain-end : (i : ℕ) → i ≡ getD ws buffer 0 → after i ≡ drain most (entries part) (only (waits-for count g) (entries queue))
+    pub drain-end : (i : ℕ) → i ≡ getD ws buffer 0
+        → on-run copy size (entries-codec most .enc (after i)) ws ≡ drained-words count g buffer waiting copy most ws
     drain-end i e =
-        ap (λ (l : List Entry). drain most (entries part) (only (waits-for count g) l))
-        (take-all i (entries queue) (rw (entries-length waiting queue queue-length queue-few, queue-count, e) (le-refl (getD ws buffer 0))))
+        let all = take-all i (entries queue) (rw (entries-length waiting queue queue-length queue-few, queue-count, e) (le-refl (getD ws buffer 0))) in
+        on-by copy size (entries-codec most .enc (after i)) (change (entries-codec most) (λ l. drain most l (only (waits-for count g) (entries queue)))) ws
+        (ap (λ (l : List Entry). entries-codec most .enc (drain most (entries part) (only (waits-for count g) l)) part) all)

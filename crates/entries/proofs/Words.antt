@@ -1,5 +1,5 @@
 -- Entries in a table's words: read, written, and what a change of the rows is of the entries.
-use mathlib.Core.Path.{_≡_, refl, sym, ap, _∙_}
+use mathlib.Core.Path.{_≡_, sym, ap, _∙_}
 use mathlib.Core.Logic.{_≢_}
 use mathlib.Core.Bool.{Bool, true, false}
 use mathlib.Core.List.{List, [], _∷_, _++_}
@@ -7,62 +7,66 @@ use Prim.Native.Nat.{ℕ, _+_, _*_, _-_, _≤_, _<_}
 use native.Mathlib.Nat.{le-refl, add-zero}
 use native.Mathlib.Omega.{arith}
 use lib.Dec.{ltb, eqb}
-use lib.ListN.{length, getD, take, drop, set}
+use lib.ListN.{length, getD, take, drop, set, length-append, length-take, length-drop, length-set}
 use lib.Seq.{getD-take, getD-drop, ext-getD}
-use borrow.Author.Tests.{ltb-true, lt-ltb, eqb-true, eq-eqb}
+use borrow.Author.Tests.{eqb-true, eq-eqb, ltb-true}
 use Rattle.lists.specs.Tests.{_and_, _or_, all-below, only}
 use Rattle.lists.specs.Runs.{run, on-run, enc-all}
-use Rattle.lists.proofs.Tests.{by-eq, by-lt, same-test, both, and-l, and-r, all-true, all-at}
+use Rattle.lists.proofs.Tests.{by-eq, by-lt, same-test, both, and-l, and-r, all-true, all-at, length-only}
 use Rattle.lists.proofs.Runs.{run-length, on-by}
 use Rattle.rules.specs.Entries.{Entry, entry, look, has, insert, remove, takes, ascending}
 use Rattle.rules.specs.Sound.{same-entries}
 use Rattle.lists.specs.Rows.{table-dec, table-enc, row}
-use Rattle.tables.specs.Tables.{insert-at, remove-at, first-at, same-at, same-rows, Sorted, Place, HereAt, GapAt}
-use Rattle.lists.proofs.Rows.{row-at, enc-rows, in-rows, count-cons}
+use Rattle.tables.specs.Tables.{insert-at, remove-at, first-at, same-at, same-rows, Sorted, RowPlace, HereAt, GapAt}
+use Rattle.lists.proofs.Rows.{row-at, enc-rows, in-rows}
+use Rattle.codec.proofs.Laws.{table-law}
+use Rattle.codec.proofs.Round.{clean-table}
 use Rattle.codec.proofs.Loops.{table-is}
-use Rattle.tables.proofs.Typed.{typed, typed-back, typed-over, typed-keeps, typed-clean, typed-rows, typed-length, typed-insert, typed-append, typed-remove, typed-only, typed-at, typed-set}
-use Rattle.entries.specs.Words.{entries-words, entries, write-entries, entry-at}
+use Rattle.tables.proofs.Typed.{typed, typed-back, typed-over, typed-rows, typed-length, typed-insert, typed-append, typed-remove, typed-only, typed-at, typed-set}
+use Rattle.entries.specs.Words.{entries-words, copied-entries, entry-at}
 use Rattle.layout.specs.Disk.{entry-row}
 use Rattle.layout.specs.Layout.{entries-codec}
 use Rattle.layout.proofs.Codecs.{entry-exact}
 use Rattle.entries.proofs.Sorted.{look-at, look-none, has-at, has-none, insert-gap, insert-here, remove-none, remove-here}
 use Rattle.entries.proofs.Sorted.{ascending-of, ascending-rises, same-self, same-is}
 
--- ---- as the layout's codec reads and writes them
-pub entries-read : (most : ℕ) (ws : List ℕ) → entries ws ≡ entries-codec most .dec ws
-unfolding entries
-entries-read most ws = refl
-
-pub entries-written : (most : ℕ) (l : List Entry) (ws : List ℕ) → length l ≤ most → write-entries l ws ≡ entries-codec most .enc l ws
-unfolding write-entries
-entries-written most l ws h = sym (table-is entry-row most l ws h)
+-- what the codec of a table reads, whatever it has room for
+abbrev pub entries : List ℕ → List Entry
+entries ws = table-dec 2 (entry-row .read) ws
 
 module _ (most : ℕ) (ws : List ℕ) (hl : length ws ≡ entries-words most) where
+  -- entries written, as the codec does it
+  abbrev write : List Entry → List ℕ
+  write l = entries-codec most .enc l ws
+
   -- ---- written and read
-  pub entries-back : (l : List Entry) → entries (write-entries l ws) ≡ l
-  unfolding entries write-entries
-  entries-back l = typed-back entry-exact most ws hl l
+  pub entries-back : (l : List Entry) → length l ≤ most → entries (entries-codec most .enc l ws) ≡ l
+  entries-back l h = rw (table-is entry-row most l ws h) (typed-back entry-exact most ws hl l)
 
   -- over fewer entries
-  pub entries-over : (k l : List Entry) → length k ≤ length l → write-entries l (write-entries k ws) ≡ write-entries l ws
-  unfolding write-entries
-  entries-over k l h = typed-over entry-exact most ws hl k l h
+  pub entries-over : (k l : List Entry) → length k ≤ length l → length l ≤ most
+      → entries-codec most .enc l (entries-codec most .enc k ws) ≡ entries-codec most .enc l ws
+  entries-over k l h few =
+      ap (entries-codec most .enc l) (table-is entry-row most k ws (omega arith))
+      ∙ table-is entry-row most l (table-enc 2 (entry-row .write) k ws) few
+      ∙ typed-over entry-exact most ws hl k l h ∙ sym (table-is entry-row most l ws few)
 
-  pub entries-keeps : (l : List Entry) → length l ≤ most → length (write-entries l ws) ≡ length ws
-  unfolding write-entries
-  entries-keeps l h = typed-keeps entry-exact most ws hl l h
+  pub entries-keeps : (l : List Entry) → length (entries-codec most .enc l ws) ≡ entries-words most
+  entries-keeps l = table-law entry-exact most .keeps l ws hl
+
+  pub entries-clean : entries-codec most .enc (entries ws) ws ≡ ws
+  entries-clean = clean-table entry-exact most .clean ws hl tt
+
+  -- rows that are entries, written
+  as-entries : (l : List Entry) (v : List ℕ) → v ≡ table-enc 2 (entry-row .write) l ws → length l ≤ most → v ≡ write l
+  as-entries l v e h = e ∙ sym (table-is entry-row most l ws h)
 
   module _ (few : getD ws 0 0 ≤ most) where
-    pub entries-clean : write-entries (entries ws) ws ≡ ws
-    unfolding entries write-entries
-    entries-clean = typed-clean entry-exact most ws hl few
-
     pub entries-length : length (entries ws) ≡ getD ws 0 0
-    unfolding entries
     entries-length = typed-length entry-exact most ws hl few
 
     pub at-words : (i : ℕ) → i < getD ws 0 0 → entry-at (entries ws) i ≡ entry (getD ws (1 + i * 2) 0) (getD ws (2 + i * 2) 0)
-    unfolding entries table-dec
+    unfolding table-dec
     at-words i h =
         let e : 1 + (i * 2 + 1) ≡ 2 + i * 2 = omega arith in
         let z : i * 2 + 0 ≡ i * 2 = omega arith in
@@ -85,30 +89,52 @@ module _ (most : ℕ) (ws : List ℕ) (hl : length ws ≡ entries-words most) wh
     key-word i h = ap (λ (e : Entry). e .key) (at-words i h)
 
     -- ---- rows put in, set, taken out, kept
-    pub put-row : (p b k : ℕ) → table-enc 2 row (insert-at p (b ∷ k ∷ []) (table-dec 2 row ws)) ws ≡ write-entries (insert-at p (entry b k) (entries ws)) ws
-    unfolding entries write-entries
-    put-row p b k = typed-insert entry-exact most ws hl few p (entry b k)
+    pub put-row : (p b k : ℕ) → getD ws 0 0 < most
+        → table-enc 2 row (insert-at p (b ∷ k ∷ []) (table-dec 2 row ws)) ws ≡ write (insert-at p (entry b k) (entries ws))
+    put-row p b k h =
+        let n = entries-length in
+        as-entries (insert-at p (entry b k) (entries ws)) _ (typed-insert entry-exact most ws hl few p (entry b k))
+        (simp (length-append, length-take, length-drop) (omega arith))
 
     pub set-key : (p k : ℕ) → p < getD ws 0 0
         → table-enc 2 row (set (table-dec 2 row ws) p (set (getD (table-dec 2 row ws) p []) 1 k)) ws
-        ≡ write-entries (set (entries ws) p (entry (entry-at (entries ws) p .block) k)) ws
-    unfolding entries write-entries
+        ≡ write (set (entries ws) p (entry (entry-at (entries ws) p .block) k))
     set-key p k h =
-        let l = table-dec 2 (entry-row .read) ws in
-        rw (typed-at entry-exact most ws hl few p (entry 0 0) h) (typed-set entry-exact most ws hl few p (entry (entry-at l p .block) k))
+        let e = entry (entry-at (entries ws) p .block) k in
+        as-entries (set (entries ws) p e) _
+        (rw (typed-at entry-exact most ws hl few p (entry 0 0) h) (typed-set entry-exact most ws hl few p e)) (rw (length-set, entries-length) few)
 
-    pub drop-row : (p : ℕ) → table-enc 2 row (remove-at p (table-dec 2 row ws)) ws ≡ write-entries (remove-at p (entries ws)) ws
-    unfolding entries write-entries
-    drop-row p = typed-remove entry-exact most ws hl few p
+    pub drop-row : (p : ℕ) → table-enc 2 row (remove-at p (table-dec 2 row ws)) ws ≡ write (remove-at p (entries ws))
+    drop-row p =
+        let n = entries-length in
+        as-entries (remove-at p (entries ws)) _ (typed-remove entry-exact most ws hl few p) (simp (length-append, length-take, length-drop) (omega arith))
 
     pub keep-rows : (test : List ℕ → Bool) (p : Entry → Bool) → ((e : Entry) → test (entry-row .write e) ≡ p e)
-        → table-enc 2 row (only test (table-dec 2 row ws)) ws ≡ write-entries (only p (entries ws)) ws
-    unfolding entries write-entries
-    keep-rows test p e = typed-only entry-exact most ws hl few test p e
+        → table-enc 2 row (only test (table-dec 2 row ws)) ws ≡ write (only p (entries ws))
+    keep-rows test p e =
+        let n = entries-length in
+        let m = length-only p (entries ws) in
+        as-entries (only p (entries ws)) _ (typed-only entry-exact most ws hl few test p e) (omega arith)
+
+    -- ---- at the end
+    pub append-leaves : (n b k : ℕ) → n ≡ getD ws 0 0 → getD ws 0 0 < most
+        → table-enc 2 row (insert-at n (b ∷ k ∷ []) (table-dec 2 row ws)) ws ≡ write (entries ws ++ entry b k ∷ [])
+    append-leaves n b k e h =
+        let m = entries-length in
+        as-entries (entries ws ++ entry b k ∷ []) _ (typed-append entry-exact most ws hl few n (entry b k) e) (rw length-append (omega arith))
+
+-- ---- room
+pub takes-room : (most : ℕ) (l : List Entry) (b : ℕ) → has l b ≡ false → takes most l b ≡ ltb (length l) most
+unfolding takes _or_
+takes-room most l b n = rw n
+
+pub takes-has : (most : ℕ) (l : List Entry) (b : ℕ) → has l b ≡ true → takes most l b ≡ true
+unfolding takes _or_
+takes-has most l b y = rw y
 
 -- ---- a sorted table
 module _ (most : ℕ) (ws : List ℕ) (len : ℕ) (hl : length ws ≡ entries-words most) (s : Sorted 2 most ws len) where
-  below : (b p : ℕ) → Place 2 ws b p → (j : ℕ) → j < p → entry-at (entries ws) j .block < b
+  below : (b p : ℕ) → RowPlace 2 ws b p → (j : ℕ) → j < p → entry-at (entries ws) j .block < b
   below b p pl j h = let w = pl .within in rw (block-at most ws hl (s .few) j (omega arith)) (pl .before j h)
 
   -- ---- the block is there
@@ -126,15 +152,15 @@ module _ (most : ℕ) (ws : List ℕ) (len : ℕ) (hl : length ws ≡ entries-wo
     has-here = has-at b (entries ws) p here-in here-block
 
     pub put-here : (k : ℕ) → table-enc 2 row (set (table-dec 2 row ws) p (set (getD (table-dec 2 row ws) p []) 1 k)) ws
-        ≡ write-entries (insert (entries ws) b k) ws
+        ≡ entries-codec most .enc (insert (entries ws) b k) ws
     put-here k =
         set-key most ws hl (s .few) p k (h .in-use)
-        ∙ rw here-block (ap (λ (l : List Entry). write-entries l ws) (sym (insert-here b k (entries ws) p here-in (below b p (h .place)) here-block)))
+        ∙ rw here-block (ap (λ (l : List Entry). entries-codec most .enc l ws) (sym (insert-here b k (entries ws) p here-in (below b p (h .place)) here-block)))
 
-    pub remove-leaves : table-enc 2 row (remove-at p (table-dec 2 row ws)) ws ≡ write-entries (remove (entries ws) b) ws
+    pub remove-leaves : table-enc 2 row (remove-at p (table-dec 2 row ws)) ws ≡ entries-codec most .enc (remove (entries ws) b) ws
     remove-leaves =
         drop-row most ws hl (s .few) p
-        ∙ ap (λ (l : List Entry). write-entries l ws) (sym (remove-here b (entries ws) p here-in
+        ∙ ap (λ (l : List Entry). entries-codec most .enc l ws) (sym (remove-here b (entries ws) p here-in
         (λ j q n e. let i : j < getD ws 0 0 = rw (entries-length most ws hl (s .few)) at q in apart j i n (sym (block-at most ws hl (s .few) j i)
         ∙ e)) here-block))
       where
@@ -164,15 +190,21 @@ module _ (most : ℕ) (ws : List ℕ) (len : ℕ) (hl : length ws ≡ entries-wo
     pub has-gap : has (entries ws) b ≡ false
     has-gap = has-none b (entries ws) gap-apart
 
-    pub put-gap : (k : ℕ) → table-enc 2 row (insert-at p (b ∷ k ∷ []) (table-dec 2 row ws)) ws ≡ write-entries (insert (entries ws) b k) ws
-    put-gap k =
+    -- a new block that the table takes finds room
+    pub gap-room : takes most (entries ws) b ≡ true → getD ws 0 0 < most
+    gap-room t = rw (← entries-length most ws hl (s .few)) (ltb-true _ _ (sym (takes-room most (entries ws) b has-gap) ∙ t))
+
+    pub put-gap : (k : ℕ) → takes most (entries ws) b ≡ true
+        → table-enc 2 row (insert-at p (b ∷ k ∷ []) (table-dec 2 row ws)) ws ≡ entries-codec most .enc (insert (entries ws) b k) ws
+    put-gap k t =
         let w = g .place .within in
-        put-row most ws hl (s .few) p b k
-        ∙ ap (λ (l : List Entry). write-entries l ws) (sym (insert-gap b k (entries ws) p (rw (entries-length most ws hl (s .few)) w) (below b p (g .place))
+        put-row most ws hl (s .few) p b k (gap-room t)
+        ∙ ap (λ (l : List Entry). entries-codec most .enc l ws) (sym (insert-gap b k (entries ws) p (rw (entries-length most ws hl (s .few)) w)
+        (below b p (g .place))
         (λ q. let i : p < getD ws 0 0 = rw (entries-length most ws hl (s .few)) at q in rw (block-at most ws hl (s .few) p i) (gap-after i))))
 
-    pub remove-gap : ws ≡ write-entries (remove (entries ws) b) ws
-    remove-gap = sym (ap (λ (l : List Entry). write-entries l ws) (remove-none b (entries ws) gap-apart) ∙ entries-clean most ws hl (s .few))
+    pub remove-gap : ws ≡ entries-codec most .enc (remove (entries ws) b) ws
+    remove-gap = sym (ap (λ (l : List Entry). entries-codec most .enc l ws) (remove-none b (entries ws) gap-apart) ∙ entries-clean most ws hl)
 
 -- ---- the checks
 module _ (most : ℕ) (ws : List ℕ) (hl : length ws ≡ entries-words most) (few : getD ws 0 0 ≤ most) where
@@ -194,7 +226,7 @@ module _ (most : ℕ) (ws vs : List ℕ) (hl : length ws ≡ entries-words most)
       at-words most ws hl few i q ∙ rw (a, b) (sym (at-words most vs hv fewv i (rw (← e) q))))
 
   entries-same : entries ws ≡ entries vs → (i : ℕ) → i < getD ws 0 0 * 2 → same-at ws vs i ≡ true
-  unfolding entries table-dec
+  unfolding table-dec
   entries-same e i h =
       let n : getD ws 0 0 ≡ getD vs 0 0 = sym (entries-length most ws hl few) ∙ ap length e ∙ entries-length most vs hv fewv in
       let t : take (getD ws 0 0 * 2) (drop 1 ws) ≡ take (getD vs 0 0 * 2) (drop 1 vs) =
@@ -213,42 +245,21 @@ module _ (most : ℕ) (ws vs : List ℕ) (hl : length ws ≡ entries-words most)
       both _ _ (eq-eqb _ _ (sym (entries-length most ws hl few) ∙ ap length e ∙ entries-length most vs hv fewv))
       (all-true (getD ws 0 0 * 2) (same-at ws vs) (entries-same e)))
 
--- ---- room
-pub takes-room : (most : ℕ) (l : List Entry) (b : ℕ) → has l b ≡ false → takes most l b ≡ ltb (length l) most
-unfolding takes _or_
-takes-room most l b n = rw n
-
-pub takes-has : (most : ℕ) (l : List Entry) (b : ℕ) → has l b ≡ true → takes most l b ≡ true
-unfolding takes _or_
-takes-has most l b y = rw y
-
--- ---- no entries, and one at the end
-pub no-entries : (most : ℕ) (ws : List ℕ) → length ws ≡ entries-words most → set ws 0 0 ≡ write-entries [] ws
-unfolding write-entries table-enc enc-all
-no-entries most ws hl = ap (λ (v : List ℕ). set v 0 0) (count-cons ws (omega arith))
-
-pub append-leaves : (most : ℕ) (ws : List ℕ) (hl : length ws ≡ entries-words most) (few : getD ws 0 0 ≤ most) (n b k : ℕ) → n ≡ getD ws 0 0
-    → table-enc 2 row (insert-at n (b ∷ k ∷ []) (table-dec 2 row ws)) ws ≡ write-entries (entries ws ++ entry b k ∷ []) ws
-unfolding entries write-entries
-append-leaves most ws hl few n b k e = typed-append entry-exact most ws hl few n (entry b k) e
-
 -- ---- a table copied over another
 pub copy-leaves : (most from to : ℕ) (ws : List ℕ) → from + entries-words most ≤ length ws → getD ws from 0 ≤ most
     → on-run to (entries-words most) (table-enc 2 row (table-dec 2 row (run from (entries-words most) ws))) ws
-    ≡ on-run to (entries-words most) (write-entries (entries (run from (entries-words most) ws))) ws
-unfolding entries write-entries
+    ≡ copied-entries most from to ws
 copy-leaves most from to ws h few =
     let t = run from (entries-words most) ws in
+    let v = run to (entries-words most) ws in
     let l : length t ≡ entries-words most = run-length from (entries-words most) ws h in
     let c : getD t 0 0 ≡ getD ws from 0 = getD-take (entries-words most) (drop from ws) 0 0 (omega arith) ∙ getD-drop from ws 0 0 ∙ rw (add-zero from) in
-    on-by to (entries-words most) (table-enc 2 row (table-dec 2 row t)) (table-enc 2 (entry-row .write) (table-dec 2 (entry-row .read) t)) ws
-    (typed entry-row (table-dec 2 (entry-row .read) t) (table-dec 2 row t) (typed-rows entry-exact most t l (rw c few)) (run to (entries-words most) ws))
+    let f : getD t 0 0 ≤ most = rw c few in
+    on-by to (entries-words most) (table-enc 2 row (table-dec 2 row t)) (entries-codec most .enc (entries t)) ws
+    (typed entry-row (entries t) (table-dec 2 row t) (typed-rows entry-exact most t l f) v
+    ∙ sym (table-is entry-row most (entries t) v (rw (entries-length most t l f) f)))
 
 -- ---- a sorted table, by its entries
-pub entries-count : (l : List Entry) (ws : List ℕ) → getD (write-entries l ws) 0 0 ≡ length l
-unfolding write-entries table-enc
-entries-count l ws = refl
-
 pub sorted-of : (most : ℕ) (ws : List ℕ) (len : ℕ) → length ws ≡ entries-words most → len ≡ 8 * entries-words most → getD ws 0 0 ≤ most
     → ascending 0 (entries ws) ≡ true → Sorted 2 most ws len
 sorted-of most ws len hl e few y = record { few = few; size = e; wide = omega arith; rising = rises-of most ws hl few y }

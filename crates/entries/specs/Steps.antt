@@ -11,7 +11,9 @@ use Rattle.rules.specs.Entries.{Entry, entry, insert, takes, waits-for, drain}
 use Rattle.lists.specs.Tests.{only}
 use Rattle.lists.specs.Runs.{run, on-run}
 use Rattle.tables.specs.Tables.{first-at, Sorted}
-use Rattle.entries.specs.Words.{entry-words, entries-words, entries, write-entries}
+use Rattle.codec.specs.Codec.{change}
+use Rattle.layout.specs.Layout.{entries-codec}
+use Rattle.entries.specs.Words.{entry-words, entries-words}
 
 -- entry i, where it is not of the bucket, at place o
 unfoldable pub sifted : ℕ → ℕ → ℕ → ℕ → List ℕ → List ℕ
@@ -35,13 +37,13 @@ take-in most l e = cond (takes most l (e .block)) (insert l (e .block) (e .key))
 unfoldable pub drained-at : ℕ → ℕ → ℕ → ℕ → ℕ → List ℕ → List ℕ
 drained-at count g at copy most ws =
     let e = entry (getD ws at 0) (getD ws (at + 1) 0) in
-    cond (eqb (bucket-of count (e .block)) g) (on-run copy (entries-words most) (λ c. write-entries (take-in most (entries c) e) c) ws) ws
+    cond (eqb (bucket-of count (e .block)) g) (on-run copy (entries-words most) (change (entries-codec most) (λ l. take-in most l e)) ws) ws
 
 -- the words when the bucket's entries of the buffer have moved into the copy
 abbrev pub drained-words : ℕ → ℕ → ℕ → ℕ → ℕ → ℕ → List ℕ → List ℕ
 drained-words count g buffer waiting copy most ws =
-    let mine = only (waits-for count g) (entries (run buffer (entries-words waiting) ws)) in
-    on-run copy (entries-words most) (write-entries (drain most (entries (run copy (entries-words most) ws)) mine)) ws
+    let mine = only (waits-for count g) (entries-codec waiting .dec (run buffer (entries-words waiting) ws)) in
+    on-run copy (entries-words most) (change (entries-codec most) (λ l. drain most l mine)) ws
 
 -- a buffer lies before a sorted copy
 pub record Drains (buffer waiting copy most : ℕ) (ws : List ℕ) (len : ℕ) : Type 0 where

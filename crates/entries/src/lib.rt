@@ -14,7 +14,9 @@ ghost use Rattle.rules.specs.Sound.{same-entries};
 ghost use lib.Dec.{eqb};
 ghost use Rattle.rules.specs.Numbers.{bucket-of};
 ghost use Rattle.tables.specs.Tables.{TwoTables, IsTable, Sorted};
-ghost use Rattle.entries.specs.Words.{entry-words, entries-words, entries, change-entries, copied-entries, entry-at};
+ghost use Rattle.codec.specs.Codec.{change};
+ghost use Rattle.layout.specs.Layout.{entries-codec};
+ghost use Rattle.entries.specs.Words.{entry-words, entries-words, copied-entries, entry-at};
 ghost use Rattle.entries.specs.Steps.{SiftStep, take-in, drained-at, drained-words, Drains};
 use layout::sizes::ENTRY_WORDS;
 use rules::numbers::BlockNumber;
@@ -30,7 +32,7 @@ const KEY: usize = 1;
 pub fn block_at(t: &[u8], most: usize, i: usize) -> u64
     requires { ⌜ IsTable entry-words most (words (now t)) (length (now t)) ⌝ }
     requires { ⌜ i < getD (words (now t)) 0 0 ⌝ }
-    ensures { λ r. ⌜ r ≡ entry-at (entries (words (now (t .entry)))) i .block ⌝ }
+    ensures { λ r. ⌜ r ≡ entry-at (entries-codec most .dec (words (now (t .entry)))) i .block ⌝ }
 {
     words::read(t, 1 + i * ENTRY_WORDS)
 }
@@ -38,7 +40,7 @@ pub fn block_at(t: &[u8], most: usize, i: usize) -> u64
 pub fn key_at(t: &[u8], most: usize, i: usize) -> u64
     requires { ⌜ IsTable entry-words most (words (now t)) (length (now t)) ⌝ }
     requires { ⌜ i < getD (words (now t)) 0 0 ⌝ }
-    ensures { λ r. ⌜ r ≡ entry-at (entries (words (now (t .entry)))) i .key ⌝ }
+    ensures { λ r. ⌜ r ≡ entry-at (entries-codec most .dec (words (now (t .entry)))) i .key ⌝ }
 {
     words::read(t, 2 + i * ENTRY_WORDS)
 }
@@ -46,7 +48,7 @@ pub fn key_at(t: &[u8], most: usize, i: usize) -> u64
 // The key of a block; 0 means no mapping.
 pub fn look(t: &[u8], most: usize, b: u64) -> u64
     requires { ⌜ Sorted entry-words most (words (now t)) (length (now t)) ⌝ }
-    ensures { λ r. ⌜ r ≡ look (entries (words (now (t .entry)))) b ⌝ }
+    ensures { λ r. ⌜ r ≡ look (entries-codec most .dec (words (now (t .entry)))) b ⌝ }
 {
     match tables::find(t, ENTRY_WORDS, most, b) {
         Spot::Here(p) => key_at(t, most, p),
@@ -57,7 +59,7 @@ pub fn look(t: &[u8], most: usize, b: u64) -> u64
 // Is there an entry for the block?
 pub fn has(t: &[u8], most: usize, b: u64) -> bool
     requires { ⌜ Sorted entry-words most (words (now t)) (length (now t)) ⌝ }
-    ensures { λ r. ⌜ r ≡ has (entries (words (now (t .entry)))) b ⌝ }
+    ensures { λ r. ⌜ r ≡ has (entries-codec most .dec (words (now (t .entry)))) b ⌝ }
 {
     match tables::find(t, ENTRY_WORDS, most, b) {
         Spot::Here(_) => true,
@@ -68,7 +70,7 @@ pub fn has(t: &[u8], most: usize, b: u64) -> bool
 // The same in a table that need not be sorted.
 pub fn waits(t: &[u8], most: usize, b: u64) -> bool
     requires { ⌜ IsTable entry-words most (words (now t)) (length (now t)) ⌝ }
-    ensures { λ r. ⌜ r ≡ has (entries (words (now (t .entry)))) b ⌝ }
+    ensures { λ r. ⌜ r ≡ has (entries-codec most .dec (words (now (t .entry)))) b ⌝ }
 {
     let n = words::read(t, 0) as usize;
     let mut i = 0;
@@ -84,7 +86,7 @@ pub fn waits(t: &[u8], most: usize, b: u64) -> bool
 // May the table take the block?
 pub fn takes(t: &[u8], most: usize, b: u64) -> bool
     requires { ⌜ Sorted entry-words most (words (now t)) (length (now t)) ⌝ }
-    ensures { λ r. ⌜ r ≡ takes most (entries (words (now (t .entry)))) b ⌝ }
+    ensures { λ r. ⌜ r ≡ takes most (entries-codec most .dec (words (now (t .entry)))) b ⌝ }
 {
     if has(t, most, b) {
         return true;
@@ -98,7 +100,7 @@ pub fn takes(t: &[u8], most: usize, b: u64) -> bool
 pub fn same(a: &[u8], b: &[u8], most: usize) -> bool
     requires { ⌜ IsTable entry-words most (words (now a)) (length (now a)) ⌝ }
     requires { ⌜ IsTable entry-words most (words (now b)) (length (now b)) ⌝ }
-    ensures { λ r. ⌜ r ≡ same-entries (entries (words (now (a .entry)))) (entries (words (now (b .entry)))) ⌝ }
+    ensures { λ r. ⌜ r ≡ same-entries (entries-codec most .dec (words (now (a .entry)))) (entries-codec most .dec (words (now (b .entry)))) ⌝ }
 {
     tables::same(a, b, ENTRY_WORDS, most)
 }
@@ -108,8 +110,8 @@ pub fn same(a: &[u8], b: &[u8], most: usize) -> bool
 // The block gets the key, at its place in the order.
 pub fn insert(t: &mut [u8], most: usize, b: u64, k: u64)
     requires { ⌜ Sorted entry-words most (words (now t)) (length (now t)) ⌝ }
-    requires { ⌜ takes most (entries (words (now t))) b ≡ true ⌝ }
-    ensures { λ _. ⌜ words (now (t .exit)) ≡ change-entries (λ l. insert l b k) (words (now (t .entry))) ⌝ }
+    requires { ⌜ takes most (entries-codec most .dec (words (now t))) b ≡ true ⌝ }
+    ensures { λ _. ⌜ words (now (t .exit)) ≡ change (entries-codec most) (λ l. insert l b k) (words (now (t .entry))) ⌝ }
 {
     match tables::find(t, ENTRY_WORDS, most, b) {
         Spot::Here(p) => tables::set_cell(t, ENTRY_WORDS, most, p, KEY, k),
@@ -123,7 +125,7 @@ pub fn insert(t: &mut [u8], most: usize, b: u64, k: u64)
 // The same, but a new block that finds the table full is dropped.
 pub fn insert_or_drop(t: &mut [u8], most: usize, b: u64, k: u64)
     requires { ⌜ Sorted entry-words most (words (now t)) (length (now t)) ⌝ }
-    ensures { λ _. ⌜ words (now (t .exit)) ≡ change-entries (λ l. take-in most l (entry b k)) (words (now (t .entry))) ⌝ }
+    ensures { λ _. ⌜ words (now (t .exit)) ≡ change (entries-codec most) (λ l. take-in most l (entry b k)) (words (now (t .entry))) ⌝ }
 {
     if takes(t, most, b) {
         insert(t, most, b, k);
@@ -134,7 +136,7 @@ pub fn insert_or_drop(t: &mut [u8], most: usize, b: u64, k: u64)
 // The block's entry goes.
 pub fn remove(t: &mut [u8], most: usize, b: u64)
     requires { ⌜ Sorted entry-words most (words (now t)) (length (now t)) ⌝ }
-    ensures { λ _. ⌜ words (now (t .exit)) ≡ change-entries (λ l. remove l b) (words (now (t .entry))) ⌝ }
+    ensures { λ _. ⌜ words (now (t .exit)) ≡ change (entries-codec most) (λ l. remove l b) (words (now (t .entry))) ⌝ }
 {
     match tables::find(t, ENTRY_WORDS, most, b) {
         Spot::Here(p) => tables::remove_row(t, ENTRY_WORDS, most, p),
@@ -147,7 +149,7 @@ pub fn remove(t: &mut [u8], most: usize, b: u64)
 // No entries.
 pub fn clear(t: &mut [u8], most: usize)
     requires { ⌜ length (now t) ≡ 8 * entries-words most ⌝ }
-    ensures { λ _. ⌜ words (now (t .exit)) ≡ change-entries (λ l. []) (words (now (t .entry))) ⌝ }
+    ensures { λ _. ⌜ words (now (t .exit)) ≡ change (entries-codec most) (λ l. []) (words (now (t .entry))) ⌝ }
 {
     words::write(t, 0, 0);
 }
@@ -156,7 +158,7 @@ pub fn clear(t: &mut [u8], most: usize)
 pub fn append(t: &mut [u8], most: usize, b: u64, k: u64)
     requires { ⌜ IsTable entry-words most (words (now t)) (length (now t)) ⌝ }
     requires { ⌜ getD (words (now t)) 0 0 < most ⌝ }
-    ensures { λ _. ⌜ words (now (t .exit)) ≡ change-entries (λ l. l ++ entry b k ∷ []) (words (now (t .entry))) ⌝ }
+    ensures { λ _. ⌜ words (now (t .exit)) ≡ change (entries-codec most) (λ l. l ++ entry b k ∷ []) (words (now (t .entry))) ⌝ }
 {
     let n = words::read(t, 0) as usize;
     let last = [b, k];
@@ -197,7 +199,7 @@ fn sift_at(t: &mut [u8], most: usize, settings: Settings, g: u64, i: usize, o: u
 // The bucket's entries go; the others stay in their order.
 pub fn drop_bucket(t: &mut [u8], most: usize, settings: Settings, g: u64)
     requires { ⌜ IsTable entry-words most (words (now t)) (length (now t)) ⌝ }
-    ensures { λ _. ⌜ words (now (t .exit)) ≡ change-entries (only (λ e. not (waits-for (buckets settings) g e))) (words (now (t .entry))) ⌝ }
+    ensures { λ _. ⌜ words (now (t .exit)) ≡ change (entries-codec most) (only (λ e. not (waits-for (buckets settings) g e))) (words (now (t .entry))) ⌝ }
 {
     let n = words::read(t, 0) as usize;
     let mut o = 0;

@@ -9,7 +9,7 @@ use native.Mathlib.Omega.{arith}
 use borrow.Author.Tests.{lt-ltb, le-ltb, ltb-true, eqb-true, eq-eqb, ne-eqb}
 use lib.Dec.{ltb, eqb}
 use lib.ListN.{length, take, drop, getD, set, drop-of-length-le}
-use lib.Seq.{drop-cons, take-suc, length-take-le, take-all, paste, paste-suc}
+use lib.Seq.{take-suc, length-take-le, take-all, paste, paste-suc}
 use Rattle.area.specs.Area.{onto}
 use Rattle.lists.specs.Tests.{_and_}
 use Rattle.lists.proofs.Tests.{impossible, by, by-lt}

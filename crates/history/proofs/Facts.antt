@@ -5,12 +5,10 @@ use mathlib.Core.Bool.{Bool, true, false}
 use mathlib.Core.Logic.{_⊎_, inl, inr}
 use Prim.Native.Nat.{ℕ, suc, _≤_, _<_}
 use native.Mathlib.Omega.{arith}
-use Rattle.lists.specs.Tests.{_and_}
 use Rattle.lists.specs.Columns.{upd}
 use Rattle.lists.proofs.Tests.{by, by-lt}
 use Rattle.lists.proofs.Columns.{upd-other, upd-all, unflag}
 use Rattle.rules.specs.Limits.{buckets}
-use Rattle.rules.specs.Numbers.{home-of}
 use Rattle.rules.specs.Entries.{Entry, look, has}
 use Rattle.rules.specs.State.{Bucket, Relay, State, set-parts, set-lists}
 use Rattle.rules.specs.Parts.{item}

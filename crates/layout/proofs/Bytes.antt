@@ -11,7 +11,6 @@ use Rattle.lists.proofs.Tests.{and-l, and-r, both}
 use Rattle.words.specs.Words.{words, unwords}
 use Rattle.words.proofs.Laws.{length-words, words-below, words-unwords, unwords-words, length-unwords}
 use Rattle.rules.specs.State.{State}
-use Rattle.rules.specs.Sound.{sound}
 use Rattle.rules.proofs.Sound.{Sound}
 use Rattle.layout.specs.Layout.{settings-of, store-words}
 use Rattle.layout.specs.Store.{decode, render, decode-bytes, render-bytes, store-bytes, sound-bytes}
@@ -58,7 +57,7 @@ module _ (s : State) (sd : Sound s) (bs : List ℕ) (b : Below 256 bs) (h : leng
   unfolding decode-bytes
   bytes-back = ap decode words-rendered ∙ read-back s sd (words bs) long
 
-  pub bytes-again : sound s ≡ true → sound-bytes (render-bytes s bs) ≡ true
-  bytes-again y =
+  pub bytes-again : sound-bytes (render-bytes s bs) ≡ true
+  bytes-again =
       let kept : settings-of (words (render-bytes s bs)) ≡ s .settings = ap settings-of words-rendered ∙ settings-kept s sd (words bs) long in
-      sound-of-words (render-bytes s bs) (rw kept (bytes-length ∙ h)) (subst SoundWords (sym words-rendered) (render-sound s sd (words bs) long y))
+      sound-of-words (render-bytes s bs) (rw kept (bytes-length ∙ h)) (subst SoundWords (sym words-rendered) (render-sound s sd (words bs) long))

@@ -1,6 +1,6 @@
 -- Clean words, part by part: flags are 0 or 1, and logs are clean. All else may hold any words.
 use mathlib.Core.Path.{_≡_, refl, sym, ap, subst, _∙_}
-use mathlib.Core.List.{List, [], _∷_}
+use mathlib.Core.List.{List}
 use Prim.Native.Nat.{ℕ, _+_, _*_, _≤_, _<_}
 use native.Mathlib.Omega.{arith}
 use lib.ListN.{length, take, drop, getD, length-drop}
@@ -9,12 +9,11 @@ use Rattle.lists.specs.Runs.{run}
 use Rattle.lists.proofs.Runs.{fits-in, run-length, run-front, run-rest, run-all}
 use Rattle.rules.specs.declared.settings.Settings.{Settings}
 use Rattle.rules.specs.Limits.{proxies, buckets, max-relays, max-items, max-waiting}
-use Rattle.codec.specs.Codec.{Codec, Clean, enc-two, word, _then_, many}
+use Rattle.codec.specs.Codec.{Codec, Clean, word, _then_, many}
 use Rattle.codec.proofs.Focus.{clean-part}
 use Rattle.codec.proofs.Round.{CleanIf, Any, clean-word, clean-flag, clean-via, clean-two, flag-part, clean-many, clean-table, clean-slot}
 use Rattle.layout.specs.Disk.{blank-agreed, blank-proxy, blank-copies, blank-brick, blank-place}
-use Rattle.layout.specs.Disk.{settings-reading, head-reading, agreed-reading, proxy-reading, status-reading}
-use Rattle.layout.specs.Disk.{copies-reading, brick-reading, disk-reading}
+use Rattle.layout.specs.Disk.{settings-reading, head-reading, agreed-reading, proxy-reading, status-reading, copies-reading, brick-reading, disk-reading}
 use Rattle.layout.specs.Layout.{head-codec, agreed-codec, proxy-codec, bag-codec, status-codec, buffer-codec, copies-codec}
 use Rattle.layout.specs.Layout.{all-copies-codec, log-codec, place-codec, all-agreed-codec, all-proxies-codec, disk-codec}
 use Rattle.layout.specs.Layout.{head-words, agreed-words, log-words, place-words, store-words, agreed-at, proxies-at, bag-at, places-at, place-at}

@@ -14,9 +14,9 @@ use Rattle.rules.specs.Numbers.{blocks, bucket-of, home-of, is-data}
 use Rattle.rules.specs.Entries.{Entry}
 use Rattle.rules.specs.Chunks.{Chunk}
 use Rattle.rules.specs.State.{Relay, Bucket, State}
-use Rattle.rules.specs.Sound.{sound}
 use Rattle.rules.proofs.Limits.{Limits, limits}
 use Rattle.rules.proofs.Sound.{EntryOk, RelayOk, KeyOf, Sound}
+use Rattle.rules.proofs.SoundTest.{facts-sound}
 use Rattle.log.proofs.Codec.{log-back, log-small}
 use Rattle.codec.specs.Codec.{Fits, word-limit, word, flag, _&_, _then_}
 use Rattle.codec.proofs.Laws.{word-law, flag-law}
@@ -235,9 +235,9 @@ module _ (s : State) (sd : Sound s) where
     render-twice = disk-law (s .settings) .idem (to-disk s) ws h
 
     -- and they are sound again
-    pub render-sound : sound s ≡ true → SoundWords (render s ws)
-    render-sound y = record {
+    pub render-sound : SoundWords (render s ws)
+    render-sound = record {
       size = rw settings-kept render-length;
       still = ap (λ (t : State). render t (render s ws)) read-back ∙ render-twice;
-      state = rw read-back y;
+      state = rw read-back (facts-sound s sd);
     }

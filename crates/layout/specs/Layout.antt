@@ -8,7 +8,7 @@ use Rattle.rules.specs.Limits.{proxies, buckets, max-relays, max-items, max-wai
 use Rattle.rules.specs.Entries.{Entry}
 use Rattle.rules.specs.Chunks.{Chunk}
 use Rattle.rules.specs.State.{Relay}
-use Rattle.log.specs.Log.{log-words as log-size, log-dec, log-enc}
+use Rattle.log.specs.Log.{chunks-codec}
 use Rattle.codec.specs.Codec.{Codec, word, flag, via, _then_, many, table, slot}
 use Rattle.layout.specs.Disk.{Head, Agreed, Proxy, Status, Copies, Brick, Place, Disk, blank-agreed, blank-proxy, blank-copies, blank-brick, blank-place}
 use Rattle.layout.specs.Disk.{entry-row, relay-row, settings-reading, head-reading, agreed-reading, proxy-reading, status-reading}
@@ -60,9 +60,7 @@ abbrev pub all-copies-codec : Settings → Codec (ℕ → Copies)
 all-copies-codec c = many (buckets c) blank-copies (copies-codec c)
 
 abbrev pub log-codec : Settings → Codec (List Chunk)
-log-codec c =
-    let width = c .size / word-bytes in
-    record { size = log-size (c .chunks) width; dec = log-dec (c .chunks) width; enc = log-enc (c .chunks) width }
+log-codec c = chunks-codec (c .chunks) (c .size / word-bytes)
 
 abbrev pub brick-codec : Settings → Codec Brick
 brick-codec c = via brick-reading (status-codec then buffer-codec then all-copies-codec c then log-codec c)

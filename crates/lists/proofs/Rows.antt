@@ -8,7 +8,7 @@ use native.Mathlib.Omega.{arith}
 use lib.ListN.{length, take, drop, getD, length-append, length-drop, length-map, take-append-drop}
 use lib.Seq.{drop-append-add, take-add, take-at, drop-at, drop-drop, drop-cons, drop-length, length-take-le}
 use Rattle.lists.specs.Runs.{part, enc-all, Sized, none, more}
-use Rattle.lists.specs.Rows.{table-words, rows, over-rows, table-dec, table-enc, row}
+use Rattle.lists.specs.Rows.{table-words, rows, table-dec, table-enc, row}
 use Rattle.lists.proofs.Runs.{length-enc-all}
 
 -- ---- rows by place

@@ -7,9 +7,10 @@ use mathlib.Core.Logic.{_⊎_, inl, inr}
 use Prim.Native.Nat.{ℕ, zero, suc, _+_, _≤_, _<_}
 use native.Mathlib.Nat.{not-suc-le-zero, le-of-suc-le-suc}
 use native.Mathlib.Omega.{arith}
-use lib.Dec.{ltb, leb, eqb}
+use mir.Val.{boolByte}
+use lib.Dec.{ltb, eqb}
 use lib.ListN.{length, getD}
-use borrow.Author.Tests.{eqb-true, eqb-false, eq-eqb, ltb-true, ltb-false, leb-true, leb-false}
+use borrow.Author.Tests.{eqb-true, eqb-false, eq-eqb, ltb-true, ltb-false}
 use Rattle.lists.specs.Tests.{_and_, _or_, all-below, some-below, count-below, every, some, only}
 
 -- ---- cases on a test, keeping the equation
@@ -31,6 +32,11 @@ either P false t f = f refl
 
 pub eqb-self : (a : ℕ) → eqb a a ≡ true
 eqb-self a = eq-eqb a a refl
+
+-- a bool as the number that code makes of it
+pub flag-word : (b : Bool) → boolByte b ≡ cond b 1 0
+flag-word true = refl
+flag-word false = refl
 
 -- ---- what can't be
 pub impossible {ℓ} : {A : Type ℓ} → false ≡ true → A

@@ -10,7 +10,7 @@ use Rattle.lists.specs.Runs.{enc-all, Sized, none, more}
 use Rattle.lists.proofs.Runs.{enc-all-append}
 use Rattle.log.specs.Positions.{positions}
 use Rattle.log.specs.Log.{Stored, stored, row-of, cell-of, stored-at, key-at, positions-of, rows-in, positions-in, cells-in, lay, over, write-log}
-use Rattle.log.specs.Log.{Place, Fits}
+use Rattle.log.specs.Log.{KeyPlace, Fits}
 use Rattle.log.specs.Steps.{with-saved, put-saved, tag, entered}
 use Rattle.log.proofs.Positions as order
 use Rattle.log.proofs.Regions.{over-two, over-more, over-insert, over-set, lay-row, lay-position, lay-paste, lay-shift, length-rows}
@@ -69,7 +69,7 @@ module _ (L w : ℕ) (ys : List Stored) (ws : List ℕ) (hl : length ws ≡ 1 + 
   pub fits-more : Fits L w (ys ++ x ∷ [])
   fits-more = record { few = rw length-append (omega arith); sized = sized-more x (fit .sized) hx }
 
-  module _ (p : ℕ) (pl : Place L (length ys) (write-log L ys ws) (x .key) p) where
+  module _ (p : ℕ) (pl : KeyPlace L (length ys) (write-log L ys ws) (x .key) p) where
     position-in : positions-of (ys ++ x ∷ []) ≡ take p (positions-of ys) ++ length ys ∷ drop p (positions-of ys)
     position-in =
         position-more ys x p (pl .within)

@@ -8,21 +8,20 @@ use native.Mathlib.Nat.{le-refl}
 use native.Mathlib.Decide.{ℕ-discrete, decLt}
 use native.Mathlib.Omega.{arith}
 use lib.ListN.{length, take, drop, getD, length-drop}
-use lib.Seq.{getD-take, getD-drop}
-use lib.Seq.{length-take-le}
+use lib.Seq.{getD-take, getD-drop, length-take-le}
 use borrow.Author.Tests.{le-leb, lt-leb, lt-ltb, le-ltb, ltb-true, leb-true}
-use Rattle.lists.specs.Tests.{_and_, all-below}
-use Rattle.lists.proofs.Tests.{by, by-eq, all-at, all-true, all-false, and-l, and-r, both, same-test}
+use Rattle.lists.specs.Tests.{_and_}
+use Rattle.lists.proofs.Tests.{all-at, all-true, and-l, and-r, both, same-test}
 use Rattle.lists.proofs.Ascending.{rising-from}
 use Rattle.log.specs.Log.{Stored, key-at, write-log, read-log}
-use Rattle.log.specs.Log.{row-key, row-saved, position-at, key-by, flag-at, below-at, rises-at, good-log, Ordered, LogWith, IsLog, Place, Fits, Good}
+use Rattle.log.specs.Log.{row-key, row-saved, position-at, key-by, flag-at, below-at, rises-at, good-log, Ordered, LogWith, IsLog, KeyPlace, Fits, Good}
 use Rattle.log.specs.Log.{Lacks}
 use Rattle.log.specs.Steps.{row-good, good-order}
 use Rattle.log.proofs.Positions as order
 use Rattle.log.proofs.Chunks.{length-read, read-key, reach, log-write}
 
 module _ (L w : ℕ) (ws : List ℕ) (hl : length ws ≡ 1 + 3 * L + L * w) (few : getD ws 0 0 ≤ L) (ix : Ordered L (getD ws 0 0) ws)
-    (k r : ℕ) (pl : Place L (getD ws 0 0) ws k r) where
+    (k r : ℕ) (pl : KeyPlace L (getD ws 0 0) ws k r) where
   pub found-at : r < getD ws 0 0 → key-by L ws r ≡ k → (position-at L ws r < length (read-log L w ws)) × (key-at (read-log L w ws) (position-at L ws r) ≡ k)
   found-at h e =
       (rw (length-read L w ws hl few) (ix .below r h), read-key L w ws hl few (position-at L ws r) (ix .below r h) ∙ e)
@@ -149,29 +148,6 @@ module _ (L n : ℕ) (ws : List ℕ) (j p : ℕ) (e : p ≡ position-at L ws j) 
   row-key-by k g = g ∙ ap (row-key ws) e
 
 module _ (L n : ℕ) (ws : List ℕ) where
-  pub order-none : n ≡ 0 → good-order L n ws ≡ true
-  unfolding good-order
-  order-none e =
-      both _ _ (all-true n (row-good L n ws) (λ k h. absurd (omega arith))) (all-true (n - 1) (rises-at L ws) (λ k h. absurd (omega arith)))
-
-  pub order-row : (j : ℕ) → j < n → row-good L n ws j ≡ false → good-order L n ws ≡ false
-  unfolding good-order _and_
-  order-row j h e = rw (all-false n (row-good L n ws) j h e)
-
-  pub order-key : (i : ℕ) → 1 ≤ i → i < n → key-by L ws i ≤ key-by L ws (i - 1) → good-order L n ws ≡ false
-  unfolding good-order _and_
-  order-key i h l f =
-      let e : i - 1 + 1 ≡ i = omega arith in
-      let g : rises-at L ws (i - 1) ≡ false = rw e (le-ltb (key-by L ws (i - 1)) (key-by L ws i) f) in
-      rw (all-false (n - 1) (rises-at L ws) (i - 1) (omega arith) g) (by (all-below n (row-good L n ws)) (λ q. rw q) (λ q. rw q))
-
   pub order-all : ((k : ℕ) → k < n → row-good L n ws k ≡ true) → ((k : ℕ) → k < n - 1 → rises-at L ws k ≡ true) → good-order L n ws ≡ true
   unfolding good-order
   order-all a b = both _ _ (all-true n (row-good L n ws) a) (all-true (n - 1) (rises-at L ws) b)
-
-  pub rises-more : (i : ℕ) → 1 ≤ i → ((k : ℕ) → k < i - 1 → rises-at L ws k ≡ true) → key-by L ws (i - 1) < key-by L ws i
-      → (k : ℕ) → k < i + 1 - 1 → rises-at L ws k ≡ true
-  rises-more i h a f k l =
-      let e : i - 1 + 1 ≡ i = omega arith in
-      let g : rises-at L ws (i - 1) ≡ true = rw e (lt-ltb (key-by L ws (i - 1)) (key-by L ws i) f) in
-      by-eq k (i - 1) (λ _ q. rw q g) (λ _ q. a k (omega arith))

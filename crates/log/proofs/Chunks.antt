@@ -6,14 +6,12 @@ use Prim.Native.Nat.{ℕ, zero, suc, _+_, _*_, _-_, _≤_, _<_}
 use native.Mathlib.Nat.{lt-trans, not-suc-le-zero, le-of-suc-le-suc, zero-mul, suc-mul, mul-comm, mul-le-mul-right}
 use native.Mathlib.Omega.{arith}
 use lib.ListN.{length, take, drop, getD, length-append, length-drop}
-use lib.Seq.{getD-take, getD-drop, take-at, drop-at}
-use lib.Seq.{drop-drop, length-take-le, take-add}
+use lib.Seq.{getD-take, getD-drop, take-at, drop-at, drop-drop, length-take-le, take-add}
 use Rattle.lists.specs.Runs.{enc-all, Sized, none, more}
 use Rattle.lists.proofs.Runs.{length-enc-all}
 use Rattle.log.specs.Positions.{positions}
 use Rattle.log.specs.Log.{Stored, stored, row-of, cell-of, stored-at, key-at, positions-of, rows-in, positions-in, cells-in, lay, over, write-log}
-use Rattle.log.specs.Log.{read-rows, read-log}
-use Rattle.log.specs.Log.{row-key, row-saved, position-at, key-by, Ordered, LogWith, Fits}
+use Rattle.log.specs.Log.{read-rows, read-log, row-key, row-saved, position-at, key-by, Ordered, LogWith, Fits}
 use Rattle.log.proofs.Positions as order
 use Rattle.log.proofs.Regions.{over-over, over-self, length-over, over-at, lay-rows, lay-positions, lay-cells, length-rows, length-positions}
 use Rattle.log.proofs.Regions.{length-cells, regions, row-word, position-word}

@@ -8,8 +8,7 @@ use native.Mathlib.Omega.{arith}
 use lib.ListN.{length, take, drop, getD, set, length-append, length-drop, length-set, take-append-drop, List·getD-append}
 use lib.Seq.{paste, getD-take, getD-drop, take-append-add, drop-append-add, getD-append-add, take-append-le, drop-append-le, take-at, drop-at}
 use lib.Seq.{drop-drop, drop-cons, length-take-le, take-suc, set-at, set-append-left, drop-set-add}
-use Rattle.log.specs.Log.{rows-in, positions-in, cells-in, lay, over}
-use Rattle.log.specs.Log.{position-at}
+use Rattle.log.specs.Log.{rows-in, positions-in, cells-in, lay, over, position-at}
 use Rattle.log.proofs.Positions as order
 
 -- ---- a region's front

@@ -17,7 +17,7 @@ use Rattle.lists.proofs.Runs.{run-length, paste-run, below-take, below-drop, on
 use Rattle.words.specs.Words.{words, unwords}
 use Rattle.words.proofs.Laws.{length-words, lent-run, words-part, words-below, unwords-words}
 use Rattle.rules.specs.Chunks.{Chunk, chunk, append, held, saved-in, save, save-all, save-key}
-use Rattle.log.specs.Log.{Stored, stored, stored-at, write-log, read-log, LogWith, IsLog, Place, log-words, to-chunk, from-chunk, chunk-at, log-dec}
+use Rattle.log.specs.Log.{Stored, stored, stored-at, write-log, read-log, LogWith, IsLog, KeyPlace, log-words, to-chunk, from-chunk, chunk-at, log-dec}
 use Rattle.log.specs.Log.{log-enc, row-saved, position-at, key-by}
 use Rattle.log.specs.Steps.{entered, put-saved, with-saved, tag}
 use Rattle.log.specs.Answers.{FoundAt}
@@ -54,7 +54,7 @@ module _ {top : ℕ} (L w : ℕ) (s : List ℕ) (o : LogWith top L w (words s) (
   dec-at p h = getD-map-in to-chunk (read-log L w (words s)) p (chunk 0 false []) (stored 0 0 []) h
 
   -- ---- look-up
-  module _ (k r : ℕ) (pl : Place L (getD (words s) 0 0) (words s) k r) where
+  module _ (k r : ℕ) (pl : KeyPlace L (getD (words s) 0 0) (words s) k r) where
     pub found : r < getD (words s) 0 0 → key-by L (words s) r ≡ k → FoundAt (log-dec L w (words s)) k (position-at L (words s) r)
     found h e =
         let f = found-at L w (words s) sizes (o .few) (o .order) k r pl h e in
@@ -119,7 +119,7 @@ module _ (L w : ℕ) (s : List ℕ) (o : IsLog L w (words s) (length s)) (b : Be
   as-chunks xs cs h e = rw (← e) (sym (log-enc-is L w cs (words s) h))
 
   -- ---- a chunk more
-  appended : (n p k v at : ℕ) (d s1 t : List ℕ) (q z : ℕ) → getD (words s) 0 0 < L → n ≡ getD (words s) 0 0 → Place L n (words s) k p
+  appended : (n p k v at : ℕ) (d s1 t : List ℕ) (q z : ℕ) → getD (words s) 0 0 < L → n ≡ getD (words s) 0 0 → KeyPlace L n (words s) k p
       → length d ≡ 8 * w → length s1 ≡ length s → words s1 ≡ entered L n p k v (words s) → t ≡ d → at ≡ n * w → at + w ≤ L * w
       → q ≡ 8 * (1 + 3 * L + at) → z ≡ 8 * w
       → words (take q s1 ++ (t ++ drop z (drop q s1))) ≡ write-log L (read-log L w (words s) ++ stored k v (words d) ∷ []) (words s)
@@ -127,7 +127,7 @@ module _ (L w : ℕ) (s : List ℕ) (o : IsLog L w (words s) (length s)) (b : Be
       let xs : List Stored = read-log L w (words s) in
       let e : length xs ≡ n = count-is L w s o ∙ sym en in
       let lw : length (words d) ≡ w = counted d w ld in
-      let pl2 : Place L (length xs) (write-log L xs (words s)) k p = rw (same L w s o, e) pl in
+      let pl2 : KeyPlace L (length xs) (write-log L xs (words s)) k p = rw (same L w s o, e) pl in
       let g = pushed L w xs (words s) (sizes L w s o) (fits-read L w (words s) (sizes L w s o) (o .few)) (rw (count-is L w s o) room)
       (stored k v (words d)) lw p pl2
       (1 + 3 * L + at) (rw (ea, e)) in
@@ -143,7 +143,7 @@ module _ (L w : ℕ) (s : List ℕ) (o : IsLog L w (words s) (length s)) (b : Be
   map-more (x ∷ cs) c = ap (λ (l : List Stored). from-chunk w x ∷ l) (map-more cs c)
 
   pub append-leaves : (n p k : ℕ) (saved : Bool) (v at : ℕ) (d s1 t : List ℕ) (q z : ℕ) → v ≡ cond saved 1 0
-      → getD (words s) 0 0 < L → n ≡ getD (words s) 0 0 → Place L n (words s) k p
+      → getD (words s) 0 0 < L → n ≡ getD (words s) 0 0 → KeyPlace L n (words s) k p
       → length d ≡ 8 * w → length s1 ≡ length s → words s1 ≡ entered L n p k v (words s) → t ≡ d → at ≡ n * w → at + w ≤ L * w
       → q ≡ 8 * (1 + 3 * L + at) → z ≡ 8 * w
       → words (take q s1 ++ (t ++ drop z (drop q s1))) ≡ log-enc L w (append (log-dec L w (words s)) (chunk k saved d)) (words s)

@@ -9,8 +9,10 @@ use lib.Dec.{ltb, leb, eqb}
 use lib.ListN.{length, getD, take, drop, replicate}
 use Rattle.lists.specs.Tests.{_and_, all-below}
 use Rattle.lists.specs.Runs.{run, enc-all, Sized}
+use Rattle.lists.specs.Ascending.{Place}
 use Rattle.words.specs.Words.{words, unwords}
 use Rattle.rules.specs.Chunks.{Chunk, chunk}
+use Rattle.codec.specs.Codec.{Codec}
 use Rattle.log.specs.Positions.{positions}
 
 -- so many words has a log
@@ -95,9 +97,9 @@ log-dec chunks width ws = map to-chunk (read-log chunks width ws)
 unfoldable pub log-enc : ℕ → ℕ → List Chunk → List ℕ → List ℕ
 log-enc chunks width cs ws = write-log chunks (map (from-chunk width) (take chunks cs)) ws
 
--- a log's words with its chunks changed
-abbrev pub change-log : ℕ → ℕ → (List Chunk → List Chunk) → List ℕ → List ℕ
-change-log chunks width f ws = log-enc chunks width (f (log-dec chunks width ws)) ws
+-- a log as one codec of a list of chunks
+abbrev pub chunks-codec : ℕ → ℕ → Codec (List Chunk)
+chunks-codec chunks width = record { size = log-words chunks width; dec = log-dec chunks width; enc = log-enc chunks width }
 
 -- ---- the check
 abbrev pub row-key : List ℕ → ℕ → ℕ
@@ -146,10 +148,8 @@ abbrev pub IsLog : ℕ → ℕ → List ℕ → ℕ → Type 0
 IsLog chunks width ws len = LogWith 1 chunks width ws len
 
 -- r is the first place of the order whose key is not below k
-pub record Place (chunks n : ℕ) (ws : List ℕ) (k r : ℕ) : Type 0 where
-  pub within : r ≤ n
-  pub before : (j : ℕ) → j < r → key-by chunks ws j < k
-  pub after : (j : ℕ) → r ≤ j → j < n → k ≤ key-by chunks ws j
+abbrev pub KeyPlace : ℕ → ℕ → List ℕ → ℕ → ℕ → Type 0
+KeyPlace chunks n ws k r = Place (key-by chunks ws) n k r
 
 -- chunks that a log's words can hold
 pub record Fits (chunks width : ℕ) (xs : List Stored) : Type 0 where

@@ -6,70 +6,10 @@ ghost use Prim.Native.Nat.{_+_, _*_, _<_, _≤_};
 ghost use lib.ListN.{length, getD};
 ghost use Rattle.words.specs.Words.{words};
 ghost use Rattle.rules.specs.Chunks.{chunk, append, held, saved-in, save-all, save-key};
-ghost use Rattle.log.specs.Log.{log-dec, change-log, log-words, chunk-at, good-log, position-at, key-by, Ordered, LogWith, IsLog, Place};
-ghost use Rattle.log.specs.Steps.{hold-saved, Takes, good-order, entered};
-ghost use Rattle.log.specs.Answers.{FoundIn, RowIs};
-
-// ---- the check
-
-// The row at a place of the order: the key of a row in use whose saved word is 0 or 1.
-pub enum Row {
-    Key(u64),
-    Bad,
-}
-
-fn row_by(log: &[u8], chunks: usize, n: usize, j: usize) -> Row
-    requires { ⌜ (j < n) × (n ≤ chunks) × (8 * (1 + 3 * chunks) ≤ length (now log)) ⌝ }
-    ensures { λ r. ⌜ RowIs chunks n (words (now (log .entry))) j r ⌝ }
-{
-    let p = words::read(log, 1 + 2 * chunks + j);
-    if n as u64 <= p {
-        return Row::Bad;
-    }
-    let q = p as usize;
-    if 1 < words::read(log, 2 + 2 * q) {
-        return Row::Bad;
-    }
-    Row::Key(words::read(log, 1 + 2 * q))
-}
-
-// Are the first n positions those of such rows, their keys ascending?
-fn ordered(log: &[u8], chunks: usize, n: usize) -> bool
-    requires { ⌜ (n ≤ chunks) × (8 * (1 + 3 * chunks) ≤ length (now log)) ⌝ }
-    ensures { λ r. ⌜ r ≡ good-order chunks n (words (now (log .entry))) ⌝ }
-{
-    if n == 0 {
-        return true;
-    }
-    let Row::Key(first) = row_by(log, chunks, n, 0) else {
-        return false;
-    };
-    let mut last = first;
-    let mut i = 1;
-    while i < n {
-        let Row::Key(k) = row_by(log, chunks, n, i) else {
-            return false;
-        };
-        if k <= last {
-            return false;
-        }
-        last = k;
-        i += 1;
-    }
-    true
-}
-
-// Are these words a log's?
-pub fn is_log(log: &[u8], chunks: usize) -> bool
-    requires { ⌜ 8 * (1 + 3 * chunks) ≤ length (now log) ⌝ }
-    ensures { λ r. ⌜ r ≡ good-log chunks (words (now (log .entry))) ⌝ }
-{
-    let count = words::read(log, 0);
-    if (chunks as u64) < count {
-        return false;
-    }
-    ordered(log, chunks, count as usize)
-}
+ghost use Rattle.codec.specs.Codec.{change};
+ghost use Rattle.log.specs.Log.{log-dec, chunks-codec, log-words, chunk-at, position-at, key-by, Ordered, LogWith, IsLog, KeyPlace};
+ghost use Rattle.log.specs.Steps.{hold-saved, Takes, entered};
+ghost use Rattle.log.specs.Answers.{FoundIn};
 
 // ---- look-up
 
@@ -86,7 +26,7 @@ fn key_by(log: &[u8], chunks: usize, j: usize) -> u64
 fn place(log: &[u8], chunks: usize, n: usize, k: u64) -> usize
     requires { ⌜ (n ≤ chunks) × (8 * (1 + 3 * chunks) ≤ length (now log)) ⌝ }
     requires { ⌜ Ordered chunks n (words (now log)) ⌝ }
-    ensures { λ r. ⌜ Place chunks n (words (now (log .entry))) k r ⌝ }
+    ensures { λ r. ⌜ KeyPlace chunks n (words (now (log .entry))) k r ⌝ }
 {
     let mut lo = 0;
     let mut hi = n;
@@ -161,7 +101,7 @@ pub fn bytes_at<'a>(log: &'a [u8], chunks: usize, width: usize, p: usize) -> &'a
 // No chunks.
 pub fn clear(log: &mut [u8], chunks: usize, width: usize)
     requires { ⌜ length (now log) ≡ 8 * log-words chunks width ⌝ }
-    ensures { λ _. ⌜ words (now (log .exit)) ≡ change-log chunks width (λ l. []) (words (now (log .entry))) ⌝ }
+    ensures { λ _. ⌜ words (now (log .exit)) ≡ change (chunks-codec chunks width) (λ l. []) (words (now (log .entry))) ⌝ }
 {
     words::write(log, 0, 0);
 }
@@ -182,7 +122,7 @@ fn enter(log: &mut [u8], chunks: usize, n: usize, p: usize, key: u64, saved: u64
 pub fn append(log: &mut [u8], chunks: usize, width: usize, key: u64, saved: bool, bytes: &[u8])
     requires { ⌜ IsLog chunks width (words (now log)) (length (now log)) ⌝ }
     requires { ⌜ (getD (words (now log)) 0 0 < chunks) × (length (now bytes) ≡ 8 * width) ⌝ }
-    ensures { λ _. ⌜ words (now (log .exit)) ≡ change-log chunks width (λ l. append l (chunk key saved (now (bytes .entry)))) (words (now (log .entry))) ⌝ }
+    ensures { λ _. ⌜ words (now (log .exit)) ≡ change (chunks-codec chunks width) (λ l. append l (chunk key saved (now (bytes .entry)))) (words (now (log .entry))) ⌝ }
 {
     let n = words::read(log, 0) as usize;
     let p = place(log, chunks, n, key);
@@ -195,7 +135,7 @@ pub fn append(log: &mut [u8], chunks: usize, width: usize, key: u64, saved: bool
 // The chunk with the key, where there is one, becomes saved.
 pub fn save_key(log: &mut [u8], chunks: usize, width: usize, k: u64)
     requires { ⌜ IsLog chunks width (words (now log)) (length (now log)) ⌝ }
-    ensures { λ _. ⌜ words (now (log .exit)) ≡ change-log chunks width (λ l. save-key l k) (words (now (log .entry))) ⌝ }
+    ensures { λ _. ⌜ words (now (log .exit)) ≡ change (chunks-codec chunks width) (λ l. save-key l k) (words (now (log .entry))) ⌝ }
 {
     match find(log, chunks, width, k) {
         Found::At(p) => words::write(log, 2 + 2 * p, 1),
@@ -207,7 +147,7 @@ pub fn save_key(log: &mut [u8], chunks: usize, width: usize, k: u64)
 pub fn hold_saved(log: &mut [u8], chunks: usize, width: usize, key: u64, bytes: &[u8])
     requires { ⌜ IsLog chunks width (words (now log)) (length (now log)) ⌝ }
     requires { ⌜ Takes chunks width key (words (now log)) (length (now bytes)) ⌝ }
-    ensures { λ _. ⌜ words (now (log .exit)) ≡ change-log chunks width (hold-saved key (now (bytes .entry))) (words (now (log .entry))) ⌝ }
+    ensures { λ _. ⌜ words (now (log .exit)) ≡ change (chunks-codec chunks width) (hold-saved key (now (bytes .entry))) (words (now (log .entry))) ⌝ }
 {
     if holds(log, chunks, width, key) {
         save_key(log, chunks, width, key);
@@ -219,7 +159,7 @@ pub fn hold_saved(log: &mut [u8], chunks: usize, width: usize, key: u64, bytes: 
 // All chunks become saved.
 pub fn save_all(log: &mut [u8], chunks: usize, width: usize)
     requires { ⌜ IsLog chunks width (words (now log)) (length (now log)) ⌝ }
-    ensures { λ _. ⌜ words (now (log .exit)) ≡ change-log chunks width save-all (words (now (log .entry))) ⌝ }
+    ensures { λ _. ⌜ words (now (log .exit)) ≡ change (chunks-codec chunks width) save-all (words (now (log .entry))) ⌝ }
 {
     let n = words::read(log, 0) as usize;
     let mut i = 0;

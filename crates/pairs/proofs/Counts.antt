@@ -1,7 +1,7 @@
 -- Counting assignments.
 use mathlib.Core.Path.{_≡_, refl, sym, _∙_}
 use mathlib.Core.List.{List, [], _∷_}
-use mathlib.Core.Bool.{true, false, not, cond}
+use mathlib.Core.Bool.{true, false, cond}
 use Prim.Native.Nat.{ℕ, zero, suc, _+_, _*_, _/_, _≤_, _<_}
 use native.Mathlib.Nat.{suc-mul, zero-mul, div-add-mod', mod-lt, mul-comm}
 use native.Mathlib.Omega.{arith}
@@ -9,7 +9,6 @@ use lib.Dec.{eqb}
 use lib.ListN.{length, set, length-append, List·getD-append}
 use lib.Seq.{getD-append-add}
 use borrow.Author.Tests.{eq-eqb, ne-eqb}
-use Rattle.lists.specs.Tests.{_or_}
 use Rattle.lists.proofs.Tests.{by, by-eq, impossible}
 use Rattle.rules.specs.Pairs.{Slots, at, among, load, share, slots-of}
 use Rattle.pairs.specs.Claims.{Distinct, Buckets}

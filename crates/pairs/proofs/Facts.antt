@@ -9,7 +9,7 @@ use lib.ListN.{length, length-set}
 use borrow.Author.Tests.{ne-eqb, le-ltb}
 use Rattle.lists.specs.Tests.{_and_}
 use Rattle.lists.proofs.Tests.{either}
-use Rattle.rules.specs.Pairs.{Slots, at, among, load, least-loaded, kept, keep-at, fill-slot, fill-at, give-way, walk-at, in-order, share, filled, walked, pairs}
+use Rattle.rules.specs.Pairs.{Slots, at, among, load, least-loaded, keep-at, fill-slot, fill-at, give-way, walk-at, in-order, share, filled, walked, pairs}
 use Rattle.pairs.specs.Claims.{Members, Apart, Buckets}
 use Rattle.pairs.proofs.Least.{not-zero}
 use Rattle.pairs.proofs.Stages.{stage, same-pair}

@@ -14,7 +14,7 @@ use Rattle.pairs.specs.Claims.{Members, Buckets, ViewPairs}
 use Rattle.pairs.proofs.Least.{least-le}
 use Rattle.pairs.proofs.Steps.{give-is}
 use Rattle.pairs.proofs.Facts.{Pairs, filled-length, walk-length, walked-length, filled-full, walked-apart, pairs-apart, pairs-length, settled}
-use Rattle.pairs.proofs.Counts.{one, load-set, one-same, one-other, one-le, holds, not-all-full, share-covers, beside}
+use Rattle.pairs.proofs.Counts.{load-set, one-same, one-other, one-le, holds, not-all-full, share-covers, beside}
 
 -- ---- one step of the walk
 module _ (ms : List ℕ) (c k j : ℕ) (s : Slots) (hk : k < length s) where

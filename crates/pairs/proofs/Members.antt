@@ -1,20 +1,18 @@
 -- The members of a view as a list of ids, and the pair that each bucket gets of them.
-use mathlib.Core.Path.{_≡_, refl, sym, ap, subst, _∙_}
+use mathlib.Core.Path.{_≡_, sym, _∙_}
 use mathlib.Core.List.{List, [], _∷_, _++_, append-nil, List·Memᴰ, List·Memᴰ·head, List·Memᴰ·tail, List·Memᴰ·cases-cons, List·Memᴰ·not-nil}
 use mathlib.Core.List.{List·Memᴰ·append-cases, List·Memᴰ·eq-of-singleton}
-use mathlib.Core.Bool.{Bool, true, false, cond}
-use mathlib.Core.Logic.{_⊎_, inl, inr}
+use mathlib.Core.Bool.{Bool, true, false}
+use mathlib.Core.Logic.{inl, inr}
 use Prim.Native.Nat.{ℕ, zero, suc, _+_, _*_, _≤_, _<_}
 use native.Mathlib.Omega.{arith}
-use lib.Dec.{eqb}
 use lib.ListN.{length}
 use borrow.Author.Tests.{eqb-true}
 use Rattle.lists.specs.Tests.{_or_}
 use Rattle.lists.proofs.Tests.{by, eqb-self, impossible, clash, or-cases, or-l, or-r}
 use Rattle.rules.specs.Pairs.{Slots, at, among, ids-of, pairs}
-use Rattle.rules.proofs.Parts.{in-ids, ids-in}
-use Rattle.pairs.specs.Claims.{Distinct, Members, Apart}
-use Rattle.pairs.proofs.Least.{among-not}
+use Rattle.rules.proofs.Parts.{ids-in}
+use Rattle.pairs.specs.Claims.{Distinct, Members}
 use Rattle.pairs.proofs.Facts.{pairs-apart}
 
 pub among-in : (l : List ℕ) (i : ℕ) → among l i ≡ true → List·Memᴰ i l

@@ -1,11 +1,10 @@
 -- The pairs depend on who is a member and not on the order in which the members are listed.
 use mathlib.Core.Path.{_≡_, refl, sym, ap, _∙_}
 use mathlib.Core.List.{List}
-use mathlib.Core.Bool.{false, not}
+use mathlib.Core.Bool.{false}
 use Prim.Native.Nat.{ℕ, zero, suc, _+_, _*_, _-_}
 use native.Mathlib.Omega.{arith}
 use lib.ListN.{length}
-use Rattle.lists.specs.Tests.{_and_}
 use Rattle.lists.proofs.Tests.{by-eq}
 use Rattle.rules.specs.Pairs.{Slots, at, among, least-loaded, kept, keep-at, fill-slot, fill-at, give-way, walk-at, in-order, share, filled, walked, pairs}
 use Rattle.pairs.specs.Claims.{Members}

@@ -4,7 +4,6 @@ use Prim.Native.Nat.{ℕ, zero, suc, _+_, _*_, _≤_, _<_}
 use native.Mathlib.Omega.{arith}
 use lib.ListN.{length, set, length-set}
 use lib.Seq.{getD-set-same, getD-set-other, set-getD}
-use Rattle.lists.specs.Tests.{_and_}
 use Rattle.lists.proofs.Tests.{by-eq}
 use Rattle.rules.specs.Pairs.{Slots, at, in-order}
 use Rattle.pairs.specs.Claims.{Buckets}

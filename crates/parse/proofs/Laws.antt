@@ -17,11 +17,10 @@ use Rattle.area.proofs.Each.{Above, each-none, each-more}
 use Rattle.decimal.specs.Decimal.{number-of, and-then, answer}
 use Rattle.hex.specs.Hex.{only-digits, unhex, spells-bytes, bytes-of}
 use Rattle.hex.proofs.Laws.{digit-cases, digits-head}
-use Rattle.rules.specs.Event.{kind-at}
+use Rattle.rules.specs.Event.{kind-at, Parts}
 use Rattle.text.specs.Words.{kind-of-word}
 use Rattle.text.specs.Table.{kind-number}
 use Rattle.text.specs.Fields.{comma, parted, before, fields}
-use Rattle.rules.specs.Event.{Parts}
 use Rattle.text.specs.Lines.{Taken, taken, take-numbers, take-bytes, parts-of-kind, parts-of-fields, is-line, without-feed, read-parts}
 use Rattle.text.specs.Lines.{settings-at, settings-of-fields, read-settings}
 use Rattle.text.proofs.Laws.{kind-some, number-some}

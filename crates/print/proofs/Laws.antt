@@ -16,9 +16,8 @@ use Rattle.hex.specs.Hex.{hex}
 use Rattle.hex.proofs.Laws.{hex-length}
 use Rattle.text.specs.Table.{shape-of}
 use Rattle.text.specs.declared.Shape.{Shape}
-use Rattle.rules.specs.Event.{kind-count, kind-at}
+use Rattle.rules.specs.Event.{kind-count, kind-at, Parts}
 use Rattle.text.specs.Fields.{comma, parted}
-use Rattle.rules.specs.Event.{Parts}
 use Rattle.text.specs.Lines.{longest, line-feed, field-texts, line-of, is-well-formed}
 use Rattle.lists.specs.Tests.{_and_}
 use Rattle.text.proofs.Laws.{form-ok, row-len, row-numbers, row-payload}

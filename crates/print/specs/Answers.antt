@@ -5,8 +5,7 @@ use Prim.Native.Nat.{ℕ}
 use lib.Dec.{leb}
 use lib.ListN.{length, take}
 use Rattle.area.specs.Area.{onto}
-use Rattle.rules.specs.Event.{kind-at}
-use Rattle.rules.specs.Event.{Parts}
+use Rattle.rules.specs.Event.{kind-at, Parts}
 use Rattle.text.specs.Lines.{parts, line-of, is-well-formed}
 use Rattle.lists.specs.Tests.{_and_}
 use Rattle.print.specs.declared.Printed.{Printed}

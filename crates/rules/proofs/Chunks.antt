@@ -1,16 +1,15 @@
 -- Laws of chunk logs.
 use mathlib.Core.Path.{_≡_, refl, sym, ap, _∙_}
-use mathlib.Core.List.{List, [], _∷_, _++_, map, List·Memᴰ, List·Memᴰ·head, List·Memᴰ·tail, List·Memᴰ·cases-cons, List·Memᴰ·append-cases, List·Memᴰ·eq-of-singleton, List·Memᴰ·not-nil}
-use mathlib.Core.Bool.{Bool, true, false, not, cond}
+use mathlib.Core.List.{List, [], _∷_, map, List·Memᴰ, List·Memᴰ·head, List·Memᴰ·tail, List·Memᴰ·cases-cons, List·Memᴰ·append-cases, List·Memᴰ·eq-of-singleton, List·Memᴰ·not-nil}
+use mathlib.Core.Bool.{Bool, true, false}
 use mathlib.Core.Logic.{_⊎_, inl, inr}
-use Prim.Native.Nat.{ℕ, zero, suc, _+_, _≤_, _<_}
-use native.Mathlib.Omega.{arith}
+use Prim.Native.Nat.{ℕ, suc}
 use lib.Dec.{eqb}
 use lib.ListN.{length}
 use borrow.Author.Tests.{eqb-true}
 use Rattle.lists.specs.Tests.{_and_, _or_, some, only}
 use Rattle.lists.proofs.Tests.{by, by-eq, either, eqb-self, impossible, clash, and-l, and-r, both, or-cases, or-l, or-r, or-second, no, is-no}
-use Rattle.rules.specs.Chunks.{Chunk, chunk, held, saved-in, bytes-in, append, save, save-all, save-key, only-saved, only-named}
+use Rattle.rules.specs.Chunks.{Chunk, held, saved-in, bytes-in, append, save, only-saved, only-named}
 use Rattle.rules.specs.Sound.{keys-apart}
 
 -- a key that is held: its chunk, whose bytes are those that are read

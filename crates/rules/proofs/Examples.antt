@@ -1,6 +1,6 @@
 -- The examples hold: each table is one statement, computed.
 use mathlib.Core.Path.{_≡_, refl}
-use mathlib.Core.Bool.{Bool, true}
+use mathlib.Core.Bool.{true}
 use Prim.Native.Nat.{ℕ}
 use Rattle.lists.specs.Tests.{_and_, _or_, all-below, some-below, count-below, every, some, only}
 use Rattle.lists.specs.Columns.{upd}

@@ -1,14 +1,13 @@
 -- Settings in their limits, as facts.
-use mathlib.Core.Path.{_≡_, refl}
-use mathlib.Core.Bool.{Bool, true, false}
-use Prim.Native.Nat.{ℕ, _+_, _*_, _/_, _%_, _≤_, _<_}
+use mathlib.Core.Path.{_≡_}
+use mathlib.Core.Bool.{true}
+use Prim.Native.Nat.{ℕ, _%_, _≤_, _<_}
 use native.Mathlib.Omega.{arith}
-use lib.Dec.{leb, eqb}
+use lib.Dec.{eqb}
 use borrow.Author.Tests.{leb-true, eqb-true}
 use Rattle.lists.specs.Tests.{_and_}
-use Rattle.lists.proofs.Tests.{by, and-l, and-r, both, clash}
+use Rattle.lists.proofs.Tests.{by, and-l, and-r, both}
 use Rattle.rules.specs.declared.settings.Settings.{Settings}
-use Rattle.rules.specs.declared.settings.Checked.{Checked}
 use Rattle.rules.specs.declared.settings.Checked.the-variants.{Good, Bad}
 use Rattle.rules.specs.Limits.{in-range, in-limits, checked, buckets}
 

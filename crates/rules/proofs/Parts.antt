@@ -2,16 +2,16 @@
 use mathlib.Core.Path.{_≡_, refl, sym, ap, subst, _∙_}
 use mathlib.Core.List.{List, [], _∷_, _++_, List·Memᴰ, List·Memᴰ·head, List·Memᴰ·tail, List·Memᴰ·cases-cons, List·Memᴰ·append-cases, List·Memᴰ·not-nil}
 use mathlib.Core.List.{append-nil, List·Memᴰ·eq-of-singleton, Memᴰ·append-left, Memᴰ·append-right}
-use mathlib.Core.Bool.{Bool, true, false, not, cond}
+use mathlib.Core.Bool.{Bool, true, not, cond}
 use mathlib.Core.Logic.{_⊎_, inl, inr}
-use Prim.Native.Nat.{ℕ, zero, suc, _+_, _*_, _/_, _%_, _≤_, _<_}
+use Prim.Native.Nat.{ℕ, zero, suc, _+_, _/_, _≤_, _<_}
 use native.Mathlib.Nat.{mod-lt}
 use native.Mathlib.Omega.{arith}
-use lib.Dec.{ltb, leb, eqb}
+use lib.Dec.{ltb, leb}
 use lib.ListN.{length, length-append}
-use borrow.Author.Tests.{eqb-true, eq-eqb, ltb-true, lt-ltb, le-leb, leb-true, not-true}
-use Rattle.lists.specs.Tests.{_and_, _or_, count-below, every, only}
-use Rattle.lists.proofs.Tests.{by, by-eq, by-lt, either, impossible, clash, no, is-no, and-l, and-r, both, or-cases, or-l, or-r, count-two, every-in, only-in, in-only, an-element}
+use borrow.Author.Tests.{eqb-true, eq-eqb, le-leb}
+use Rattle.lists.specs.Tests.{_and_, _or_, only}
+use Rattle.lists.proofs.Tests.{by, by-eq, by-lt, either, clash, is-no, and-l, and-r, both, every-in, only-in, in-only, an-element}
 use Rattle.rules.specs.declared.settings.Settings.{Settings}
 use Rattle.rules.specs.Limits.{buckets}
 use Rattle.rules.specs.Numbers.{bucket-of, sequences, key-of, home-of, sequence-of}
@@ -19,7 +19,7 @@ use Rattle.rules.specs.Entries.{Entry, look, has}
 use Rattle.rules.specs.Chunks.{held, saved-in}
 use Rattle.rules.specs.State.{Bricks, Bucket, State}
 use Rattle.rules.specs.Pairs.{ids-of}
-use Rattle.rules.specs.Parts.{members, circle, seek, holder, saved-at, primary-memory, primary-disk, backup-memory, backup-disk}
+use Rattle.rules.specs.Parts.{members, circle, seek, saved-at, primary-memory, primary-disk, backup-memory, backup-disk}
 use Rattle.rules.specs.Parts.{agree, pending, none-pending, calm}
 use Rattle.rules.proofs.Limits.{some-buckets}
 use Rattle.rules.proofs.Entries.{has-entry, no-entry}

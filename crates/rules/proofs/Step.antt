@@ -3,7 +3,7 @@ use mathlib.Core.Path.{_≡_, refl}
 use mathlib.Core.List.{List, [], _∷_}
 use mathlib.Core.Bool.{Bool, true, false}
 use mathlib.Core.Logic.{_⊎_, inl, inr}
-use Prim.Native.Nat.{ℕ, zero, suc, _+_, _≤_, _<_}
+use Prim.Native.Nat.{ℕ, zero, suc, _<_}
 use native.Mathlib.Omega.{arith}
 use lib.Dec.{ltb}
 use borrow.Author.Tests.{ltb-true}
@@ -12,7 +12,7 @@ use Rattle.lists.proofs.Tests.{by, and-l, and-r}
 use Rattle.rules.specs.Event.{Event}
 use Rattle.rules.specs.State.{State}
 use Rattle.rules.specs.Question.{Question, first-no, AllYes}
-use Rattle.rules.specs.Step.{Outcome, Answer, only-key, Rule, rule, finish, step}
+use Rattle.rules.specs.Step.{Outcome, only-key, rule, finish, step}
 
 -- no question has number 0
 abbrev numbered : List Question → Bool

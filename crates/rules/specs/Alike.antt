@@ -1,6 +1,6 @@
 -- Alike: same settings, view, members and, for each bucket, the same blocks and keys in the primary's memory. (Copies are sorted, so the same entries.)
 use mathlib.Core.Bool.{Bool, true, false, not}
-use Prim.Native.Nat.{ℕ, suc}
+use Prim.Native.Nat.{suc}
 use lib.Dec.{eqb}
 use Rattle.lists.specs.Tests.{_and_, all-below}
 use Rattle.rules.specs.declared.settings.Settings.{Settings}

@@ -4,7 +4,7 @@ use mathlib.Core.Bool.{Bool, true, false}
 use Prim.Native.Char.{code}
 use Prim.Native.Nat.{ℕ, zero, suc}
 use Prim.Native.String.{String, [] as empty, _∷_ as _before_}
-use lib.ListN.{length, getD}
+use lib.ListN.{getD}
 
 pub data Event : Type 0 where
   -- proxy, place, block, data

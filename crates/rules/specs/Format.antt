@@ -1,7 +1,7 @@
 -- Format: bricks with ids 1 to N, all up, at places 0 to N - 1; all buckets empty and ready.
-use mathlib.Core.List.{List, []}
+use mathlib.Core.List.{[]}
 use mathlib.Core.Bool.{Bool, true, false, cond}
-use Prim.Native.Nat.{ℕ, zero, suc, _+_, _*_}
+use Prim.Native.Nat.{ℕ, suc, _+_, _*_}
 use lib.Dec.{ltb, leb}
 use lib.ListN.{replicate}
 use Rattle.lists.specs.Tests.{_and_}

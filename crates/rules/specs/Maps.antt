@@ -1,13 +1,13 @@
 -- map, send, deliver, drop, savemap and done: the way of a mapping from an item to both copies of its pair. abandon, learn and reset: the proxy's own steps.
 use mathlib.Core.List.{List, [], _∷_, _++_}
-use mathlib.Core.Bool.{Bool, true, false, not, cond}
-use Prim.Native.Nat.{ℕ, zero, suc, _+_, _*_}
-use lib.Dec.{ltb, leb, eqb}
+use mathlib.Core.Bool.{Bool, not, cond}
+use Prim.Native.Nat.{ℕ, zero, suc, _+_}
+use lib.Dec.{ltb, eqb}
 use lib.ListN.{length, getD}
 use Rattle.lists.specs.Tests.{_and_, _or_}
 use Rattle.lists.specs.Columns.{upd}
 use Rattle.rules.specs.Limits.{max-relays, max-waiting, max-number}
-use Rattle.rules.specs.Entries.{Entry, entry, look, has, insert, remove, takes}
+use Rattle.rules.specs.Entries.{entry, look, has, insert, remove, takes}
 use Rattle.rules.specs.State.{State, Bucket, Relay, blank-relay, set-bricks, set-buckets, set-bucket, set-bag, set-items, set-known}
 use Rattle.rules.specs.State.{with-buffer, with-copies, with-order, with-taken}
 use Rattle.rules.specs.Parts.{up-member, saved-at, bucket-no, bucket-at, primary-memory, backup-memory, item}

@@ -1,7 +1,7 @@
 -- Parts of a store that several rules name.
 use mathlib.Core.List.{List, [], _∷_, _++_}
-use mathlib.Core.Bool.{Bool, true, false, not, cond}
-use Prim.Native.Nat.{ℕ, zero, suc}
+use mathlib.Core.Bool.{Bool, not, cond}
+use Prim.Native.Nat.{ℕ}
 use lib.Dec.{ltb, leb, eqb}
 use Rattle.lists.specs.Tests.{_and_, _or_, every, only}
 use Rattle.rules.specs.Limits.{buckets}

@@ -1,5 +1,5 @@
 -- What a store holds. Bricks are columns by id: under an id that no place has, everything is blank. Buckets and proxies are columns by number.
-use mathlib.Core.List.{List, [], _∷_}
+use mathlib.Core.List.{List, []}
 use mathlib.Core.Bool.{Bool, false}
 use Prim.Native.Nat.{ℕ}
 use Rattle.lists.specs.Columns.{upd}

@@ -1,6 +1,6 @@
 -- The step: what each event asks, and what it answers and does where every answer is yes.
 use mathlib.Core.List.{List, [], _∷_}
-use mathlib.Core.Bool.{Bool, false, cond}
+use mathlib.Core.Bool.{false, cond}
 use Prim.Native.Nat.{ℕ, zero, suc}
 use Rattle.rules.specs.Event.{Event}
 use Rattle.rules.specs.State.{State}

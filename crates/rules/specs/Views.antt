@@ -1,8 +1,8 @@
 -- view, fetch and ready: a new view, and how its buckets come to be ready.
 use mathlib.Core.List.{List, [], _∷_}
 use mathlib.Core.Bool.{Bool, true, false, not, cond}
-use Prim.Native.Nat.{ℕ, zero, suc, _+_, _*_}
-use lib.Dec.{ltb, eqb}
+use Prim.Native.Nat.{ℕ, suc, _+_, _*_}
+use lib.Dec.{ltb}
 use Rattle.lists.specs.Tests.{_and_, count-below, only}
 use Rattle.lists.specs.Columns.{upd}
 use Rattle.rules.specs.Limits.{buckets, max-number}

@@ -1,5 +1,4 @@
 -- Whole: every place holds an up member; every bucket ready; nothing pending; every mapped key saved at two members.
-use mathlib.Core.List.{List}
 use mathlib.Core.Bool.{Bool}
 use Prim.Native.Nat.{ℕ}
 use lib.Dec.{leb}

@@ -9,8 +9,8 @@ use lib.ListN.{length, getD}
 use borrow.Author.Tests.{leb-true, le-leb, eqb-true, eq-eqb}
 use Rattle.lists.specs.Tests.{_and_, _or_, all-below}
 use Rattle.lists.specs.Runs.{run, Below}
-use Rattle.lists.proofs.Tests.{by-eq, and-l, and-r, both, if-so, so-if}
-use Rattle.lists.proofs.Runs.{run-length, run-of-run, fits-in, below-take, below-drop}
+use Rattle.lists.proofs.Tests.{by-eq, and-l, and-r, both, if-so, so-if, all-same}
+use Rattle.lists.proofs.Runs.{run-length, run-of-run, fits-in, below-take, below-drop, run-at}
 use Rattle.rules.specs.declared.settings.Settings.{Settings}
 use Rattle.rules.specs.Limits.{buckets, max-waiting}
 use Rattle.rules.specs.Numbers.{sequences}
@@ -20,7 +20,7 @@ use Rattle.rules.specs.Sound.{sound-key, sound-buffer, sound-log, sound-copies,
 use Rattle.rules.proofs.Limits.{Limits}
 use Rattle.codec.specs.Codec.{Clean, word-limit}
 use Rattle.layout.specs.Places.{Apart}
-use Rattle.layout.specs.Disk.{Copies}
+use Rattle.layout.specs.Disk.{Copies, entry-row}
 use Rattle.layout.specs.Layout.{buffer-codec, copies-codec, all-copies-codec, log-codec, settings-of, store-words, place-words, copies-words, log-words}
 use Rattle.layout.specs.Layout.{place-at, place-part, up-at, member-at, began-at, next-at, ceiling-at, buffer-at, all-copies-at, copies-at, log-at}
 use Rattle.layout.specs.Store.{decode}
@@ -34,11 +34,8 @@ use Rattle.sound.specs.Rows.{table-good}
 use Rattle.sound.specs.Copies.{copies-good, copies-at-good}
 use Rattle.sound.specs.Chunks.{log-good}
 use Rattle.sound.specs.Places.{status-good, buffer-good, brick-good}
-use Rattle.lists.proofs.Tests.{all-same}
-use Rattle.lists.proofs.Runs.{run-at}
 use Rattle.lists.specs.Rows.{table-dec}
 use Rattle.lists.proofs.Rows.{length-rows}
-use Rattle.layout.specs.Disk.{entry-row}
 use Rattle.sound.proofs.TableSound.{copy-is-sound, buffer-is-sound}
 
 -- ---- a log, of a state with these settings

@@ -7,7 +7,7 @@ use native.Mathlib.Omega.{arith}
 use lib.ListN.{length, getD}
 use borrow.Author.Tests.{leb-true, eq-eqb, ne-eqb}
 use Rattle.lists.specs.Runs.{Below}
-use Rattle.lists.proofs.Tests.{by, and-l, clash}
+use Rattle.lists.proofs.Tests.{by, and-l, clash, no-first, yes-first}
 use Rattle.words.specs.Words.{words}
 use Rattle.words.proofs.Laws.{length-words, words-below}
 use Rattle.rules.specs.declared.settings.Settings.{Settings}
@@ -20,7 +20,6 @@ use Rattle.layout.proofs.Parts.{settings-are}
 use Rattle.layout.proofs.Sound.{words-limits}
 use Rattle.layout.proofs.Bytes.{bytes-sound, bytes-size}
 use Rattle.sound.specs.Store.{header-good, parts-good}
-use Rattle.lists.proofs.Tests.{no-first, yes-first}
 use Rattle.sound.proofs.StoreSound.{parts-sound}
 
 pub header-given : (c : Settings) (ws : List ℕ) → header-good c ws ≡ true → getD ws given-at 0 ≤ max-id

@@ -8,7 +8,7 @@ use native.Mathlib.Omega.{arith}
 use lib.ListN.{length, getD}
 use borrow.Author.Tests.{lt-ltb, le-ltb, le-leb}
 use Rattle.lists.specs.Tests.{all-below}
-use Rattle.lists.proofs.Tests.{by-eq, clash, and-l, and-r, both, same-test, all-true, all-at}
+use Rattle.lists.proofs.Tests.{by-eq, clash, and-l, and-r, both, same-test, all-true, all-at, no-first, no-second, every-by, every-at}
 use Rattle.lists.proofs.Lists.{getD-map-in}
 use Rattle.rules.specs.declared.settings.Settings.{Settings}
 use Rattle.rules.specs.Chunks.{Chunk, chunk}
@@ -19,7 +19,6 @@ use Rattle.log.proofs.Codec.{dec-length}
 use Rattle.log.proofs.Check.{good-over, is-log, good-in-order, row-far, row-flag, row-fine, row-key-by, order-all}
 use Rattle.layout.specs.Layout.{log-codec, log-words}
 use Rattle.sound.specs.Chunks.{key-before, row-passes, log-good}
-use Rattle.lists.proofs.Tests.{no-first, no-second, every-by, every-at}
 
 -- ---- what one turn tells of the row at position j
 module _ (good : ℕ → Bool) (L n : ℕ) (ws : List ℕ) (j p : ℕ) (e : p ≡ position-at L ws j) where

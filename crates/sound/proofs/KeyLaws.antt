@@ -8,7 +8,7 @@ use lib.Dec.{ltb, leb}
 use lib.ListN.{length, getD, replicate}
 use borrow.Author.Tests.{lt-ltb, le-ltb}
 use Rattle.lists.specs.Tests.{_and_, _or_}
-use Rattle.lists.proofs.Tests.{by, by-eq}
+use Rattle.lists.proofs.Tests.{by, by-eq, no-first, yes-first}
 use Rattle.rules.specs.declared.settings.Settings.{Settings}
 use Rattle.rules.specs.Numbers.{sequences, home-of, sequence-of}
 use Rattle.rules.specs.Sound.{sound-key}
@@ -20,7 +20,6 @@ use Rattle.layout.proofs.Places.{of-same}
 use Rattle.sound.specs.Rows.{key-below}
 use Rattle.sound.specs.Places.{id-at}
 use Rattle.sound.specs.Limits.{was-given, next-in, Given, Filled}
-use Rattle.lists.proofs.Tests.{no-first, yes-first}
 use Rattle.lists.proofs.Runs.{run-at}
 
 -- key 0 stands nowhere: no brick has id 0

@@ -10,14 +10,13 @@ use lib.ListN.{length, getD, set, length-set}
 use lib.Seq.{getD-set-same, getD-set-other}
 use borrow.Author.Tests.{lt-ltb, le-ltb, le-leb, lt-leb, leb-true, ltb-true, ne-eqb, eq-eqb}
 use Rattle.lists.specs.Tests.{_and_}
-use Rattle.lists.proofs.Tests.{by, by-eq, by-lt, and-l, and-r, both}
+use Rattle.lists.proofs.Tests.{by, by-eq, by-lt, and-l, and-r, both, no-first, no-second}
 use Rattle.rules.specs.declared.settings.Settings.{Settings}
 use Rattle.rules.specs.Numbers.{sequences}
 use Rattle.layout.specs.Places.{of}
 use Rattle.layout.proofs.Places.{of-zero}
 use Rattle.sound.specs.Places.{id-at}
 use Rattle.sound.specs.Limits.{was-given, with-limit, next-in, Given, Filled}
-use Rattle.lists.proofs.Tests.{no-first, no-second}
 
 -- ---- an id given
 pub given-yes : (given i : ℕ) → 0 < i → i ≤ given → was-given given i ≡ true

@@ -7,12 +7,11 @@ use native.Mathlib.Omega.{arith}
 use lib.Dec.{leb}
 use borrow.Author.Tests.{eq-eqb, ne-eqb, lt-leb, le-leb}
 use Rattle.lists.specs.Tests.{_and_, all-below}
-use Rattle.lists.proofs.Tests.{both, or-l}
+use Rattle.lists.proofs.Tests.{both, or-l, no-first, no-second, yes-first, or-no}
 use Rattle.lists.proofs.Runs.{fits-in}
 use Rattle.rules.specs.declared.settings.Settings.{Settings}
 use Rattle.layout.specs.Layout.{places-at, place-words, place-at, place-part, store-words}
 use Rattle.sound.specs.Places.{brick-good, id-at, alone-at, place-at-good}
-use Rattle.lists.proofs.Tests.{no-first, no-second, yes-first, or-no}
 
 module _ (c : Settings) (p r size : ℕ) (es : size ≡ place-words c) (er : r ≡ p * size) where
   pub place-start : places-at c + r ≡ place-at c p

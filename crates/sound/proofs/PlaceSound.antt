@@ -9,7 +9,7 @@ use lib.ListN.{length, getD}
 use borrow.Author.Tests.{eq-eqb, ne-eqb}
 use Rattle.lists.specs.Tests.{_and_, all-below}
 use Rattle.lists.specs.Runs.{Below}
-use Rattle.lists.proofs.Tests.{by-eq, by-lt, and-l, and-r, both, or-l, or-r, or-second, all-at, is-no}
+use Rattle.lists.proofs.Tests.{by-eq, by-lt, and-l, and-r, both, or-l, or-r, or-second, all-at, is-no, all-same}
 use Rattle.rules.specs.declared.settings.Settings.{Settings}
 use Rattle.rules.specs.State.{State}
 use Rattle.rules.specs.Sound.{sound-key, alone, sound-place}
@@ -21,7 +21,6 @@ use Rattle.layout.specs.Store.{decode}
 use Rattle.layout.proofs.Clean.{PlaceClean}
 use Rattle.layout.proofs.Parts.{given-read, id-read}
 use Rattle.sound.specs.Places.{brick-good, id-at, alone-at, place-at-good}
-use Rattle.lists.proofs.Tests.{all-same}
 use Rattle.sound.proofs.KeyLaws.{id-here}
 use Rattle.sound.proofs.BrickSound.{brick-there, brick-back}
 

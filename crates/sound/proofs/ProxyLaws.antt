@@ -10,8 +10,8 @@ use lib.Seq.{getD-take}
 use Rattle.lists.specs.Tests.{_and_}
 use Rattle.lists.specs.Runs.{run}
 use Rattle.lists.specs.Rows.{rows, table-dec}
-use Rattle.lists.proofs.Runs.{run-all}
-use Rattle.lists.proofs.Tests.{by-eq, both, or-l}
+use Rattle.lists.proofs.Runs.{run-all, run-at}
+use Rattle.lists.proofs.Tests.{by-eq, both, or-l, no-second, yes-second, or-no}
 use Rattle.rules.specs.declared.settings.Settings.{Settings}
 use Rattle.rules.specs.Limits.{max-number, max-items, max-waiting}
 use Rattle.layout.specs.Layout.{proxy-codec, items-codec, proxy-words, items-at, buffer-codec, buffer-at}
@@ -19,8 +19,6 @@ use Rattle.sound.specs.declared.rows.Whose.the-variants.{Proxy, Anyone}
 use Rattle.sound.specs.Rows.{entries-in, rows-good, table-good}
 use Rattle.sound.specs.Proxies.{proxy-good}
 use Rattle.sound.specs.Places.{buffer-good}
-use Rattle.lists.proofs.Tests.{no-second, yes-second, or-no}
-use Rattle.lists.proofs.Runs.{run-at}
 
 module _ (c : Settings) (good : ℕ → Bool) where
   pub proxy-is : (p : ℕ) (ws v : List ℕ) → length ws ≡ proxy-words → v ≡ run items-at (items-codec .size) ws

@@ -7,7 +7,7 @@ use lib.Dec.{leb}
 use lib.ListN.{length, getD}
 use Rattle.lists.specs.Tests.{all-below}
 use Rattle.lists.specs.Runs.{Below}
-use Rattle.lists.proofs.Tests.{and-l, and-r, both, same-test, all-at, all-true}
+use Rattle.lists.proofs.Tests.{and-l, and-r, both, same-test, all-at, all-true, all-same}
 use Rattle.rules.specs.declared.settings.Settings.{Settings}
 use Rattle.rules.specs.Limits.{in-limits, buckets, proxies}
 use Rattle.rules.specs.State.{State}
@@ -25,7 +25,6 @@ use Rattle.sound.specs.Agreed.{agreed-at-good}
 use Rattle.sound.specs.Proxies.{proxy-at-good}
 use Rattle.sound.specs.Places.{place-at-good}
 use Rattle.sound.specs.Store.{contents-good, parts-good}
-use Rattle.lists.proofs.Tests.{all-same}
 use Rattle.sound.proofs.PartSound.{header-is, bucket-there, bucket-back, proxy-is-sound, bag-is}
 use Rattle.sound.proofs.PlaceSound.{places-apart, place-there, place-back}
 

@@ -7,8 +7,7 @@ use Prim.Native.Nat.{ℕ, zero, suc, _+_, _-_, _/_, _%_, _≤_, _<_}
 use native.Mathlib.Nat.{le-refl, le-of-lt, not-suc-le-zero}
 use native.Mathlib.Omega.{arith}
 use lib.ListN.{length, take, length-append, List·getD-append}
-use lib.Seq.{take-all, getD-append-seam}
-use lib.Seq.{take-suc}
+use lib.Seq.{take-all, getD-append-seam, take-suc}
 use borrow.Author.Tests.{eqb-true, eqb-false}
 use Rattle.lists.specs.Runs.{Sized, none}
 use Rattle.lists.proofs.Tests.{by, by-eq, by-lt}

@@ -5,19 +5,16 @@ use mathlib.Core.List.{List, append-assoc, map}
 use Prim.Native.Nat.{ℕ, suc, _+_, _*_, _-_, _/_, _%_, _≤_, _<_}
 use native.Mathlib.Nat.{le-refl}
 use lib.ListN.{length, take, drop, getD, set, take-append-drop}
-use lib.Seq.{paste}
-use lib.Seq.{drop-drop}
+use lib.Seq.{paste, drop-drop}
 use borrow.Author.Tests.{eq-eqb, ne-eqb}
-use Rattle.log.specs.Log.{Stored, stored-at, saved-of, cells-in, write-log, read-log}
-use Rattle.log.specs.Log.{row-key, row-saved, position-at, LogWith, Fits}
+use Rattle.log.specs.Log.{Stored, stored-at, saved-of, cells-in, write-log, read-log, row-key, row-saved, position-at, LogWith, Fits}
 use Rattle.log.specs.Steps.{tag}
 use Rattle.log.proofs.Positions as order
 use Rattle.log.proofs.Chunks.{length-read, read-saved, read-cell, sized-read, fits-read, write-saved}
 use Rattle.log.proofs.Changes.{tag-length, tag-fits}
 use Rattle.log.proofs.Steps.{sizes, count-is, tagged, tag-start}
 use Rattle.sweep.specs.Sweep.{RenumberStep, PackStep, stays, plain, kept, kept-first, rank, tag-of, next-by, pick-first, put-positions, numbered}
-use Rattle.sweep.specs.Sweep.{packing, moved, packed}
-use Rattle.sweep.specs.Sweep.{triple-of}
+use Rattle.sweep.specs.Sweep.{packing, moved, packed, triple-of}
 use Rattle.sweep.proofs.Tags.{tag-past}
 use Rattle.sweep.proofs.Kept.{kept-first-few}
 use Rattle.sweep.proofs.Passes.{pick-first-next, pick-first-few, put-pos, put-sav, numbered-turn, put-none, pack-saved, pack-next, packed-turn}

@@ -8,8 +8,7 @@ use native.Mathlib.Nat.{le-refl, le-of-lt}
 use native.Mathlib.Omega.{arith}
 use lib.Dec.{eqb}
 use lib.ListN.{length, take, getD, set}
-use lib.Seq.{take-all}
-use lib.Seq.{take-suc}
+use lib.Seq.{take-all, take-suc}
 use Rattle.lists.specs.Runs.{enc-all}
 use Rattle.lists.proofs.Tests.{by}
 use Rattle.log.specs.Log.{Stored, row-of, cell-of, stored-at, key-at, saved-of, positions-of, rows-in, positions-in, cells-in, lay, over, write-log, read-log}

@@ -7,7 +7,8 @@ ghost use lib.ListN.{length, getD, drop};
 ghost use lib.Seq.{paste};
 ghost use Rattle.words.specs.Words.{words};
 ghost use Rattle.rules.specs.Chunks.{only-saved};
-ghost use Rattle.log.specs.Log.{change-log, log-words, position-at, row-saved, LogWith, IsLog, read-log};
+ghost use Rattle.codec.specs.Codec.{change};
+ghost use Rattle.log.specs.Log.{chunks-codec, log-words, position-at, LogWith, IsLog};
 ghost use Rattle.sweep.specs.Sweep.{ranked, pick-first, put-positions, moved, RenumberStep, PackStep, PackAll};
 ghost use Rattle.sweep.specs.Marks.{marked, swept};
 
@@ -148,7 +149,7 @@ fn mark_saved(log: &mut [u8], chunks: usize, width: usize)
 // A crash: the chunks that are not saved go.
 pub fn keep_saved(log: &mut [u8], chunks: usize, width: usize)
     requires { ⌜ IsLog chunks width (words (now log)) (length (now log)) ⌝ }
-    ensures { λ _. ⌜ words (now (log .exit)) ≡ change-log chunks width only-saved (words (now (log .entry))) ⌝ }
+    ensures { λ _. ⌜ words (now (log .exit)) ≡ change (chunks-codec chunks width) only-saved (words (now (log .entry))) ⌝ }
 {
     mark_saved(log, chunks, width);
     keep_marked(log, chunks, width);

@@ -4,9 +4,10 @@ use mathlib.Core.Bool.{Bool}
 use mathlib.Core.List.{List, [], _∷_, _++_}
 use Prim.Native.Nat.{ℕ, suc, _+_, _*_, _≤_, _<_}
 use lib.Dec.{eqb}
-use lib.ListN.{length, getD, take, drop, set}
+use lib.ListN.{getD, take, drop, set}
 use Rattle.lists.specs.Tests.{_and_, all-below, only}
 use Rattle.lists.specs.Runs.{run, on-run}
+use Rattle.lists.specs.Ascending.{Place}
 use Rattle.lists.specs.Rows.{over-rows, table-words, table-dec, table-enc, row}
 
 -- a table's words with its rows changed
@@ -70,16 +71,14 @@ pub record Sorted (width most : ℕ) (ws : List ℕ) (len : ℕ) : Type 0 where
   pub rising : (i j : ℕ) → i < j → j < getD ws 0 0 → first-at width ws i < first-at width ws j
 
 -- r is the first place whose row does not begin below x
-pub record Place (width : ℕ) (ws : List ℕ) (x r : ℕ) : Type 0 where
-  pub within : r ≤ getD ws 0 0
-  pub before : (j : ℕ) → j < r → first-at width ws j < x
-  pub after : (j : ℕ) → r ≤ j → j < getD ws 0 0 → x ≤ first-at width ws j
+abbrev pub RowPlace : ℕ → List ℕ → ℕ → ℕ → Type 0
+RowPlace width ws x r = Place (first-at width ws) (getD ws 0 0) x r
 
 pub record HereAt (width : ℕ) (ws : List ℕ) (x p : ℕ) : Type 0 where
   pub in-use : p < getD ws 0 0
   pub same : first-at width ws p ≡ x
-  pub place : Place width ws x p
+  pub place : RowPlace width ws x p
 
 pub record GapAt (width : ℕ) (ws : List ℕ) (x p : ℕ) : Type 0 where
-  pub place : Place width ws x p
+  pub place : RowPlace width ws x p
   pub other : p < getD ws 0 0 → first-at width ws p ≡ x → ⊥

@@ -7,7 +7,7 @@ ghost use Rattle.lists.specs.Tests.{all-below};
 ghost use Rattle.words.specs.Words.{words};
 ghost use Rattle.lists.specs.Rows.{table-dec, row};
 ghost use Rattle.tables.specs.Tables.{change-table, cell-at, set-cell, insert-at, remove-at, copied, same-at, same-rows};
-ghost use Rattle.tables.specs.Tables.{TwoTables, IsTable, Sorted, Place};
+ghost use Rattle.tables.specs.Tables.{TwoTables, IsTable, Sorted, RowPlace};
 ghost use Rattle.tables.specs.Spots.{SpotOf};
 
 // ---- look-up
@@ -24,7 +24,7 @@ pub fn cell(t: &[u8], width: usize, most: usize, i: usize, j: usize) -> u64
 // The first place whose row does not begin below x.
 fn place(t: &[u8], width: usize, most: usize, x: u64) -> usize
     requires { ⌜ Sorted width most (words (now t)) (length (now t)) ⌝ }
-    ensures { λ r. ⌜ Place width (words (now (t .entry))) x r ⌝ }
+    ensures { λ r. ⌜ RowPlace width (words (now (t .entry))) x r ⌝ }
 {
     let mut lo = 0;
     let mut hi = words::read(t, 0) as usize;

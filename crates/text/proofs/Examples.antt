@@ -8,10 +8,9 @@ use Prim.Native.String.{String}
 use Rattle.lists.specs.Tests.{_and_}
 use Rattle.decimal.specs.Decimal.{digits, decimal, push, and-then, spelled, number-of}
 use Rattle.hex.specs.Hex.{hex-digit, hex, is-digit, digit-value, only-digits, unhex, spells-bytes, bytes-of}
-use Rattle.rules.specs.Event.{ascii, kinds, kind-at}
+use Rattle.rules.specs.Event.{ascii, kinds, kind-at, Parts}
 use Rattle.text.specs.Words.{same-bytes, kind-from, kind-of-word}
 use Rattle.text.specs.Fields.{parted, before, fields}
-use Rattle.rules.specs.Event.{Parts}
 use Rattle.text.specs.Lines.{parts, field-texts, line-of, take-numbers, take-bytes, parts-of-kind, parts-of-fields, is-line, without-feed, read-parts}
 use Rattle.text.specs.Lines.{settings-at, settings-of-fields, read-settings}
 

@@ -17,10 +17,9 @@ use Rattle.decimal.proofs.Laws.{then-some}
 use Rattle.decimal.proofs.RoundTrip.{number-there, number-back, number-fits, decimal-above}
 use Rattle.hex.specs.Hex.{hex}
 use Rattle.hex.proofs.Laws.{bytes-there, bytes-back, hex-all-above}
-use Rattle.rules.specs.Event.{kind-count, kind-at}
+use Rattle.rules.specs.Event.{kind-count, kind-at, Parts}
 use Rattle.text.specs.Words.{kind-of-word}
 use Rattle.text.specs.Fields.{parted, fields}
-use Rattle.rules.specs.Event.{Parts}
 use Rattle.text.specs.Lines.{parts, longest, line-feed, field-texts, line-of, Taken, taken, take-numbers, take-bytes, parts-of-kind, parts-of-fields}
 use Rattle.text.specs.Lines.{is-line, without-feed, read-parts, only-below, is-event, is-well-formed}
 use Rattle.text.proofs.Laws.{form-ok, KindIs, kind-some}

@@ -1,13 +1,12 @@
 -- No line of an event is too long where blocks are within their limit: so every event whose fields are below 2^64 and whose data has S bytes has a line.
-use mathlib.Core.Path.{_≡_, refl, sym, ap, _∙_}
+use mathlib.Core.Path.{_≡_, ap}
 use mathlib.Core.Bool.{Bool, true, false, cond}
 use mathlib.Core.List.{List, [], _∷_, _++_, map}
-use mathlib.Core.Option.{Option, some}
-use Prim.Native.Nat.{ℕ, suc, _+_, _*_, _^_, _≤_, _<_}
+use mathlib.Core.Option.{some}
+use Prim.Native.Nat.{ℕ, _+_, _*_, _≤_}
 use native.Mathlib.Omega.{arith}
 use lib.ListN.{length, length-append}
 use borrow.Author.Tests.{eqb-true, leb-true, le-leb}
-use lib.Dec.{leb, eqb}
 use Rattle.lists.specs.Tests.{_and_}
 use Rattle.lists.proofs.Tests.{and-l, and-r, both}
 use Rattle.rules.specs.Limits.{max-size}

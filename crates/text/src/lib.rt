@@ -1,6 +1,5 @@
 // The kinds of event and their words: looked up, and written from one table.
 ghost use mathlib.Core.Path.{_≡_};
-ghost use mathlib.Core.Option.{Option};
 ghost use Prim.Native.Nat.{_+_, _≤_, _<_};
 ghost use lib.ListN.{length, take};
 ghost use Rattle.area.specs.Area.{onto};

@@ -5,11 +5,11 @@ use lib.ListN.{length, getD}
 use Rattle.lists.specs.Runs.{on-run}
 use Rattle.words.specs.Words.{words}
 use Rattle.words.proofs.Laws.{room}
-use Rattle.entries.specs.Words.{write-entries}
-use Rattle.rules.specs.Limits.{buckets}
 use Rattle.entries.specs.Words.{entries-words}
+use Rattle.rules.specs.Limits.{buckets}
 use Rattle.entries.proofs.Drained.{drained, drain-start, still-sorted, drain-turn, drain-end}
 use native.Mathlib.Numerals.{add-one}
+use Rattle.layout.specs.Layout.{entries-codec}
 use borrow.Author.Needs.{needs}
 use Rattle.entries.proofs.drain.Statement.{statement}
 use Rattle.entries.proofs.drain.Tie as tie
@@ -17,7 +17,7 @@ use Rattle.entries.proofs.drain.Tie as tie
 abbrev Inv-loop : tie.InvT-loop
 Inv-loop s₀ buffer waiting copy most settings g n i₀ s i =
     (i ≤ n) × (n ≡ getD (words s₀) buffer 0) × (length s ≡ length s₀)
-    × (words s ≡ on-run copy (entries-words most) (write-entries (drained (buckets settings) g buffer waiting copy most (words s₀) i)) (words s₀))
+    × (words s ≡ on-run copy (entries-words most) (entries-codec most .enc (drained (buckets settings) g buffer waiting copy most (words s₀) i)) (words s₀))
 
 abbrev μ-loop : tie.MeasureT-loop
 μ-loop s₀ buffer waiting copy most settings g n i₀ s i = n - i
@@ -82,9 +82,9 @@ returns : tie.Need-returns Inv-loop μ-loop
 returns c =
     let s = c .before .before .before .before .before in
     let l = c .before .loop in
-    l .inv .3 ∙ rw (drain-end (buckets (s .args .settings)) (s .args .g) (s .args .buffer) (s .args .waiting) (s .args .copy) (s .args .most)
+    l .inv .3 ∙ drain-end (buckets (s .args .settings)) (s .args .g) (s .args .buffer) (s .args .waiting) (s .args .copy) (s .args .most)
     (words (s .args .s .now)) (length (s .args .s .now)) (s .pre) (room (s .args .s .now) (s .args .copy + (1 + s .args .most * 2)) (s .pre .room)) (l .i)
-    (omega arith))
+    (omega arith)
 
 pub drain-spec : {M : Type 1} → statement M
 drain-spec =

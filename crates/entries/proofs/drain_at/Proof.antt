@@ -3,10 +3,11 @@ use Prim.Native.Nat.{_+_, _*_, _-_}
 use native.Mathlib.Omega.{arith}
 use lib.ListN.{length, take, drop}
 use Rattle.rules.specs.Entries.{entry}
-use Rattle.entries.specs.Words.{entries, write-entries}
 use Rattle.lists.proofs.Runs.{run-length}
 use Rattle.words.proofs.Laws.{words-part, lent-run}
 use Rattle.entries.specs.Steps.{take-in, drained-at}
+use Rattle.codec.specs.Codec.{change}
+use Rattle.layout.specs.Layout.{entries-codec}
 use borrow.Author.Needs.{needs}
 use Rattle.entries.proofs.drain_at.Statement.{statement}
 use Rattle.entries.proofs.drain_at.Tie as tie
@@ -78,7 +79,7 @@ returns c =
       ← c .before .before .before .before .before .before .read2
           .ensures,
     ) (lent-run v (c .before .before .insert-or-drop .last .0) o k (s .args .copy) (1 + s .args .most * 2)
-    (λ c. write-entries (take-in (s .args .most) (entries c) x) c) refl (omega arith) (omega arith) (omega arith)
+    (change (entries-codec (s .args .most)) (λ l. take-in (s .args .most) l x)) refl (omega arith) (omega arith) (omega arith)
     (c .before .before .insert-or-drop .ensures))
 
 same-length-2 : tie.Need-same-length-2

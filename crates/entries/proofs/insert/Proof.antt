@@ -1,13 +1,11 @@
-use mathlib.Core.Path.{refl, sym, _∙_}
-use Prim.Native.Nat.{_-_, _<_}
+use mathlib.Core.Path.{refl, _∙_}
+use Prim.Native.Nat.{_-_}
 use native.Mathlib.Omega.{arith}
-use lib.ListN.{length, getD}
-use borrow.Author.Tests.{ltb-true}
+use lib.ListN.{length}
 use Rattle.words.specs.Words.{words}
 use Rattle.words.proofs.Laws.{length-words}
 use Rattle.tables.specs.Tables.{HereAt, GapAt}
-use Rattle.entries.specs.Words.{entries}
-use Rattle.entries.proofs.Words.{entries-length, has-gap, put-here, put-gap, takes-room}
+use Rattle.entries.proofs.Words.{gap-room, put-here, put-gap}
 use borrow.Author.Needs.{needs}
 use Rattle.entries.proofs.insert.Statement.{statement}
 use Rattle.entries.proofs.insert.Tie as tie
@@ -38,11 +36,8 @@ insert-row-requires c κs =
     let s = after-find .before .before .before in
     let g : GapAt 2 (words (s .args .t .now)) (s .args .b) (after-p2 .p2 .given .0 .0) = rw (after-p2 .p2 .given .1) at
     (after-find .find .ensures) in
-    let n = has-gap (s .args .most) (words (s .args .t .now)) (length (s .args .t .now)) (length-words (s .args .t .now) ∙ omega arith) (s .pre .0)
-    (s .args .b) (after-p2 .p2 .given .0 .0) g in
-    let r : getD (words (s .args .t .now)) 0 0 < s .args .most =
-    rw (← entries-length (s .args .most) (words (s .args .t .now)) (length-words (s .args .t .now) ∙ omega arith) (s .pre .0 .few))
-    (ltb-true _ _ (sym (takes-room (s .args .most) (entries (words (s .args .t .now))) (s .args .b) n) ∙ s .pre .1)) in
+    let r = gap-room (s .args .most) (words (s .args .t .now)) (length (s .args .t .now)) (length-words (s .args .t .now) ∙ omega arith) (s .pre .0)
+    (s .args .b) (after-p2 .p2 .given .0 .0) g (s .pre .1) in
     (record { few = s .pre .0 .few; size = s .pre .0 .size }, (g .place .within, r, refl))
 
 same-length : tie.Need-same-length
@@ -67,7 +62,7 @@ returns-2 c =
     let s = after-find .before .before .before in
     let g : GapAt 2 (words (s .args .t .now)) (s .args .b) (after-p2 .p2 .given .0 .0) = rw (after-p2 .p2 .given .1) at (after-find .find .ensures) in
     c .before .before .insert-row .ensures ∙ put-gap (s .args .most) (words (s .args .t .now)) (length (s .args .t .now))
-    (length-words (s .args .t .now) ∙ omega arith) (s .pre .0) (s .args .b) (after-p2 .p2 .given .0 .0) g (s .args .k)
+    (length-words (s .args .t .now) ∙ omega arith) (s .pre .0) (s .args .b) (after-p2 .p2 .given .0 .0) g (s .args .k) (s .pre .1)
 
 pub insert-spec : {M : Type 1} → statement M
 insert-spec =

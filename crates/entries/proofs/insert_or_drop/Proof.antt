@@ -34,7 +34,7 @@ returns-2 : tie.Need-returns-2
 returns-2 c =
     let s = c .before .before .before .before in
     rw (sym (c .before .takes .ensures) ∙ c .if1 .left)
-    (sym (entries-clean (s .args .most) (words (s .args .t .now)) (length-words (s .args .t .now) ∙ omega arith) (s .pre .few)))
+    (sym (entries-clean (s .args .most) (words (s .args .t .now)) (length-words (s .args .t .now) ∙ omega arith)))
 
 pub insert-or-drop-spec : {M : Type 1} → statement M
 insert-or-drop-spec =

@@ -4,8 +4,7 @@ use native.Mathlib.Omega.{arith}
 use Rattle.words.specs.Words.{words}
 use Rattle.words.proofs.Laws.{length-words}
 use Rattle.rules.specs.Entries.{has}
-use Rattle.entries.specs.Words.{entries}
-use Rattle.entries.proofs.Words.{entries-length, takes-room, takes-has}
+use Rattle.entries.proofs.Words.{entries, entries-length, takes-room, takes-has}
 use borrow.Author.Needs.{needs}
 use Rattle.entries.proofs.takes.Statement.{statement}
 use Rattle.entries.proofs.takes.Tie as tie

@@ -6,9 +6,9 @@ use lib.ListN.{getD}
 use borrow.Author.Count.{below-more, below-none}
 use Rattle.words.specs.Words.{words}
 use Rattle.words.proofs.Laws.{length-words}
-use Rattle.entries.specs.Words.{entries, entry-at}
+use Rattle.entries.specs.Words.{entry-at}
 use Rattle.entries.proofs.Sorted.{has-at, has-none}
-use Rattle.entries.proofs.Words.{entries-length, block-at}
+use Rattle.entries.proofs.Words.{entries, entries-length, block-at}
 use borrow.Author.Needs.{needs}
 use Rattle.entries.proofs.waits.Statement.{statement}
 use Rattle.entries.proofs.waits.Tie as tie

@@ -5,7 +5,7 @@ use mathlib.Core.Bool.{true, false}
 use mathlib.Core.Logic.{_⊎_, inl, inr}
 use Prim.Native.Nat.{ℕ, _+_, _≤_, _<_}
 use native.Mathlib.Omega.{arith}
-use Rattle.lists.specs.Tests.{_and_, _or_}
+use Rattle.lists.specs.Tests.{_or_}
 use Rattle.lists.specs.Columns.{upd}
 use Rattle.lists.proofs.Tests.{by-eq, either, clash, only-in, one-more}
 use Rattle.lists.proofs.Columns.{upd-same, upd-other, upd-all}
@@ -15,8 +15,7 @@ use Rattle.rules.specs.Entries.{Entry, entry, look, insert, remove}
 use Rattle.rules.specs.Event.{Event}
 use Rattle.rules.specs.State.{State, Bucket, with-copies}
 use Rattle.rules.specs.Parts.{bucket-no, bucket-at, item}
-use Rattle.rules.specs.Maps.{map-effect, saved-bucket, savemap-effect}
-use Rattle.rules.specs.Maps.{item-goes, learn-effect, reset-effect}
+use Rattle.rules.specs.Maps.{map-effect, saved-bucket, savemap-effect, item-goes, learn-effect, reset-effect}
 use Rattle.rules.specs.Step.{rule}
 use Rattle.rules.proofs.Step.{Yes}
 use Rattle.rules.proofs.Parts.{bucket-below}

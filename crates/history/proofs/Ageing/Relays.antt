@@ -12,7 +12,7 @@ use Rattle.lists.proofs.Tests.{by-eq, either, clash, and-l, and-r, if-so, one-m
 use Rattle.lists.proofs.Columns.{upd-same, upd-other, upd-all}
 use Rattle.rules.specs.Limits.{buckets}
 use Rattle.rules.specs.Numbers.{bucket-of}
-use Rattle.rules.specs.Entries.{Entry, entry, look, insert}
+use Rattle.rules.specs.Entries.{Entry, look, insert}
 use Rattle.rules.specs.Event.{Event}
 use Rattle.rules.specs.State.{State, Bucket, Relay, blank-relay, set-bag, with-order, with-taken}
 use Rattle.rules.specs.Parts.{bucket-no, bucket-at, primary-memory}

@@ -1,6 +1,5 @@
 -- mend and collect keep the invariant of the ageing rule.
 use Prim.Native.Nat.{ℕ}
-use Rattle.lists.specs.Tests.{_and_}
 use Rattle.lists.proofs.Tests.{only-in, one-more}
 use Rattle.rules.specs.Chunks.{save-key, only-named}
 use Rattle.rules.specs.Event.{Event}

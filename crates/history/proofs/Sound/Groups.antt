@@ -1,17 +1,16 @@
 -- The facts of a sound store in groups that events change as one, and how each is kept where one brick, one bucket, one proxy or the bag changes.
-use mathlib.Core.Path.{_≡_, refl, ap, fun-ext, _∙_}
+use mathlib.Core.Path.{_≡_, refl, ap, _∙_}
 use mathlib.Core.List.{List, [], List·Memᴰ}
 use mathlib.Core.Bool.{Bool, true, false}
 use Prim.Native.Nat.{ℕ, _≤_, _<_}
 use native.Mathlib.Omega.{arith}
 use lib.ListN.{length}
-use lib.Dec.{eqb}
 use Rattle.lists.specs.Columns.{upd}
-use Rattle.lists.proofs.Tests.{by, by-eq, clash, and-l}
-use Rattle.lists.proofs.Columns.{upd-other, upd-all, upd-up, upd-both, upd-blank}
+use Rattle.lists.proofs.Tests.{and-l}
+use Rattle.lists.proofs.Columns.{upd-other, upd-all, upd-up}
 use Rattle.rules.specs.declared.settings.Settings.{Settings}
 use Rattle.rules.specs.Limits.{in-limits, proxies, buckets, max-relays, max-items, max-number}
-use Rattle.rules.specs.Numbers.{proxy-of, bucket-of, home-of}
+use Rattle.rules.specs.Numbers.{proxy-of, bucket-of}
 use Rattle.rules.specs.Entries.{Entry}
 use Rattle.rules.specs.Chunks.{Chunk}
 use Rattle.rules.specs.State.{Bucket, Relay, State, blank-bucket, set-parts, set-lists, set-bricks, with-log, with-copies}

@@ -12,7 +12,7 @@ use Rattle.lists.proofs.Tests.{by, by-eq, by-lt, impossible, and-l, is-no, leng
 use Rattle.lists.proofs.Columns.{upd-same, upd-other, upd-all, unflag, still-flagged, upd-up, upd-both, upd-blank}
 use Rattle.rules.specs.declared.settings.Settings.{Settings}
 use Rattle.rules.specs.Limits.{max-id}
-use Rattle.rules.specs.Numbers.{sequences, home-of}
+use Rattle.rules.specs.Numbers.{sequences}
 use Rattle.rules.specs.Entries.{Entry}
 use Rattle.rules.specs.Chunks.{Chunk, only-saved}
 use Rattle.rules.specs.State.{State, Bucket, blank-bucket, with-copies}

@@ -2,11 +2,10 @@
 use mathlib.Core.Path.{_≡_}
 use mathlib.Core.Bool.{Bool, true}
 use mathlib.Core.Logic.{inl, inr}
-use Prim.Native.Nat.{ℕ, zero, suc, _<_}
-use native.Mathlib.Omega.{arith}
-use Rattle.lists.specs.Tests.{_and_, _or_, some-below}
+use Prim.Native.Nat.{ℕ, _<_}
+use Rattle.lists.specs.Tests.{_or_}
 use Rattle.lists.specs.Columns.{upd}
-use Rattle.lists.proofs.Tests.{by-eq, or-l, or-r, all-at, some-at}
+use Rattle.lists.proofs.Tests.{by-eq, or-l, all-at, some-at}
 use Rattle.lists.proofs.Columns.{upd-all}
 use Rattle.rules.specs.Limits.{buckets}
 use Rattle.rules.specs.Entries.{look}

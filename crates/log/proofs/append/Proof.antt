@@ -1,18 +1,13 @@
-use mathlib.Core.Path.{_≡_, refl}
-use mathlib.Core.Bool.{Bool, true, false, cond}
+use mathlib.Core.Path.{refl}
 use mir.Val.{boolByte}
 use Prim.Native.Nat.{_+_, _*_, _-_}
 use native.Mathlib.Omega.{arith}
 use Rattle.lists.proofs.Runs.{below-of}
 use Rattle.log.proofs.Steps.{append-leaves}
+use Rattle.lists.proofs.Tests.{flag-word}
 use borrow.Author.Needs.{needs}
 use Rattle.log.proofs.append.Statement.{statement}
 use Rattle.log.proofs.append.Tie as tie
-
--- a bool as a number
-flag-word : (b : Bool) → boolByte b ≡ cond b 1 0
-flag-word true = refl
-flag-word false = refl
 
 read-requires : tie.Need-read-requires
 read-requires c κs = search needs

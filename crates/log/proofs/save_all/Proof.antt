@@ -8,7 +8,6 @@ use mathlib.Core.Path.{_≡_, refl, _∙_}
 use Prim.Native.Nat.{_+_, _*_, _-_, _≤_}
 use native.Mathlib.Omega.{arith}
 use native.Mathlib.Numerals.{add-one}
-use lib.ListN.{length}
 use borrow.Author.Needs.{needs}
 use Rattle.log.proofs.save_all.Statement.{statement}
 use Rattle.log.proofs.save_all.Tie as tie

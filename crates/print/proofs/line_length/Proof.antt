@@ -1,7 +1,6 @@
 -- `print::line_length` meets its contract.
-use mathlib.Core.Bool.{false≢true}
+use mathlib.Core.Bool.{false≢true, true, false}
 use mathlib.Core.Path.{_≡_, sym, _∙_}
-use mathlib.Core.Bool.{true, false}
 use Prim.Native.Nat.{_≤_}
 use native.Mathlib.Omega.{arith}
 use Rattle.rules.specs.Event.{kind-count, kind-at}

@@ -4,7 +4,7 @@ use Prim.Native.Nat.{ℕ, _≤_}
 use lib.ListN.{getD}
 use borrow.Author.Tests.{not-true, not-false}
 use Rattle.lists.specs.Tests.{all-below}
-use Rattle.lists.proofs.Tests.{both}
+use Rattle.lists.proofs.Tests.{both, no-first, no-second, yes-first}
 use Rattle.words.specs.Words.{words}
 use Rattle.words.proofs.Laws.{length-words}
 use Rattle.rules.specs.Limits.{buckets, max-id}
@@ -14,7 +14,6 @@ use Rattle.layout.specs.Store.{decode}
 use Rattle.sound.specs.Rows.{ids}
 use Rattle.sound.specs.Agreed.{agreed-at-good}
 use Rattle.sound.specs.Store.{contents-good, parts-good}
-use Rattle.lists.proofs.Tests.{no-first, no-second, yes-first}
 use Rattle.sound.proofs.KeyLaws.{zeros, zero-limit, keys-below}
 use Rattle.sound.proofs.ByteLaws.{header-given}
 use native.Mathlib.Omega.{arith}

@@ -1,5 +1,3 @@
-use native.Mathlib.Omega.{arith}
-use mathlib.Core.Path.{_≡_}
 use borrow.Author.Tests.{lt-leb, le-leb}
 use Rattle.lists.specs.Tests.{_and_}
 use Rattle.rules.specs.Limits.{in-range}

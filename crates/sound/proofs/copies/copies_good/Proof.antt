@@ -2,7 +2,6 @@ use mathlib.Core.Path.{sym, _∙_}
 use Prim.Native.Nat.{_*_}
 use borrow.Author.Tests.{not-true, not-false}
 use Rattle.lists.proofs.Tests.{both, or-l, no-first, no-second, yes-first, or-no}
-use Rattle.entries.proofs.Words.{entries-read}
 use Rattle.sound.specs.Rows.{key-below}
 use Rattle.sound.proofs.RowLaws.{table-few}
 use Rattle.sound.proofs.CopyLaws.{copies-lent}
@@ -83,8 +82,7 @@ returns-4 c =
     let after-memory = c .before .before .before .before .before in
     let memory = sym (after-memory .before .table-good .ensures) ∙ not-false _ (after-memory .if1 .left) in
     let disk = sym (c .before .before .before .table-good2 .ensures) ∙ not-false _ (c .before .before .if2 .left) in
-    c .same .ensures ∙ rw (entries-read (s .args .settings .entries) _, entries-read (s .args .settings .entries) _)
-    (sym (e ∙ yes-first _ _ (both _ _ memory disk) ∙ or-no _ _ (c .before .if3 .left)))
+    c .same .ensures ∙ sym (e ∙ yes-first _ _ (both _ _ memory disk) ∙ or-no _ _ (c .before .if3 .left))
 
 pub copies-good-spec : {M : Type 1} → statement M
 copies-good-spec =

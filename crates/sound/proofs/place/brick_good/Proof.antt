@@ -6,7 +6,7 @@ use lib.Dec.{eqb}
 use borrow.Author.Tests.{not-true, not-false}
 use Rattle.lists.specs.Tests.{all-below}
 use Rattle.lists.specs.Runs.{run}
-use Rattle.lists.proofs.Tests.{both}
+use Rattle.lists.proofs.Tests.{both, no-first, no-second, yes-first}
 use Rattle.words.specs.Words.{words}
 use Rattle.rules.specs.Limits.{buckets}
 use Rattle.layout.specs.Layout.{all-copies-codec, all-copies-at, log-at, log-words}
@@ -15,7 +15,6 @@ use Rattle.sound.specs.Rows.{key-below}
 use Rattle.sound.specs.Copies.{copies-at-good}
 use Rattle.sound.specs.Chunks.{log-good}
 use Rattle.sound.specs.Places.{buffer-good, brick-good}
-use Rattle.lists.proofs.Tests.{no-first, no-second, yes-first}
 use Rattle.layout.proofs.Lent.{lent}
 use native.Mathlib.Omega.{arith}
 use borrow.Author.Needs.{needs}

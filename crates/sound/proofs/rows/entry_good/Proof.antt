@@ -1,8 +1,7 @@
 use mathlib.Core.Path.{sym, _∙_}
 use borrow.Author.Tests.{le-ltb, lt-ltb, not-true, not-false}
-use Rattle.lists.proofs.Tests.{both}
+use Rattle.lists.proofs.Tests.{both, no-first, no-second, yes-first}
 use Rattle.sound.specs.Rows.{entry-good}
-use Rattle.lists.proofs.Tests.{no-first, no-second, yes-first}
 use borrow.Author.Needs.{needs}
 use Rattle.sound.proofs.rows.entry_good.Statement.{statement}
 use Rattle.sound.proofs.rows.entry_good.Tie as tie

@@ -1,6 +1,6 @@
 use mathlib.Core.Path.{refl}
 use Rattle.rules.specs.Limits.{buckets}
-use Rattle.rules.specs.Numbers.{proxy-of, bucket-of}
+use Rattle.rules.specs.Numbers.{bucket-of}
 use Rattle.rules.proofs.numbers.BlockNumber.bucket.Statement.{statement}
 use Rattle.rules.proofs.numbers.BlockNumber.bucket.Tie as tie
 

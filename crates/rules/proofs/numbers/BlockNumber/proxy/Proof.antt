@@ -1,6 +1,5 @@
 use mathlib.Core.Path.{refl}
-use Rattle.rules.specs.Limits.{buckets}
-use Rattle.rules.specs.Numbers.{proxy-of, bucket-of}
+use Rattle.rules.specs.Numbers.{proxy-of}
 use Rattle.rules.proofs.numbers.BlockNumber.proxy.Statement.{statement}
 use Rattle.rules.proofs.numbers.BlockNumber.proxy.Tie as tie
 
