@@ -49,6 +49,8 @@ pub const ITEMS_AT: usize = 1;
 
 pub const PROXY_WORDS: usize = ITEMS_AT + (1 + constants::MAX_ITEMS * ENTRY_WORDS);
 
+pub const KNOWN_AT: usize = 0;
+
 pub const BAG_WORDS: usize = 1 + constants::MAX_RELAYS * RELAY_WORDS;
 
 // where the proxies, the bag and the places lie in the store

@@ -1,4 +1,5 @@
--- What the records of the code stand for.
+-- What the records of the code stand for, and one field of a part changed.
+use Prim.Native.Nat.{ℕ}
 use Rattle.parts.specs.declared.agreed.Agreed.{Agreed}
 use Rattle.parts.specs.declared.head.Head.{Head}
 use Rattle.parts.specs.declared.status.Status.{Status}
@@ -21,3 +22,7 @@ agreed-of a = record {
 
 abbrev pub status-of : Status → disk.Status
 status-of s = record { up = s .up; member = s .member; began = s .began; next = s .next; ceiling = s .ceiling }
+
+-- ---- all else stays
+abbrev pub with-known : ℕ → disk.Proxy → disk.Proxy
+with-known view p = record { known = view; items = p .items }

@@ -1,4 +1,5 @@
-// Parts of a store as records: each is read from its own slice and written to it whole.
+// Parts of a store, each in its own slice: records read and written whole, and one field of a part changed.
 pub mod agreed;
 pub mod head;
+pub mod proxy;
 pub mod status;

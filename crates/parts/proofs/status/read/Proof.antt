@@ -20,7 +20,13 @@ read-requires-5 : tie.Need-read-requires-5
 read-requires-5 c κs = search needs
 
 returns : tie.Need-returns
-returns c = rw (c .before .before .before .before .read .ensures, c .before .before .before .read2 .ensures, c .before .before .read3 .ensures, c .before .read4 .ensures, c .read5 .ensures) (status-read (words (c .before .before .before .before .before .before .args .part .now)))
+returns c =
+    let c4 = c .before in
+    let c3 = c4 .before in
+    let c2 = c3 .before in
+    let c1 = c2 .before in
+    rw (c1 .read .ensures, c2 .read2 .ensures, c3 .read3 .ensures, c4 .read4 .ensures, c .read5 .ensures)
+    (status-read (words (c1 .before .before .args .part .now)))
 
 pub read-spec : {M : Type 1} → statement M
 read-spec =

@@ -1,0 +1,24 @@
+// A proxy's part: the view that it knows, then its items.
+ghost use mathlib.Core.Path.{_≡_};
+ghost use Prim.Native.Nat.{_*_};
+ghost use lib.ListN.{length};
+ghost use Rattle.words.specs.Words.{words};
+ghost use Rattle.codec.specs.Codec.{change};
+ghost use Rattle.layout.specs.Layout.{proxy-codec, proxy-words};
+ghost use Rattle.parts.specs.Parts.{with-known};
+use layout::sizes;
+
+pub fn known(part: &[u8]) -> u64
+    requires { ⌜ length (now part) ≡ 8 * proxy-words ⌝ }
+    ensures { λ r. ⌜ r ≡ proxy-codec .dec (words (now (part .entry))) .known ⌝ }
+{
+    words::read(part, sizes::KNOWN_AT)
+}
+
+// The items stay.
+pub fn set_known(part: &mut [u8], view: u64)
+    requires { ⌜ length (now part) ≡ 8 * proxy-words ⌝ }
+    ensures { λ _. ⌜ words (now (part .exit)) ≡ change proxy-codec (with-known view) (words (now (part .entry))) ⌝ }
+{
+    words::write(part, sizes::KNOWN_AT, view);
+}
