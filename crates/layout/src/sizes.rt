@@ -77,6 +77,8 @@ pub const BUFFER_WORDS: usize = 1 + constants::MAX_WAITING * ENTRY_WORDS;
 
 pub const COPIES_AT: usize = BUFFER_AT + BUFFER_WORDS;
 
+pub const ID_AT: usize = 0;
+
 pub fn buckets(settings: Settings) -> usize
     ensures { λ r. ⌜ r ≡ buckets settings ⌝ }
 {

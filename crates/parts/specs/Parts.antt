@@ -1,5 +1,6 @@
 -- What the records of the code stand for, and one field of a part changed.
 use Prim.Native.Nat.{ℕ}
+use Rattle.codec.specs.Codec.{_&_}
 use Rattle.parts.specs.declared.agreed.Agreed.{Agreed}
 use Rattle.parts.specs.declared.head.Head.{Head}
 use Rattle.parts.specs.declared.status.Status.{Status}
@@ -26,3 +27,9 @@ status-of s = record { up = s .up; member = s .member; began = s .began; next = 
 -- ---- all else stays
 abbrev pub with-known : ℕ → disk.Proxy → disk.Proxy
 with-known view p = record { known = view; items = p .items }
+
+abbrev pub with-id : ℕ → disk.Place → disk.Place
+with-id id p = id & p .snd
+
+abbrev pub with-status : disk.Status → disk.Place → disk.Place
+with-status s p = p .fst & record { here = p .snd .here; status = s; buffer = p .snd .buffer; copies = p .snd .copies; log = p .snd .log }
