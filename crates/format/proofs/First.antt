@@ -1,11 +1,11 @@
 -- What straight-line writes leave: the parts of the first state.
 use mathlib.Core.Path.{_≡_, refl, sym, ap, _∙_}
-use mathlib.Core.List.{List, [], _∷_, append-nil}
+use mathlib.Core.List.{List, [], _∷_}
 use Prim.Native.Nat.{ℕ, _+_, _/_, _≤_, _<_}
 use native.Mathlib.Nat.{zero-add, add-zero}
 use native.Mathlib.Omega.{arith}
 use lib.ListN.{length, take, drop, set, length-set}
-use lib.Seq.{sets, sets-eq, drop-length, take-nil}
+use lib.Seq.{take-nil}
 use Rattle.lists.specs.Runs.{run, on-run, enc-all}
 use Rattle.lists.proofs.Runs.{run-length, on-right, on-length, on-by, on-set}
 use Rattle.rules.specs.declared.settings.Settings.{Settings}
@@ -27,32 +27,8 @@ use Rattle.layout.specs.Layout.{bag-codec, all-agreed-codec, all-proxies-codec,
 use Rattle.layout.specs.Layout.{proxies-at, bag-at, places-at}
 use Rattle.layout.specs.Store.{to-disk, render}
 use Rattle.layout.proofs.Codecs.{status-law, buffer-law, copy-law, all-copies-law, head-law, all-agreed-law, all-proxies-law, bag-law}
-use Rattle.format.specs.First.{first-head, first-agreed, agreed-in-turn, first-status, first-brick, first-place}
+use Rattle.format.specs.First.{first-head, agreed-in-turn, first-status, first-brick, first-place}
 use Rattle.format.proofs.Pairs.{format-agreed, format-place}
-
--- every word is written
-sets-all : (vs w : List ℕ) → length w ≡ length vs → sets w 0 vs ≡ vs
-sets-all vs w h =
-    sets-eq vs w 0 (omega (arith, h))
-    ∙ rw (zero-add (length vs), ← h, drop-length w) (append-nil vs)
-
-pub head-steps : (c : Settings) (w0 w1 w2 w3 w4 w5 w6 w7 : List ℕ) → length w0 ≡ 7 → w1 ≡ set w0 0 (c .places) → w2 ≡ set w1 1 (c .size)
-    → w3 ≡ set w2 2 (c .entries) → w4 ≡ set w3 3 (c .chunks) → w5 ≡ set w4 4 1 → w6 ≡ set w5 5 (c .places) → w7 ≡ set w6 6 (c .places)
-    → w7 ≡ head-codec .enc (first-head c) w0
-unfolding enc-two
-head-steps c w0 w1 w2 w3 w4 w5 w6 w7 h e1 e2 e3 e4 e5 e6 e7 =
-    e7 ∙ rw (e6, e5, e4, e3, e2, e1) (sets-all (c .places ∷ c .size ∷ c .entries ∷ c .chunks ∷ 1 ∷ c .places ∷ c .places ∷ []) w0 h)
-
-pub agreed-steps : (p b : ℕ) (w0 w1 w2 w3 w4 w5 w6 w7 w8 : List ℕ) → length w0 ≡ 8 → w1 ≡ set w0 0 p → w2 ≡ set w1 1 b → w3 ≡ set w2 2 p
-    → w4 ≡ set w3 3 b → w5 ≡ set w4 4 1 → w6 ≡ set w5 5 0 → w7 ≡ set w6 6 0 → w8 ≡ set w7 7 0 → w8 ≡ agreed-codec .enc (first-agreed p b) w0
-unfolding enc-two
-agreed-steps p b w0 w1 w2 w3 w4 w5 w6 w7 w8 h e1 e2 e3 e4 e5 e6 e7 e8 =
-    e8 ∙ rw (e7, e6, e5, e4, e3, e2, e1) (sets-all (p ∷ b ∷ p ∷ b ∷ 1 ∷ 0 ∷ 0 ∷ 0 ∷ []) w0 h)
-
-pub status-steps : (w0 w1 w2 w3 w4 w5 : List ℕ) → length w0 ≡ 5 → w1 ≡ set w0 0 1 → w2 ≡ set w1 1 1 → w3 ≡ set w2 2 1 → w4 ≡ set w3 3 0
-    → w5 ≡ set w4 4 0 → w5 ≡ status-codec .enc first-status w0
-unfolding enc-two
-status-steps w0 w1 w2 w3 w4 w5 h e1 e2 e3 e4 e5 = e5 ∙ rw (e4, e3, e2, e1) (sets-all (1 ∷ 1 ∷ 1 ∷ 0 ∷ 0 ∷ []) w0 h)
 
 -- ---- a count of 0 is all that an empty list writes
 zero-run : (f : List ℕ → List ℕ) (a n : ℕ) (w : List ℕ) → a + n ≤ length w → 0 < n → f (run a n w) ≡ set (run a n w) 0 0 → on-run a n f w ≡ set w a 0

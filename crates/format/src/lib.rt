@@ -8,41 +8,36 @@ ghost use Rattle.rules.specs.Format.{format};
 ghost use Rattle.rules.proofs.Limits.{Limits};
 ghost use Rattle.codec.specs.Codec.{_&_};
 ghost use Rattle.layout.specs.Disk.{blank-proxy, blank-copies};
-ghost use Rattle.layout.specs.Layout.{head-codec, agreed-codec, all-agreed-codec, proxy-codec, all-proxies-codec, status-codec, copies-codec, all-copies-codec};
-ghost use Rattle.layout.specs.Layout.{place-codec, all-places-codec, head-words, agreed-words, proxy-words, status-words, copies-words, place-words};
+ghost use Rattle.layout.specs.Layout.{all-agreed-codec, proxy-codec, all-proxies-codec, copies-codec, all-copies-codec, place-codec, all-places-codec};
+ghost use Rattle.layout.specs.Layout.{agreed-words, proxy-words, copies-words, place-words};
 ghost use Rattle.layout.specs.Store.{render, store-bytes};
-ghost use Rattle.format.specs.First.{first-head, first-agreed, agreed-in-turn, first-status, first-brick, first-place};
+ghost use Rattle.parts.specs.Parts.{agreed-of};
+ghost use Rattle.format.specs.First.{agreed-in-turn, first-brick, first-place};
 use layout::sizes;
+use parts::agreed::Agreed;
+use parts::head::Head;
+use parts::status::Status;
 use rules::constants;
 use rules::settings::Settings;
 
-// The header.
-fn head(s: &mut [u8], settings: Settings)
-    requires { ⌜ length (now s) ≡ 8 * head-words ⌝ }
-    ensures { λ _. ⌜ words (now (s .exit)) ≡ head-codec .enc (first-head settings) (words (now (s .entry))) ⌝ }
+// Bucket g's record: the bricks take the slots of the pairs in turn.
+fn agreed_in_turn(settings: Settings, g: usize) -> Agreed
+    requires { ⌜ Limits settings × (g < buckets settings) ⌝ }
+    ensures { λ r. ⌜ agreed-of r ≡ agreed-in-turn (settings .places) g ⌝ }
 {
-    words::write(s, 0, settings.places as u64);
-    words::write(s, 1, settings.size as u64);
-    words::write(s, 2, settings.entries as u64);
-    words::write(s, 3, settings.chunks as u64);
-    words::write(s, 4, 1);
-    words::write(s, 5, settings.places as u64);
-    words::write(s, 6, settings.places as u64);
-}
-
-// One bucket's record.
-fn bucket(s: &mut [u8], primary: u64, backup: u64)
-    requires { ⌜ length (now s) ≡ 8 * agreed-words ⌝ }
-    ensures { λ _. ⌜ words (now (s .exit)) ≡ agreed-codec .enc (first-agreed primary backup) (words (now (s .entry))) ⌝ }
-{
-    words::write(s, 0, primary);
-    words::write(s, 1, backup);
-    words::write(s, 2, primary);
-    words::write(s, 3, backup);
-    words::write(s, 4, 1);
-    words::write(s, 5, 0);
-    words::write(s, 6, 0);
-    words::write(s, 7, 0);
+    let places = settings.places;
+    let primary = (2 * g % places + 1) as u64;
+    let backup = ((2 * g + 1) % places + 1) as u64;
+    Agreed {
+        primary,
+        backup,
+        last_primary: primary,
+        last_backup: backup,
+        ready: true,
+        fetched: false,
+        order: 0,
+        taken: 0,
+    }
 }
 
 // All buckets' records.
@@ -51,17 +46,11 @@ fn bucket_records(s: &mut [u8], settings: Settings)
     ensures { λ _. ⌜ words (now (s .exit)) ≡ all-agreed-codec settings .enc (agreed-in-turn (settings .places)) (words (now (s .entry))) ⌝ }
 {
     let count = sizes::buckets(settings);
-    let places = settings.places;
     let mut g = 0;
     while g < count {
         let at = 8 * words::offset(g, sizes::AGREED_WORDS, count);
-        let primary = 2 * g % places + 1;
-        let backup = (2 * g + 1) % places + 1;
-        bucket(
-            &mut s[at..at + 8 * sizes::AGREED_WORDS],
-            primary as u64,
-            backup as u64,
-        );
+        let agreed = agreed_in_turn(settings, g);
+        parts::agreed::write(&mut s[at..at + 8 * sizes::AGREED_WORDS], agreed);
         g += 1;
     }
 }
@@ -71,8 +60,8 @@ fn proxy(s: &mut [u8])
     requires { ⌜ length (now s) ≡ 8 * proxy-words ⌝ }
     ensures { λ _. ⌜ words (now (s .exit)) ≡ proxy-codec .enc blank-proxy (words (now (s .entry))) ⌝ }
 {
-    words::write(s, 0, 0);
-    words::write(s, 1, 0);
+    words::write(s, sizes::KNOWN_AT, 0);
+    words::write(s, sizes::ITEMS_AT, 0);
 }
 
 // All proxies.
@@ -86,18 +75,6 @@ fn proxies(s: &mut [u8])
         proxy(&mut s[at..at + 8 * sizes::PROXY_WORDS]);
         p += 1;
     }
-}
-
-// A brick's status: up, a member that the view began with, sequence numbers from 0.
-fn status(s: &mut [u8])
-    requires { ⌜ length (now s) ≡ 8 * status-words ⌝ }
-    ensures { λ _. ⌜ words (now (s .exit)) ≡ status-codec .enc first-status (words (now (s .entry))) ⌝ }
-{
-    words::write(s, 0, 1);
-    words::write(s, 1, 1);
-    words::write(s, 2, 1);
-    words::write(s, 3, 0);
-    words::write(s, 4, 0);
 }
 
 // A bucket's two copies, empty.
@@ -130,8 +107,15 @@ fn place(s: &mut [u8], settings: Settings, id: u64)
     ensures { λ _. ⌜ words (now (s .exit)) ≡ place-codec settings .enc (id & first-brick) (words (now (s .entry))) ⌝ }
 {
     let log = sizes::log_at(settings);
-    words::write(s, 0, id);
-    status(&mut s[8..8 * sizes::BUFFER_AT]);
+    let status = Status {
+        up: true,
+        member: true,
+        began: true,
+        next: 0,
+        ceiling: 0,
+    };
+    words::write(s, sizes::ID_AT, id);
+    parts::status::write(&mut s[8 * sizes::UP_AT..8 * sizes::BUFFER_AT], status);
     words::write(s, sizes::BUFFER_AT, 0);
     all_copies(&mut s[8 * sizes::COPIES_AT..8 * log], settings);
     words::write(s, log, 0);
@@ -161,7 +145,13 @@ pub fn first_state(s: &mut [u8], settings: Settings)
     let bag_at = sizes::bag_at(settings);
     let places_at = sizes::places_at(settings);
     let end = s.len();
-    head(&mut s[0..8 * sizes::HEAD_WORDS], settings);
+    let head = Head {
+        settings,
+        view: 1,
+        given: settings.places as u64,
+        started: settings.places as u64,
+    };
+    parts::head::write(&mut s[0..8 * sizes::HEAD_WORDS], head);
     bucket_records(&mut s[8 * sizes::HEAD_WORDS..8 * proxies_at], settings);
     proxies(&mut s[8 * proxies_at..8 * bag_at]);
     words::write(s, bag_at, 0);

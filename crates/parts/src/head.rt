@@ -19,6 +19,7 @@ pub fn read(part: &[u8]) -> Head
     requires { ⌜ length (now part) ≡ 8 * head-words ⌝ }
     ensures { λ r. ⌜ head-of r ≡ head-codec .dec (words (now (part .entry))) ⌝ }
 {
+    // the settings stand first, in the order of their fields
     let settings = Settings {
         places: words::read(part, 0) as usize,
         size: words::read(part, 1) as usize,

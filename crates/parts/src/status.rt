@@ -5,6 +5,18 @@ ghost use lib.ListN.{length};
 ghost use Rattle.words.specs.Words.{words};
 ghost use Rattle.layout.specs.Layout.{status-codec, status-words};
 ghost use Rattle.parts.specs.Parts.{status-of};
+use layout::sizes;
+
+// offsets in the part, which begins with the first flag
+const UP_AT: usize = 0;
+
+const MEMBER_AT: usize = sizes::MEMBER_AT - sizes::UP_AT;
+
+const BEGAN_AT: usize = sizes::BEGAN_AT - sizes::UP_AT;
+
+const NEXT_AT: usize = sizes::NEXT_AT - sizes::UP_AT;
+
+const CEILING_AT: usize = sizes::CEILING_AT - sizes::UP_AT;
 
 pub struct Status {
     pub up: bool,
@@ -19,11 +31,11 @@ pub fn read(part: &[u8]) -> Status
     ensures { λ r. ⌜ status-of r ≡ status-codec .dec (words (now (part .entry))) ⌝ }
 {
     Status {
-        up: words::read(part, 0) == 1,
-        member: words::read(part, 1) == 1,
-        began: words::read(part, 2) == 1,
-        next: words::read(part, 3),
-        ceiling: words::read(part, 4),
+        up: words::read(part, UP_AT) == 1,
+        member: words::read(part, MEMBER_AT) == 1,
+        began: words::read(part, BEGAN_AT) == 1,
+        next: words::read(part, NEXT_AT),
+        ceiling: words::read(part, CEILING_AT),
     }
 }
 

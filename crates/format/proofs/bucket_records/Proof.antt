@@ -1,14 +1,14 @@
-use mathlib.Core.Path.{_≡_, _∙_}
+use mathlib.Core.Path.{_≡_, ap, _∙_}
 use Prim.Native.Nat.{ℕ, _+_, _*_, _-_, _≤_}
-use native.Mathlib.Nat.{mod-le}
 use native.Mathlib.Omega.{arith}
-use lib.ListN.{length}
+use lib.ListN.{length, take, drop}
 use borrow.Author.Needs.{needs}
 use Rattle.lists.proofs.Runs.{run-length}
 use Rattle.words.specs.Words.{words}
 use Rattle.words.proofs.Laws.{length-words}
 use Rattle.codec.proofs.Loops.{written, loop-start, loop-end}
 use Rattle.rules.specs.Limits.{buckets}
+use Rattle.layout.specs.Disk.{Agreed}
 use Rattle.layout.specs.Layout.{agreed-codec, agreed-words}
 use Rattle.layout.proofs.Codecs.{agreed-law}
 use Rattle.layout.proofs.Lent.{lent-turn}
@@ -17,10 +17,11 @@ use Rattle.format.proofs.bucket_records.Statement.{statement}
 use Rattle.format.proofs.bucket_records.Tie as tie
 
 abbrev Inv-loop : tie.InvT-loop
-Inv-loop s₀ count places g₀ s g = (g ≤ count) × (length s ≡ length s₀) × (words s ≡ written agreed-codec g (agreed-in-turn places) (words s₀))
+Inv-loop s₀ settings count g₀ s g =
+    (g ≤ count) × (length s ≡ length s₀) × (words s ≡ written agreed-codec g (agreed-in-turn (settings .places)) (words s₀))
 
 abbrev μ-loop : tie.MeasureT-loop
-μ-loop s₀ count places g₀ s g = count - g
+μ-loop s₀ settings count g₀ s g = count - g
 
 buckets-requires : tie.Need-buckets-requires Inv-loop μ-loop
 buckets-requires c κs = search needs
@@ -38,46 +39,28 @@ offset-requires c κs = search needs
 mul-at : tie.Need-mul-at Inv-loop μ-loop
 mul-at c = search needs
 
-mul-primary : tie.Need-mul-primary Inv-loop μ-loop
-mul-primary c = search needs
+agreed-in-turn-requires : tie.Need-agreed-in-turn-requires Inv-loop μ-loop
+agreed-in-turn-requires c κs = search needs
 
-rem-primary : tie.Need-rem-primary Inv-loop μ-loop
-rem-primary c = search needs
+mul-write : tie.Need-mul-write Inv-loop μ-loop
+mul-write c = search needs
 
-add-primary : tie.Need-add-primary Inv-loop μ-loop
-add-primary c = omega (arith, mod-le (2 * c .before .before .loop .g) (c .before .before .before .before .before .args .settings .places))
+add-write : tie.Need-add-write Inv-loop μ-loop
+add-write c = search needs
 
-mul-backup : tie.Need-mul-backup Inv-loop μ-loop
-mul-backup c = search needs
+sub-write : tie.Need-sub-write Inv-loop μ-loop
+sub-write c = search needs
 
-add-backup : tie.Need-add-backup Inv-loop μ-loop
-add-backup c = search needs
+part-write-start : tie.Need-part-write-start Inv-loop μ-loop
+part-write-start c = search needs
 
-rem-backup : tie.Need-rem-backup Inv-loop μ-loop
-rem-backup c = search needs
+part-write-end : tie.Need-part-write-end Inv-loop μ-loop
+part-write-end c = search needs
 
-add-backup-2 : tie.Need-add-backup-2 Inv-loop μ-loop
-add-backup-2 c = omega (arith, mod-le (2 * c .before .before .loop .g + 1) (c .before .before .before .before .before .args .settings .places))
-
-mul-bucket : tie.Need-mul-bucket Inv-loop μ-loop
-mul-bucket c = search needs
-
-add-bucket : tie.Need-add-bucket Inv-loop μ-loop
-add-bucket c = search needs
-
-sub-bucket : tie.Need-sub-bucket Inv-loop μ-loop
-sub-bucket c = search needs
-
-part-bucket-start : tie.Need-part-bucket-start Inv-loop μ-loop
-part-bucket-start c = search needs
-
-part-bucket-end : tie.Need-part-bucket-end Inv-loop μ-loop
-part-bucket-end c = search needs
-
-bucket-requires : tie.Need-bucket-requires Inv-loop μ-loop
-bucket-requires c κs =
-    let o = 8 * c .before .offset .result in
-    run-length o (o + 8 * agreed-words - o) (c .before .before .before .loop .s) (omega arith) ∙ omega arith
+write-requires : tie.Need-write-requires Inv-loop μ-loop
+write-requires c κs =
+    let o = 8 * c .before .before .offset .result in
+    run-length o (o + 8 * agreed-words - o) (c .before .before .before .before .loop .s) (omega arith) ∙ omega arith
 
 add-g : tie.Need-add-g Inv-loop μ-loop
 add-g c = search needs
@@ -87,14 +70,16 @@ loop-less c = search needs
 
 loop-again : tie.Need-loop-again Inv-loop μ-loop
 loop-again c =
-    let b = c .before .before .before .before .before .before .before .before .before in
+    let v = c .before .before in
+    let l = v .before .before .before .before .before .loop in
+    let b = v .before .before .before .before .before .before .before .before in
     let s0 = b .args .s .now in
-    let l = c .before .before .before .before .before .before .loop in
-    let o = 8 * c .before .before .before .before .offset .result in
+    let o = 8 * v .before .before .before .offset .result in
     let n : ℕ = o + 8 * agreed-words - o in
+    let put = v .write .ensures ∙ ap (λ (a : Agreed). agreed-codec .enc a (words (take n (drop o (l .s))))) (v .before .before .agreed-in-turn .ensures) in
     let turn = lent-turn agreed-codec agreed-law (buckets (b .args .settings)) (agreed-in-turn (b .args .settings .places)) (words s0)
-    (length-words s0 ∙ omega arith) (l .g) (omega arith) (l .s) (c .before .before .bucket .last .0) o n
-    (omega arith) (omega arith) (omega arith) (omega arith) (l .inv .2) (c .before .before .bucket .ensures) in
+    (length-words s0 ∙ omega arith) (l .g) (omega arith) (l .s) (v .write .last .0) o n
+    (omega arith) (omega arith) (omega arith) (omega arith) (l .inv .2) put in
     (search needs, search needs, turn)
 
 same-length : tie.Need-same-length Inv-loop μ-loop
@@ -118,19 +103,13 @@ bucket-records-spec =
     loop-holds
     offset-requires
     mul-at
-    mul-primary
-    rem-primary
-    add-primary
-    mul-backup
-    add-backup
-    rem-backup
-    add-backup-2
-    mul-bucket
-    add-bucket
-    sub-bucket
-    part-bucket-start
-    part-bucket-end
-    bucket-requires
+    agreed-in-turn-requires
+    mul-write
+    add-write
+    sub-write
+    part-write-start
+    part-write-end
+    write-requires
     add-g
     loop-less
     loop-again

@@ -6,28 +6,19 @@ use Rattle.format.proofs.First.{copies-written}
 use borrow.Author.Needs.{needs}
 use Rattle.format.proofs.copies.Statement.{statement}
 use Rattle.format.proofs.copies.Tie as tie
-use Rattle.format.proofs.copies.Reads as reads
-use Rattle.format.proofs.copies.Lts as lts
-use Rattle.layout.proofs.sizes.copy_words.Reads as copy-words-reads
-use Rattle.words.proofs.write.Reads as write-reads
 
--- src/format.rt:107:5
 write-requires : tie.Need-write-requires
 write-requires c κs = search needs
 
--- src/format.rt:108:21
 copy-words-requires : tie.Need-copy-words-requires
 copy-words-requires c κs = search needs
 
--- src/format.rt:108:5
 write-requires-2 : tie.Need-write-requires-2
 write-requires-2 c κs = search needs
 
--- src/format.rt:103:1
 same-length : tie.Need-same-length
 same-length c = search needs
 
--- src/format.rt:103:1
 returns : tie.Need-returns
 returns c =
     let b = c .before .before .before .before .before .before .before .before .before .before in

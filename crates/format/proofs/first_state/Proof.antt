@@ -25,20 +25,20 @@ bag-at-requires c κs = search needs
 places-at-requires : tie.Need-places-at-requires
 places-at-requires c κs = search needs
 
-mul-head : tie.Need-mul-head
-mul-head c = search needs
+mul-write : tie.Need-mul-write
+mul-write c = search needs
 
-sub-head : tie.Need-sub-head
-sub-head c = search needs
+sub-write : tie.Need-sub-write
+sub-write c = search needs
 
-part-head-start : tie.Need-part-head-start
-part-head-start c = search needs
+part-write-start : tie.Need-part-write-start
+part-write-start c = search needs
 
-part-head-end : tie.Need-part-head-end
-part-head-end c = search needs
+part-write-end : tie.Need-part-write-end
+part-write-end c = search needs
 
-head-requires : tie.Need-head-requires
-head-requires c κs = search needs
+write-requires : tie.Need-write-requires
+write-requires c κs = search needs
 
 mul-bucket-records : tie.Need-mul-bucket-records
 mul-bucket-records c = search needs
@@ -76,8 +76,8 @@ part-proxies-end c = search needs
 proxies-requires : tie.Need-proxies-requires
 proxies-requires c κs = search needs
 
-write-requires : tie.Need-write-requires
-write-requires c κs = search needs
+write-requires-2 : tie.Need-write-requires-2
+write-requires-2 c κs = search needs
 
 mul-places : tie.Need-mul-places
 mul-places c = search needs
@@ -111,10 +111,10 @@ returns c =
     let pa = qc .before .before .proxies-at in
     let ba = qc .before .bag-at in
     let qa = qc .places-at in
-    let one = c1 .head in
+    let one = c1 .write in
     let two = c2 .bucket-records in
     let three = c3 .proxies in
-    let four = c4 .write in
+    let four = c4 .write2 in
     let five = c5 .places in
     let l0 : length s0 ≡ 8 * store-words t = b .pre .1 in
     let ep : pa .result ≡ proxies-at t = pa .ensures in
@@ -153,11 +153,11 @@ first-state-spec =
     proxies-at-requires
     bag-at-requires
     places-at-requires
-    mul-head
-    sub-head
-    part-head-start
-    part-head-end
-    head-requires
+    mul-write
+    sub-write
+    part-write-start
+    part-write-end
+    write-requires
     mul-bucket-records
     mul-bucket-records-2
     sub-bucket-records
@@ -170,7 +170,7 @@ first-state-spec =
     part-proxies-start
     part-proxies-end
     proxies-requires
-    write-requires
+    write-requires-2
     mul-places
     sub-places
     part-places-start

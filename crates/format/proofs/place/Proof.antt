@@ -18,23 +18,26 @@ log-at-requires c κs = search needs
 write-requires : tie.Need-write-requires
 write-requires c κs = search needs
 
-mul-status : tie.Need-mul-status
-mul-status c = search needs
+mul-write : tie.Need-mul-write
+mul-write c = search needs
 
-sub-status : tie.Need-sub-status
-sub-status c = search needs
+mul-write-2 : tie.Need-mul-write-2
+mul-write-2 c = search needs
 
-part-status-start : tie.Need-part-status-start
-part-status-start c = search needs
+sub-write : tie.Need-sub-write
+sub-write c = search needs
 
-part-status-end : tie.Need-part-status-end
-part-status-end c = search needs
+part-write-start : tie.Need-part-write-start
+part-write-start c = search needs
 
-status-requires : tie.Need-status-requires
-status-requires c κs = search needs
+part-write-end : tie.Need-part-write-end
+part-write-end c = search needs
 
 write-requires-2 : tie.Need-write-requires-2
 write-requires-2 c κs = search needs
+
+write-requires-3 : tie.Need-write-requires-3
+write-requires-3 c κs = search needs
 
 mul-all-copies : tie.Need-mul-all-copies
 mul-all-copies c = search needs
@@ -54,8 +57,8 @@ part-all-copies-end c = search needs
 all-copies-requires : tie.Need-all-copies-requires
 all-copies-requires c κs = search needs
 
-write-requires-3 : tie.Need-write-requires-3
-write-requires-3 c κs = search needs
+write-requires-4 : tie.Need-write-requires-4
+write-requires-4 c κs = search needs
 
 same-length : tie.Need-same-length
 same-length c = search needs
@@ -71,15 +74,15 @@ returns c =
     let t = b .args .settings in
     let s0 = b .args .s .now in
     let s1 = c1 .write .last .0 in
-    let s3 = c3 .write2 .last .0 in
+    let s3 = c3 .write3 .last .0 in
     let log = c1 .before .before .log-at in
     let copies : List ℕ → List ℕ = all-copies-codec t .enc (λ g. blank-copies) in
-    let e2 = lent-run s1 (c2 .status .last .0) 8 40 1 status-words (status-codec .enc first-status) refl refl (omega arith) (omega arith)
-    (c2 .status .ensures) in
+    let e2 = lent-run s1 (c2 .write2 .last .0) 8 40 1 status-words (status-codec .enc first-status) refl refl (omega arith) (omega arith)
+    (c2 .write2 .ensures) in
     let e4 = lent-run s3 (c4 .all-copies .last .0) 568 (8 * log .result - 568) all-copies-at (all-copies-codec t .size) copies refl (omega arith) (omega arith)
     (omega arith) (c4 .all-copies .ensures) in
     place-steps t (b .args .id) (log .result) (words s0) (words s1) _ (words s3) _ _ (b .pre .1) (length-words s0 ∙ omega arith) (c1 .write .ensures) e2
-    (c3 .write2 .ensures) e4 (log .ensures) (c5 .write3 .ensures)
+    (c3 .write3 .ensures) e4 (log .ensures) (c5 .write4 .ensures)
 
 pub place-spec : {M : Type 1} → statement M
 place-spec =
@@ -87,18 +90,19 @@ place-spec =
     (tie.spec
     log-at-requires
     write-requires
-    mul-status
-    sub-status
-    part-status-start
-    part-status-end
-    status-requires
+    mul-write
+    mul-write-2
+    sub-write
+    part-write-start
+    part-write-end
     write-requires-2
+    write-requires-3
     mul-all-copies
     mul-all-copies-2
     sub-all-copies
     part-all-copies-start
     part-all-copies-end
     all-copies-requires
-    write-requires-3
+    write-requires-4
     same-length
     returns)
