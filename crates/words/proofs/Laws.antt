@@ -2,12 +2,12 @@
 use mathlib.Core.Path.{_≡_, refl, sym, ap, _∙_}
 use mathlib.Core.List.{List, [], _∷_, _++_, append-assoc}
 use Prim.Native.Nat.{ℕ, zero, suc, _+_, _*_, _-_, _/_, _%_, _^_, _≤_, _<_}
-use native.Mathlib.Nat.{one-le-pow, div-div-eq-div-mul, pow-suc, div-lt-iff-lt-mul, not-suc-le-zero, le-of-suc-le-suc, add-suc, zero-add, suc-add}
+use native.Mathlib.Nat.{mul-assoc, pow-succ', one-le-pow, div-div-eq-div-mul, pow-suc, div-lt-iff-lt-mul, not-suc-le-zero, le-of-suc-le-suc, zero-add, suc-add}
 use native.Mathlib.Numerals.{add-one, add-two, add-three, add-four, add-five, add-six, add-seven}
 use native.Mathlib.Omega.{arith}
 use lib.Dec.{lit<}
 use lib.ListN.{length, length-take, take, drop, getD, set, length-append, length-drop, take-append-drop}
-use lib.Seq.{drop-cons, drop-drop, take-append-le, drop-append-le, take-at, drop-at, length-take-le, set-split, sets-eq}
+use lib.Seq.{drop-cons, drop-drop, take-add, take-append-le, drop-append-le, take-at, drop-at, length-take-le, set-split, sets-eq}
 use Rattle.lists.specs.Runs.{run, on-run, map-parts, Below, none, more}
 use Rattle.lists.proofs.Runs.{map-parts-turn, below-take, below-drop, below-append}
 use Rattle.words.specs.Words.{le-bytes, bytes-of, first-words, words, unwords}
@@ -30,38 +30,26 @@ first-words-at (suc n) (suc i) s h =
     first-words-at n i (drop 8 s) (le-of-suc-le-suc h)
     ∙ ap (λ (l : List ℕ). le-bytes (take 8 l)) (drop-drop (8 * i) 8 s ∙ ap (λ (k : ℕ). drop k s) e)
 
--- the sum that code computes is the word
 pub words-at : (s : List ℕ) (i : ℕ) → 8 * i + 8 ≤ length s → getD (words s) i 0 ≡ le-bytes (take 8 (drop (8 * i) s))
 unfolding words
 words-at s i h = first-words-at (length s / 8) i s (omega arith)
 
-step : (n k : ℕ) (s : List ℕ) (a : ℕ) → a + k < length s
-    → take (suc n) (drop (a + k) s) ≡ getD s (a + k) 0 ∷ take n (drop (a + suc k) s)
-step n k s a h =
-    ap (take (suc n)) (drop-cons s (a + k) 0 h) ∙ ap (λ (j : ℕ). getD s (a + k) 0 ∷ take n (drop j s)) (sym (add-suc a k))
-
-eight : (s : List ℕ) (a : ℕ) → a + 8 ≤ length s
-    → take 8 (drop a s) ≡ getD s a 0 ∷ getD s (a + 1) 0 ∷ getD s (a + 2) 0 ∷ getD s (a + 3) 0
-    ∷ getD s (a + 4) 0 ∷ getD s (a + 5) 0 ∷ getD s (a + 6) 0 ∷ getD s (a + 7) 0 ∷ []
-eight s a h =
-    ap (take 8) (drop-cons s a 0 (omega arith)) ∙ ap (λ (j : ℕ). getD s a 0 ∷ take 7 (drop j s)) (sym (add-one a))
-    ∙ rw (
-      step 6 1 s a (omega arith),
-      step 5 2 s a (omega arith),
-      step 4 3 s a (omega arith),
-      step 3 4 s a (omega arith),
-      step 2 5 s a (omega arith),
-      step 1 6 s a (omega arith),
-      step 0 7 s a (omega arith),
-    )
-
-pub load-word : (s : List ℕ) (i : ℕ) → 8 * i + 8 ≤ length s
-    → getD s (8 * i) 0 + getD s (8 * i + 1) 0 * 0x100 + getD s (8 * i + 2) 0 * 0x1_0000 + getD s (8 * i + 3) 0 * 0x100_0000
-    + getD s (8 * i + 4) 0 * 0x1_0000_0000 + getD s (8 * i + 5) 0 * 0x100_0000_0000
-    + getD s (8 * i + 6) 0 * 0x1_0000_0000_0000 + getD s (8 * i + 7) 0 * 0x100_0000_0000_0000
-    ≡ getD (words s) i 0
+-- a number from the bytes of its halves, down to one byte
+pub byte-at : (s : List ℕ) (a : ℕ) → a + 1 ≤ length s → le-bytes (take 1 (drop a s)) ≡ getD s a 0
 unfolding le-bytes
-load-word s i h = rw (words-at s i h, eight s (8 * i) h) (omega arith)
+byte-at s a h = rw (drop-cons s a 0 (omega arith)) (omega arith)
+
+le-append : (p q : List ℕ) → le-bytes (p ++ q) ≡ le-bytes p + 256 ^ length p * le-bytes q
+unfolding le-bytes
+le-append [] q = omega arith
+le-append (b ∷ p) q = rw (le-append p q, pow-succ', mul-assoc) (omega arith)
+
+pub halves : (n : ℕ) (s : List ℕ) (a : ℕ) → a + n ≤ length s
+    → le-bytes (take (n + n) (drop a s)) ≡ le-bytes (take n (drop a s)) + 256 ^ n * le-bytes (take n (drop (a + n) s))
+halves n s a h =
+    let hn : n ≤ length (drop a s) = rw length-drop (omega arith) in
+    ap le-bytes (take-add n n (drop a s)) ∙ le-append (take n (drop a s)) (take n (drop n (drop a s)))
+    ∙ rw (length-take-le n (drop a s) hn, drop-drop n a s)
 
 -- words of two lists one after the other
 skip : (n : ℕ) (s : List ℕ) → drop (8 * n) (drop 8 s) ≡ drop (8 * suc n) s

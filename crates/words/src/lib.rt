@@ -1,32 +1,36 @@
 // 64-bit words in a byte slice, the least byte first. A slice is seen as the list of its words.
 ghost use mathlib.Core.Path.{_≡_};
 ghost use Prim.Native.Nat.{_+_, _*_, _/_, _%_, _^_, _<_, _≤_};
-ghost use lib.ListN.{length, getD, set};
-ghost use Rattle.words.specs.Words.{words};
+ghost use lib.ListN.{length, take, drop, getD, set};
+ghost use Rattle.words.specs.Words.{le-bytes, words};
 
-fn byte(s: &[u8], at: usize) -> u64
-    requires { ⌜ at < length (now s) ⌝ }
-    ensures { λ r. ⌜ (r ≡ getD (now (s .entry)) at 0) × (r < 256) ⌝ }
+// The number that one byte spells; then two, four and eight, each from its halves: so the compiler makes one load of a word.
+fn byte(s: &[u8], a: usize) -> u64
+    requires { ⌜ a + 1 ≤ length (now s) ⌝ }
+    ensures { λ r. ⌜ (r ≡ le-bytes (take 1 (drop a (now (s .entry))))) × (r < 0x100) ⌝ }
 {
-    s[at] as u64
+    s[a] as u64
 }
 
-// The eight bytes from a, as a sum.
-fn load(s: &[u8], a: usize) -> u64
-    requires { ⌜ a + 8 ≤ length (now s) ⌝ }
-    ensures { λ r. ⌜ r ≡ getD (now (s .entry)) a 0 + getD (now (s .entry)) (a + 1) 0 * 0x100
-        + getD (now (s .entry)) (a + 2) 0 * 0x1_0000 + getD (now (s .entry)) (a + 3) 0 * 0x100_0000
-        + getD (now (s .entry)) (a + 4) 0 * 0x1_0000_0000 + getD (now (s .entry)) (a + 5) 0 * 0x100_0000_0000
-        + getD (now (s .entry)) (a + 6) 0 * 0x1_0000_0000_0000 + getD (now (s .entry)) (a + 7) 0 * 0x100_0000_0000_0000 ⌝ }
+fn two(s: &[u8], a: usize) -> u64
+    requires { ⌜ a + 2 ≤ length (now s) ⌝ }
+    ensures { λ r. ⌜ (r ≡ le-bytes (take 2 (drop a (now (s .entry))))) × (r < 0x1_0000) ⌝ }
 {
-    byte(s, a)
-        + byte(s, a + 1) * 0x100
-        + byte(s, a + 2) * 0x1_0000
-        + byte(s, a + 3) * 0x100_0000
-        + byte(s, a + 4) * 0x1_0000_0000
-        + byte(s, a + 5) * 0x100_0000_0000
-        + byte(s, a + 6) * 0x1_0000_0000_0000
-        + byte(s, a + 7) * 0x100_0000_0000_0000
+    byte(s, a) + byte(s, a + 1) * 0x100
+}
+
+fn four(s: &[u8], a: usize) -> u64
+    requires { ⌜ a + 4 ≤ length (now s) ⌝ }
+    ensures { λ r. ⌜ (r ≡ le-bytes (take 4 (drop a (now (s .entry))))) × (r < 0x1_0000_0000) ⌝ }
+{
+    two(s, a) + two(s, a + 2) * 0x1_0000
+}
+
+fn eight(s: &[u8], a: usize) -> u64
+    requires { ⌜ a + 8 ≤ length (now s) ⌝ }
+    ensures { λ r. ⌜ r ≡ le-bytes (take 8 (drop a (now (s .entry)))) ⌝ }
+{
+    four(s, a) + four(s, a + 4) * 0x1_0000_0000
 }
 
 // The word at index i.
@@ -34,7 +38,7 @@ pub fn read(s: &[u8], i: usize) -> u64
     requires { ⌜ 8 * i + 8 ≤ length (now s) ⌝ }
     ensures { λ r. ⌜ r ≡ getD (words (now (s .entry))) i 0 ⌝ }
 {
-    load(s, 8 * i)
+    eight(s, 8 * i)
 }
 
 // The byte at index at becomes the lowest byte of v.

@@ -1,17 +1,19 @@
-use mathlib.Core.Path.{_∙_}
-use Rattle.words.proofs.Laws.{load-word}
+use mathlib.Core.Path.{_∙_, sym}
+use Rattle.words.proofs.Laws.{words-at}
 use borrow.Author.Needs.{needs}
 use Rattle.words.proofs.read.Statement.{statement}
 use Rattle.words.proofs.read.Tie as tie
 
-mul-load : tie.Need-mul-load
-mul-load c = search needs
+mul-eight : tie.Need-mul-eight
+mul-eight c = search needs
 
-load-requires : tie.Need-load-requires
-load-requires c κs = search needs
+eight-requires : tie.Need-eight-requires
+eight-requires c κs = search needs
 
 returns : tie.Need-returns
-returns c = c .load .ensures ∙ load-word (c .before .before .args .s .now) (c .before .before .args .i) (c .before .before .pre)
+returns c =
+    let b = c .before .before in
+    c .eight .ensures ∙ sym (words-at (b .args .s .now) (b .args .i) (b .pre))
 
 pub read-spec : {M : Type 1} → statement M
-read-spec = tie.close (tie.spec mul-load load-requires returns)
+read-spec = tie.close (tie.spec mul-eight eight-requires returns)
