@@ -172,7 +172,8 @@ module _ {A : Type 0} (c : Codec A) (law : Lawful c) where
           (λ q p. rw q (sym (b i p)))
 
 module _ {A : Type 0} {r : Row A} (x : Exact r) where
-  pub fits-table : (most : ℕ) (l : List A) → most < word-limit → length l ≤ most → ((a : A) → List·Memᴰ a l → Below word-limit (r .write a)) → Fits (table most r) l
+  pub fits-table : (most : ℕ) (l : List A) → most < word-limit → length l ≤ most → ((a : A) → List·Memᴰ a l → Below word-limit (r .write a))
+      → Fits (table most r) l
   unfolding table-dec
   fits-table most l m h e = record {
     back = λ w g.

@@ -83,7 +83,8 @@ module _ (count g buffer waiting copy most : ℕ) (ws : List ℕ) where
 
         -- one entry taken in
         taken : (e : Entry) → length (take-in most (after i) e) ≤ most
-            → on-run copy size (change (entries-codec most) (λ l. take-in most l e)) v ≡ on-run copy size (entries-codec most .enc (take-in most (after i) e)) ws
+            → on-run copy size (change (entries-codec most) (λ l. take-in most l e)) v ≡ on-run copy size
+            (entries-codec most .enc (take-in most (after i) e)) ws
         taken e few =
             let f : List ℕ → List ℕ = change (entries-codec most) (λ l. take-in most l e) in
             ap (on-run copy size f) ev ∙ sym (on-twice copy size (entries-codec most .enc (after i)) f ws hw written)

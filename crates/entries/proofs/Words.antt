@@ -22,7 +22,8 @@ use Rattle.lists.proofs.Rows.{row-at, enc-rows, in-rows}
 use Rattle.codec.proofs.Laws.{table-law}
 use Rattle.codec.proofs.Round.{clean-table}
 use Rattle.codec.proofs.Loops.{table-is}
-use Rattle.tables.proofs.Typed.{typed, typed-back, typed-over, typed-rows, typed-length, typed-insert, typed-append, typed-remove, typed-only, typed-at, typed-set}
+use Rattle.tables.proofs.Typed.{typed, typed-back, typed-over, typed-rows, typed-length, typed-insert, typed-append, typed-remove, typed-only, typed-at}
+use Rattle.tables.proofs.Typed.{typed-set}
 use Rattle.entries.specs.Words.{entries-words, copied-entries, entry-at}
 use Rattle.layout.specs.Disk.{entry-row}
 use Rattle.layout.specs.Layout.{entries-codec}
@@ -230,7 +231,8 @@ module _ (most : ℕ) (ws vs : List ℕ) (hl : length ws ≡ entries-words most)
   entries-same e i h =
       let n : getD ws 0 0 ≡ getD vs 0 0 = sym (entries-length most ws hl few) ∙ ap length e ∙ entries-length most vs hv fewv in
       let t : take (getD ws 0 0 * 2) (drop 1 ws) ≡ take (getD vs 0 0 * 2) (drop 1 vs) =
-      sym (enc-rows 2 (entry-row .read) (entry-row .write) (entry-exact .exact) (getD ws 0 0) (drop 1 ws) (in-rows 2 most ws hl few)) ∙ ap (enc-all (entry-row .write)) e
+      sym (enc-rows 2 (entry-row .read) (entry-row .write) (entry-exact .exact) (getD ws 0 0) (drop 1 ws) (in-rows 2 most ws hl few)) ∙ ap
+      (enc-all (entry-row .write)) e
       ∙ enc-rows 2 (entry-row .read) (entry-row .write) (entry-exact .exact) (getD vs 0 0) (drop 1 vs) (in-rows 2 most vs hv fewv) in
       let g : getD (take (getD ws 0 0 * 2) (drop 1 ws)) i 0 ≡ getD (take (getD vs 0 0 * 2) (drop 1 vs)) i 0 = ap (λ (l : List ℕ). getD l i 0) t in
       eq-eqb _ _ (sym (getD-take (getD ws 0 0 * 2) (drop 1 ws) i 0 h ∙ getD-drop 1 ws i 0) ∙ g

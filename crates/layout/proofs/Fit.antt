@@ -52,7 +52,8 @@ module _ (s : State) (sd : Sound s) where
   rows-fit : (P : ℕ → Type 0) (most : ℕ) (l : List Entry) → most < word-limit → length l ≤ most
       → ((e : Entry) → List·Memᴰ e l → EntryOk (KeyOf s) P e) → Fits (entries-codec most) l
   rows-fit P most l m h t =
-      fits-table entry-exact most l m h (λ e x. let k = t e x in more {b = e .block} (omega (arith, k .small)) (more {b = e .key} (key-fits (e .key) (k .key)) none))
+      fits-table entry-exact most l m h (λ e x. let k = t e x in more {b = e .block} (omega (arith, k .small))
+      (more {b = e .key} (key-fits (e .key) (k .key)) none))
 
   relay-fits : (r : Relay) → RelayOk (KeyOf s) (buckets (s .settings)) r → Below word-limit (relay-row .write r)
   relay-fits r k =

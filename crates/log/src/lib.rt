@@ -122,7 +122,8 @@ fn enter(log: &mut [u8], chunks: usize, n: usize, p: usize, key: u64, saved: u64
 pub fn append(log: &mut [u8], chunks: usize, width: usize, key: u64, saved: bool, bytes: &[u8])
     requires { ⌜ IsLog chunks width (words (now log)) (length (now log)) ⌝ }
     requires { ⌜ (getD (words (now log)) 0 0 < chunks) × (length (now bytes) ≡ 8 * width) ⌝ }
-    ensures { λ _. ⌜ words (now (log .exit)) ≡ change (chunks-codec chunks width) (λ l. append l (chunk key saved (now (bytes .entry)))) (words (now (log .entry))) ⌝ }
+    ensures { λ _. ⌜ words (now (log .exit))
+        ≡ change (chunks-codec chunks width) (λ l. append l (chunk key saved (now (bytes .entry)))) (words (now (log .entry))) ⌝ }
 {
     let n = words::read(log, 0) as usize;
     let p = place(log, chunks, n, key);

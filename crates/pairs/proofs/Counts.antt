@@ -37,7 +37,8 @@ one-le x i = by (eqb x i) (λ q. rw q (omega arith)) (λ q. rw q (omega arith))
 pub holds : (s : Slots) (i : ℕ) → 0 < load s i → (k : ℕ) × (k < length s) × (at s k ≡ i)
 unfolding load
 holds [] i h = absurd (omega arith)
-holds (x ∷ s) i h = by-eq x i (λ q e. (0, omega arith, e)) (λ q n. let h′ = rw q at h in let r = holds s i (omega arith) in (suc (r .0), omega (arith, r .1), r .2))
+holds (x ∷ s) i h =
+    by-eq x i (λ q e. (0, omega arith, e)) (λ q n. let h′ = rw q at h in let r = holds s i (omega arith) in (suc (r .0), omega (arith, r .1), r .2))
 
 -- ---- the loads of distinct members add up to no more than the slots
 total : List ℕ → Slots → ℕ
@@ -86,7 +87,8 @@ total-gt (m ∷ ms) s c x h p l =
     (λ n q. omega (arith, total-gt ms s c x (λ z r. h z (among-tail m z ms r)) q l, h m (among-head m ms))))
 
 -- so not every member has c or more, and one more than c, where the members' shares cover the slots
-pub not-all-full : (ms : List ℕ) → Distinct ms → (s : Slots) (c x : ℕ) → length s ≤ length ms * c → ((z : ℕ) → among ms z ≡ true → c ≤ load s z) → among ms x ≡ true → c < load s x → ⊥
+pub not-all-full : (ms : List ℕ) → Distinct ms → (s : Slots) (c x : ℕ) → length s ≤ length ms * c → ((z : ℕ) → among ms z ≡ true → c ≤ load s z)
+    → among ms x ≡ true → c < load s x → ⊥
 not-all-full ms d s c x hs h p l = omega (arith, total-gt ms s c x h p l, total-le ms d s)
 
 -- distinct members that are all among others are no more than they
@@ -101,7 +103,8 @@ no-longer ms ns d h = omega (arith, total-ge ms ns 1 (λ z p. among-load ns z (h
 pub share-covers : (n m : ℕ) → 0 < m → 2 * n ≤ m * share n m
 unfolding share
 share-covers n zero h = absurd (omega arith)
-share-covers n (suc m) h = rw (mul-comm (suc m) ((2 * n + m) / suc m)) (omega (arith, div-add-mod' (2 * n + m) (suc m), mod-lt (2 * n + m) {m = suc m} (omega arith)))
+share-covers n (suc m) h =
+    rw (mul-comm (suc m) ((2 * n + m) / suc m)) (omega (arith, div-add-mod' (2 * n + m) (suc m), mod-lt (2 * n + m) {m = suc m} (omega arith)))
 
 -- ---- where x always has y beside it, x has no more than y
 pub beside : (n : ℕ) (s : Slots) (x y : ℕ) → length s ≡ 2 * n → (x ≡ y → ⊥) → Buckets n (λ _ a b. (a ≡ x → b ≡ y) × (b ≡ x → a ≡ y)) s → load s x ≤ load s y

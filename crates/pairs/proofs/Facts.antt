@@ -35,7 +35,8 @@ give-length ms c k j s = give-is ms c k j s (λ t. length t ≡ length s) refl (
 pub filled-length : (n : ℕ) (ms : List ℕ) (last : Slots) → length (filled n ms last) ≡ length last
 unfolding filled
 filled-length n ms last =
-    order-length n (fill-at ms) (λ g s. fill-length ms (2 * g + 1) (2 * g) (fill-slot ms (2 * g) (2 * g + 1) s) ∙ fill-length ms (2 * g) (2 * g + 1) s) (in-order n (keep-at ms) last)
+    order-length n (fill-at ms) (λ g s. fill-length ms (2 * g + 1) (2 * g) (fill-slot ms (2 * g) (2 * g + 1) s) ∙ fill-length ms (2 * g) (2 * g + 1) s)
+    (in-order n (keep-at ms) last)
     ∙ order-length n (keep-at ms) (keep-length ms) last
 
 pub walk-length : (n : ℕ) (ms : List ℕ) (c role : ℕ) (s : Slots) → length (in-order n (walk-at ms c role) s) ≡ length s
@@ -58,7 +59,8 @@ module _ (n : ℕ) (ms : List ℕ) (o : Members ms) where
   pub filled-full : (last : Slots) → length last ≡ 2 * n → Buckets n (λ g x y. Full ms (at last (2 * g)) (at last (2 * g + 1)) x y) (filled n ms last)
   unfolding filled
   filled-full last hl =
-      let kept-all = stage n (λ g x y. (x ≡ at last (2 * g)) × (y ≡ at last (2 * g + 1))) (λ g x y. Left ms (at last (2 * g)) (at last (2 * g + 1)) x y) (keep-at ms)
+      let kept-all = stage n (λ g x y. (x ≡ at last (2 * g)) × (y ≡ at last (2 * g + 1))) (λ g x y. Left ms (at last (2 * g)) (at last (2 * g + 1)) x y)
+      (keep-at ms)
       (λ g s _ _ p. keep-step ms (o .no-zero) g s (at last (2 * g)) (at last (2 * g + 1)) (p .0) (p .1)) last hl (λ g _. (refl, refl)) in
       stage n (λ g x y. Left ms (at last (2 * g)) (at last (2 * g + 1)) x y) (λ g x y. Full ms (at last (2 * g)) (at last (2 * g + 1)) x y) (fill-at ms)
       (λ g s hg h p. fill-both ms o g n s (at last (2 * g)) (at last (2 * g + 1)) hg h p) (in-order n (keep-at ms) last)
@@ -99,10 +101,16 @@ keep-same : (ms : List ℕ) → among ms 0 ≡ false → (g : ℕ) (s : Slots) �
 unfolding keep-at
 keep-same ms z g s p =
     let n = not-zero ms (at s (2 * g)) z (p .primary) in
-    rw (kept-member ms (at s (2 * g)) 0 (p .primary) n, ne-eqb (at s (2 * g)) 0 n, kept-member ms (at s (2 * g + 1)) (at s (2 * g)) (p .backup) (λ e. p .apart (sym e)))
+    rw (
+      kept-member ms (at s (2 * g)) 0 (p .primary) n,
+      ne-eqb (at s (2 * g)) 0 n,
+      kept-member ms (at s (2 * g + 1)) (at s (2 * g)) (p .backup)
+          (λ e. p .apart (sym e)),
+    )
     (sym (same-pair g s))
 
-pub settled : (n : ℕ) (ms : List ℕ) → Members ms → (s : Slots) → Buckets n (Pairs ms) s → ((i : ℕ) → among ms i ≡ true → load s i ≤ share n (length ms)) → pairs n ms s ≡ s
+pub settled : (n : ℕ) (ms : List ℕ) → Members ms → (s : Slots) → Buckets n (Pairs ms) s → ((i : ℕ) → among ms i ≡ true → load s i ≤ share n (length ms))
+    → pairs n ms s ≡ s
 unfolding pairs filled walked
 settled n ms o s h l =
     let c = share n (length ms) in
@@ -111,7 +119,8 @@ settled n ms o s h l =
     let f : in-order n (fill-at ms) s ≡ s = order-same n (fill-at ms) s (λ g p.
     let a = fill-same ms (2 * g) (2 * g + 1) s (z (at s (2 * g)) (h g p .primary)) in
     rw a (fill-same ms (2 * g + 1) (2 * g) s (z (at s (2 * g + 1)) (h g p .backup)))) in
-    let b : in-order n (walk-at ms c 1) s ≡ s = order-same n (walk-at ms c 1) s (λ g p. give-same ms c (2 * g + 1) (2 * g + 0) s (l (at s (2 * g + 1)) (h g p .backup))) in
+    let b : in-order n (walk-at ms c 1) s ≡ s = order-same n (walk-at ms c 1) s (λ g p. give-same ms c (2 * g + 1) (2 * g + 0) s
+    (l (at s (2 * g + 1)) (h g p .backup))) in
     let q : in-order n (walk-at ms c 0) s ≡ s = order-same n (walk-at ms c 0) s (λ g p.
     let e : 2 * g + 0 ≡ 2 * g = omega arith in
     rw e (give-same ms c (2 * g) (2 * g + 1) s (l (at s (2 * g)) (h g p .primary)))) in

@@ -36,7 +36,8 @@ pub another : (ms : List ℕ) (y : ℕ) → Members ms → (m : ℕ) × (among m
 another [] y o = absurd (omega arith)
 another (a ∷ []) y o = absurd (omega arith)
 another (a ∷ b ∷ ms) y o =
-    by-eq a y (λ q e. (b, among-tail a b (b ∷ ms) (among-head b ms), λ f. among-not b a ms (o .distinct .0) .0 (f ∙ sym e))) (λ q n. (a, among-head a (b ∷ ms), n))
+    by-eq a y (λ q e. (b, among-tail a b (b ∷ ms) (among-head b ms), λ f. among-not b a ms (o .distinct .0) .0 (f ∙ sym e)))
+    (λ q n. (a, among-head a (b ∷ ms), n))
 
 -- ---- the order of preference
 -- r has no more than z, and is no higher where it has as many
@@ -106,7 +107,8 @@ pub record NoMore (s : Slots) (z r : ℕ) : Type 0 where
 least-here : (s : Slots) (a b z r : ℕ) → (z ≡ a → ⊥) → (z ≡ b → ⊥) → (z ≡ 0 → ⊥) → NoMore s z (choose s a b z r)
 unfolding choose _or_
 least-here s a b z r na nb n =
-    rw (ne-eqb z a na, ne-eqb z b nb) (either (NoMore s z) (preferred s z r) (λ p. record { found = n; leads = record { fewest = omega arith; lowest = λ _. omega arith } })
+    rw (ne-eqb z a na, ne-eqb z b nb)
+    (either (NoMore s z) (preferred s z r) (λ p. record { found = n; leads = record { fewest = omega arith; lowest = λ _. omega arith } })
     (λ p. let q = preferred-no s z r p in record { found = q .0; leads = q .1 }))
 
 pub least-le : (s : Slots) (ms : List ℕ) (a b z : ℕ) → among ms 0 ≡ false → among ms z ≡ true → (z ≡ a → ⊥) → (z ≡ b → ⊥) → NoMore s z (least-loaded s ms a b)

@@ -50,7 +50,8 @@ module _ (ms : List ℕ) (c k j : ℕ) (s : Slots) (hk : k < length s) where
   holder-stays z i h e = by-eq (at (give-way ms c k j s) i) (at s i) (λ _ q. q ∙ e) (λ _ n. let o = rw e at (gave-over i n) in absurd (omega arith))
 
 -- ---- a walk keeps what its steps keep
-module _ (n : ℕ) (ms : List ℕ) (c role : ℕ) (P : Slots → Type 0) (step : (g : ℕ) (s : Slots) → g < n → length s ≡ 2 * n → P s → P (walk-at ms c role g s)) (s : Slots) (hl : length s ≡ 2 * n) where
+module _ (n : ℕ) (ms : List ℕ) (c role : ℕ) (P : Slots → Type 0)
+    (step : (g : ℕ) (s : Slots) → g < n → length s ≡ 2 * n → P s → P (walk-at ms c role g s)) (s : Slots) (hl : length s ≡ 2 * n) where
   walk-to : (m : ℕ) → m ≤ n → P s → P (in-order m (walk-at ms c role) s)
   unfolding in-order
   walk-to zero h p = p
@@ -96,7 +97,8 @@ give-or-full ms c k j s P ps px =
     (λ q l. by-lt c (load s (at s k))
     (λ t m. by-lt 0 x (λ u v. rw (q, t, u) (px x l)) (λ u v. rw (q, t, u) (ps (λ _ n. absurd (n (omega arith))))))
     (λ t m. rw (q, t) (ps (λ h. absurd (omega arith)))))
-    (λ q l. by (ltb c (load s (at s k))) (λ t. by (ltb 0 x) (λ u. rw (q, t, u) (ps (λ _ _. l))) (λ u. rw (q, t, u) (ps (λ _ _. l)))) (λ t. rw (q, t) (ps (λ _ _. l))))
+    (λ q l. by (ltb c (load s (at s k))) (λ t. by (ltb 0 x) (λ u. rw (q, t, u) (ps (λ _ _. l))) (λ u. rw (q, t, u) (ps (λ _ _. l))))
+    (λ t. rw (q, t) (ps (λ _ _. l))))
 
 module _ (ms : List ℕ) (c k j x : ℕ) (s : Slots) (hk : k < length s) where
   stuck-kept : (i l : ℕ) → (i ≡ k → ⊥) → Stuck ms c x s i l → Stuck ms c x (give-way ms c k j s) i l
@@ -146,7 +148,8 @@ module _ (n : ℕ) (ms : List ℕ) (c : ℕ) (z0 : among ms 0 ≡ false) (x : �
   primaries-stuck s hl g hg = walk-stuck 0 (omega arith) (in-order n (walk-at ms c 1) s) (walk-length n ms c 1 s ∙ hl) n (omega arith) g hg
 
 -- where x has more than c, slots of both roles being stuck, and y beside x somewhere: all but x and y have c, so y has fewer, so y is beside x everywhere
-module _ (n : ℕ) (ms : List ℕ) (o : Members ms) (c : ℕ) (covers : 2 * n ≤ length ms * c) (x : ℕ) (mx : among ms x ≡ true) (u : Slots) (hl : length u ≡ 2 * n) (over : c < load u x)
+module _ (n : ℕ) (ms : List ℕ) (o : Members ms) (c : ℕ) (covers : 2 * n ≤ length ms * c) (x : ℕ) (mx : among ms x ≡ true)
+    (u : Slots) (hl : length u ≡ 2 * n) (over : c < load u x)
     (stuck : Buckets n (λ g a b. Stuck ms c x u (2 * g) (2 * g + 1) × Stuck ms c x u (2 * g + 1) (2 * g)) u) where
   never : (y : ℕ) → among ms y ≡ true → (y ≡ x → ⊥) → ((z : ℕ) → among ms z ≡ true → (z ≡ x → ⊥) → (z ≡ y → ⊥) → c ≤ load u z) → ⊥
   never y my ny full =
@@ -177,14 +180,20 @@ walked-load n ms o c covers s hl h x mx =
     let u = walked n ms c s in
     by-lt c (load u x)
     (λ _ over. absurd (over-never n ms o c covers x mx u (walked-length n ms c s ∙ hl) over
-    (λ g hg. let e : 2 * g + 0 ≡ 2 * g = omega arith in (rw e at (primaries-stuck n ms c (o .no-zero) x s hl g hg), rw e at (backups-stuck n ms c (o .no-zero) x s hl g hg)))
+    (λ g hg. let e : 2 * g + 0 ≡ 2 * g = omega arith in (
+      rw e at (primaries-stuck n ms c (o .no-zero) x s hl g hg),
+      rw e at
+          (backups-stuck n ms c (o .no-zero) x s hl g hg),
+    ))
     (walked-apart n ms o c s hl h)))
     (λ _ l. l)
 
-pub pairs-load : (n : ℕ) (ms : List ℕ) → Members ms → (last : Slots) → length last ≡ 2 * n → (x : ℕ) → among ms x ≡ true → load (pairs n ms last) x ≤ share n (length ms)
+pub pairs-load : (n : ℕ) (ms : List ℕ) → Members ms → (last : Slots) → length last ≡ 2 * n → (x : ℕ) → among ms x ≡ true
+    → load (pairs n ms last) x ≤ share n (length ms)
 unfolding pairs
 pairs-load n ms o last hl =
-    walked-load n ms o (share n (length ms)) (share-covers n (length ms) (omega arith)) (filled n ms last) (filled-length n ms last ∙ hl) (λ g h. filled-full n ms o last hl g h .apart)
+    walked-load n ms o (share n (length ms)) (share-covers n (length ms) (omega arith)) (filled n ms last) (filled-length n ms last ∙ hl)
+    (λ g h. filled-full n ms o last hl g h .apart)
 
 -- the next view with the same members changes nothing
 pub pairs-again : (n : ℕ) (ms : List ℕ) → Members ms → (last : Slots) → length last ≡ 2 * n → pairs n ms (pairs n ms last) ≡ pairs n ms last

@@ -55,8 +55,10 @@ same-members n ms ns om on same last =
     omega arith in
     let c = share n (length ns) in
     let f : (g : ℕ) (s : Slots) → fill-at ms g s ≡ fill-at ns g s = λ g s.
-    fill-alike ms ns same zm zn (2 * g + 1) (2 * g) (fill-slot ms (2 * g) (2 * g + 1) s) ∙ ap (fill-slot ns (2 * g + 1) (2 * g)) (fill-alike ms ns same zm zn (2 * g) (2 * g + 1) s) in
-    let w : (role g : ℕ) (s : Slots) → walk-at ms c role g s ≡ walk-at ns c role g s = λ role g. give-alike ms ns same zm zn c (2 * g + role) (2 * g + (1 - role)) in
+    fill-alike ms ns same zm zn (2 * g + 1) (2 * g) (fill-slot ms (2 * g) (2 * g + 1) s) ∙ ap (fill-slot ns (2 * g + 1) (2 * g))
+    (fill-alike ms ns same zm zn (2 * g) (2 * g + 1) s) in
+    let w : (role g : ℕ) (s : Slots) → walk-at ms c role g s ≡ walk-at ns c role g s = λ role g. give-alike ms ns same zm zn c (2 * g + role)
+    (2 * g + (1 - role)) in
     rw (
       l,
       order-ext n (keep-at ms) (keep-at ns) (keep-alike ms ns same zm zn) last,

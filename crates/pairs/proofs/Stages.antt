@@ -39,26 +39,38 @@ module _ (n : ℕ) (P Q : ℕ → ℕ → ℕ → Type 0) where
   half-more : (m : ℕ) (s t : Slots) → m < n → Half n P Q m s → Writes (Q m) m s t → Half n P Q (suc m) t
   half-more m s t hm h w = rw (w .made) (record { long = rw (length-set, length-set) (h .long); done = now-done; left = now-left })
     where
-      now-done : (g : ℕ) → g < suc m → Q g (at (set (set s (2 * m) (w .x)) (2 * m + 1) (w .y)) (2 * g)) (at (set (set s (2 * m) (w .x)) (2 * m + 1) (w .y)) (2 * g + 1))
+      now-done : (g : ℕ) → g < suc m
+          → Q g (at (set (set s (2 * m) (w .x)) (2 * m + 1) (w .y)) (2 * g)) (at (set (set s (2 * m) (w .x)) (2 * m + 1) (w .y)) (2 * g + 1))
       now-done g hg =
           by-eq g m (λ q e. rw (e, at-first m s n hm (h .long) (w .x) (w .y), at-second m s n hm (h .long) (w .x) (w .y)) (w .good))
-          (λ q d. rw (at-pair m s (w .x) (w .y) (2 * g) (λ e. d (omega arith)) (λ e. omega arith), at-pair m s (w .x) (w .y) (2 * g + 1) (λ e. omega arith) (λ e. d (omega arith)))
+          (λ q d. rw (
+            at-pair m s (w .x) (w .y) (2 * g) (λ e. d (omega arith)) (λ e. omega arith),
+            at-pair m s (w .x) (w .y) (2 * g + 1) (λ e. omega arith)
+                (λ e. d (omega arith)),
+          )
           (h .done g (omega (arith, d))))
 
-      now-left : (g : ℕ) → suc m ≤ g → g < n → P g (at (set (set s (2 * m) (w .x)) (2 * m + 1) (w .y)) (2 * g)) (at (set (set s (2 * m) (w .x)) (2 * m + 1) (w .y)) (2 * g + 1))
+      now-left : (g : ℕ) → suc m ≤ g → g < n
+          → P g (at (set (set s (2 * m) (w .x)) (2 * m + 1) (w .y)) (2 * g)) (at (set (set s (2 * m) (w .x)) (2 * m + 1) (w .y)) (2 * g + 1))
       now-left g hg hn =
-          rw (at-pair m s (w .x) (w .y) (2 * g) (λ e. omega arith) (λ e. omega arith), at-pair m s (w .x) (w .y) (2 * g + 1) (λ e. omega arith) (λ e. omega arith))
+          rw (
+            at-pair m s (w .x) (w .y) (2 * g) (λ e. omega arith) (λ e. omega arith),
+            at-pair m s (w .x) (w .y) (2 * g + 1) (λ e. omega arith)
+                (λ e. omega arith),
+          )
           (h .left g (omega arith) hn)
 
   -- a stage: where f makes of each pair with P one with Q
   module _ (f : ℕ → Slots → Slots)
-      (step : (g : ℕ) (s : Slots) → g < n → length s ≡ 2 * n → P g (at s (2 * g)) (at s (2 * g + 1)) → Writes (Q g) g s (f g s)) (s : Slots) (hl : length s ≡ 2 * n) (hs : Buckets n P s) where
+      (step : (g : ℕ) (s : Slots) → g < n → length s ≡ 2 * n → P g (at s (2 * g)) (at s (2 * g + 1)) → Writes (Q g) g s (f g s)) (s : Slots)
+      (hl : length s ≡ 2 * n) (hs : Buckets n P s) where
     halves : (m : ℕ) → m ≤ n → Half n P Q m (in-order m f s)
     unfolding in-order
     halves zero h = record { long = hl; done = λ g p. absurd (omega arith); left = λ g _ p. hs g p }
     halves (suc m) h =
         let i = halves m (omega arith) in
-        half-more m (in-order m f s) (f m (in-order m f s)) (omega arith) i (step m (in-order m f s) (omega arith) (i .long) (i .left m (omega arith) (omega arith)))
+        half-more m (in-order m f s) (f m (in-order m f s)) (omega arith) i (step m (in-order m f s) (omega arith) (i .long)
+        (i .left m (omega arith) (omega arith)))
 
     pub stage : Buckets n Q (in-order n f s)
     stage = halves n (omega arith) .done

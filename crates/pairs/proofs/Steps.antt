@@ -82,7 +82,8 @@ module _ (ms : List ℕ) (z : among ms 0 ≡ false) (a b : ℕ) where
   left-of : Left ms a b (keep-one ms a b) (keep-two ms a b)
   left-of = by (among ms a) left-both left-lone
 
-pub keep-step : (ms : List ℕ) → among ms 0 ≡ false → (g : ℕ) (s : Slots) (a b : ℕ) → at s (2 * g) ≡ a → at s (2 * g + 1) ≡ b → Writes (Left ms a b) g s (keep-at ms g s)
+pub keep-step : (ms : List ℕ) → among ms 0 ≡ false → (g : ℕ) (s : Slots) (a b : ℕ) → at s (2 * g) ≡ a → at s (2 * g + 1) ≡ b
+    → Writes (Left ms a b) g s (keep-at ms g s)
 unfolding keep-at
 keep-step ms z g s a b ea eb = record { x = keep-one ms a b; y = keep-two ms a b; made = rw (ea, eb); good = left-of ms z a b }
 
@@ -97,7 +98,8 @@ pub record Fills (ms : List ℕ) (k j : ℕ) (s : Slots) : Type 0 where
   pub made : fill-slot ms k j s ≡ set s k x
   pub good : Filled ms (at s k) (at s j) x
 
-pub fill-step : (ms : List ℕ) → Members ms → (k j : ℕ) (s : Slots) → ((at s k ≡ 0 → ⊥) → among ms (at s k) ≡ true) → (at s k ≡ at s j → at s k ≡ 0) → Fills ms k j s
+pub fill-step : (ms : List ℕ) → Members ms → (k j : ℕ) (s : Slots) → ((at s k ≡ 0 → ⊥) → among ms (at s k) ≡ true) → (at s k ≡ at s j → at s k ≡ 0)
+    → Fills ms k j s
 unfolding fill-slot
 fill-step ms o k j s hm ha =
     let x = least-loaded s ms 0 (at s j) in
@@ -162,17 +164,34 @@ module _ (ms : List ℕ) (c k j : ℕ) (s : Slots) where
 abbrev pub Pairs : List ℕ → ℕ → ℕ → ℕ → Type 0
 Pairs ms g x y = Apart ms x y
 
-pub give-primary : (ms : List ℕ) (c g : ℕ) (s : Slots) → Apart ms (at s (2 * g)) (at s (2 * g + 1)) → Writes (Apart ms) g s (give-way ms c (2 * g) (2 * g + 1) s)
+pub give-primary : (ms : List ℕ) (c g : ℕ) (s : Slots) → Apart ms (at s (2 * g)) (at s (2 * g + 1))
+    → Writes (Apart ms) g s (give-way ms c (2 * g) (2 * g + 1) s)
 give-primary ms c g s p =
     give-is ms c (2 * g) (2 * g + 1) s (Writes (Apart ms) g s)
     (record { x = at s (2 * g); y = at s (2 * g + 1); made = same-pair g s; good = p })
     (λ x e _ n _. let o = give-outside ms c (2 * g) (2 * g + 1) s x e n in
     let q : at (set s (2 * g) x) (2 * g + 1) ≡ at s (2 * g + 1) = getD-set-other s (2 * g) (2 * g + 1) x 0 (λ f. omega arith) in
-    record { x = x; y = at s (2 * g + 1); made = sym (rw q at (set-getD (set s (2 * g) x) (2 * g + 1) 0)); good = record { primary = o .member; backup = p .backup; apart = o .not-b } })
+    record {
+      x = x;
+      y = at s (2 * g + 1);
+      made = sym
+          (rw q at (set-getD (set s (2 * g) x) (2 * g + 1) 0));
+      good = record { primary = o .member; backup = p .backup; apart = o .not-b };
+    })
 
 pub give-backup : (ms : List ℕ) (c g : ℕ) (s : Slots) → Apart ms (at s (2 * g)) (at s (2 * g + 1)) → Writes (Apart ms) g s (give-way ms c (2 * g + 1) (2 * g) s)
 give-backup ms c g s p =
     give-is ms c (2 * g + 1) (2 * g) s (Writes (Apart ms) g s)
     (record { x = at s (2 * g); y = at s (2 * g + 1); made = same-pair g s; good = p })
     (λ x e _ n _. let o = give-outside ms c (2 * g + 1) (2 * g) s x e n in
-    record { x = at s (2 * g); y = x; made = rw (set-getD s (2 * g) 0); good = record { primary = p .primary; backup = o .member; apart = λ f. o .not-b (sym f) } })
+    record {
+      x = at s (2 * g);
+      y = x;
+      made = rw (set-getD s (2 * g) 0);
+      good = record {
+        primary = p .primary;
+        backup = o .member;
+        apart = λ f. o .not-b
+            (sym f);
+      };
+    })

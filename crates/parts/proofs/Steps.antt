@@ -1,6 +1,5 @@
 -- What reads of all words of a part give, and what writes of all of them leave.
 use mathlib.Core.Path.{_≡_, refl, _∙_}
-use mathlib.Core.Bool.{Bool, true, false, cond}
 use mathlib.Core.List.{List, [], _∷_, append-nil}
 use Prim.Native.Nat.{ℕ}
 use native.Mathlib.Nat.{zero-add}
@@ -9,14 +8,10 @@ use mir.Val.{boolByte}
 use lib.Dec.{eqb}
 use lib.ListN.{length, getD}
 use lib.Seq.{paste, take-all, drop-length}
+use Rattle.lists.proofs.Tests.{flag-word}
 use Rattle.codec.specs.Codec.{enc-two}
 use Rattle.layout.specs.Disk.{Head, Agreed, Status}
 use Rattle.layout.specs.Layout.{head-codec, agreed-codec, status-codec}
-
--- a bool as a number
-pub flag-word : (b : Bool) → boolByte b ≡ cond b 1 0
-flag-word true = refl
-flag-word false = refl
 
 -- every word is written
 put-all : (vs w : List ℕ) → length w ≡ length vs → paste w 0 vs (length vs) ≡ vs

@@ -88,7 +88,8 @@ as-many floor (x ∷ l) b k s z =
     (λ q r. clash (below-floor (suc (x .block)) l b (omega arith) (and-r _ _ s)) (or-second _ _ z (ne-eqb b (x .block) (λ e. omega arith))))
     (λ q r. rw q (by-eq b (x .block) (λ t _. rw t refl) (λ t u. rw t (ap suc (as-many (suc (x .block)) l b k (and-r _ _ s) (or-second _ _ z t))))))
 
-pub length-insert : (floor : ℕ) (l : List Entry) (b k most : ℕ) → ascending floor l ≡ true → length l ≤ most → takes most l b ≡ true → length (insert l b k) ≤ most
+pub length-insert : (floor : ℕ) (l : List Entry) (b k most : ℕ) → ascending floor l ≡ true → length l ≤ most → takes most l b ≡ true
+    → length (insert l b k) ≤ most
 unfolding takes
 length-insert floor l b k most s u y =
     elim (or-cases _ _ y) [ inl z ↦ omega (arith, as-many floor l b k s z) | inr z ↦ omega (arith, one-more l b k, ltb-true (length l) most z) ]

@@ -14,7 +14,8 @@ use Rattle.rules.specs.Format.{first-id, is-first, first-pairs, format}
 use Rattle.rules.specs.Parts.{circle, seek, holder, saved-at, agree, pending, none-pending, calm}
 use Rattle.rules.specs.Question.{first-no}
 use Rattle.rules.specs.Writes.{raised, put-effect, other-than, target, copy-effect, savelog-effect}
-use Rattle.rules.specs.Maps.{map-effect, send-effect, is-taken, remove-at, deliver-effect, drop-effect, savemap-effect, item-goes, learn-effect, reset-effect}
+use Rattle.rules.specs.Maps.{map-effect, send-effect, is-taken, remove-at, deliver-effect, drop-effect, savemap-effect, item-goes, learn-effect}
+use Rattle.rules.specs.Maps.{reset-effect}
 use Rattle.rules.specs.Reads.{zeros, get-bytes}
 use Rattle.rules.specs.Membership.{crash-effect, lose-effect, rise-effect, join-effect}
 use Rattle.rules.specs.Views.{last-pairs, view-pairs, view-effect, source, fetch-effect, dropped, ready-effect}

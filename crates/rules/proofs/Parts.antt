@@ -82,7 +82,12 @@ two-ids (suc n) f test x l =
       | inr e ↦
           let z = an-element (only test (ids-of n f)) (omega (arith, length-append (only test (ids-of n f)) (suc n ∷ []), ap length e)) in
           by-eq (suc n) x
-          (λ _ u. (z .0, subst (λ (m : List ℕ). List·Memᴰ (z .0) m) (sym e) (Memᴰ·append-left _ (z .1)), λ v. omega (arith, ids-in n f (z .0) (only-in test _ (z .1) .0) .1)))
+          (λ _ u. (
+            z .0,
+            subst (λ (m : List ℕ). List·Memᴰ (z .0) m) (sym e) (Memᴰ·append-left _ (z .1)),
+            λ v. omega
+                (arith, ids-in n f (z .0) (only-in test _ (z .1) .0) .1),
+          ))
           (λ _ u. (suc n, subst (λ (m : List ℕ). List·Memᴰ (suc n) m) (sym e) (Memᴰ·append-right (only test (ids-of n f)) (List·Memᴰ·head refl)), u))
     ]
 
@@ -104,7 +109,8 @@ unfolding seek
 seek-held b k [] h = absurd (omega arith)
 seek-held b k (i ∷ l) h = by (b .up i and held (b .log i) k) (λ q. rw q (and-r _ _ q)) (λ q. rw q (seek-held b k l (rw q at h)))
 
-pub seek-found : (b : Bricks) (k i : ℕ) (l : List ℕ) → ((j : ℕ) → List·Memᴰ j l → 0 < j) → List·Memᴰ i l → b .up i ≡ true → held (b .log i) k ≡ true → 0 < seek b k l
+pub seek-found : (b : Bricks) (k i : ℕ) (l : List ℕ) → ((j : ℕ) → List·Memᴰ j l → 0 < j) → List·Memᴰ i l → b .up i ≡ true → held (b .log i) k ≡ true
+    → 0 < seek b k l
 unfolding seek
 seek-found b k i [] p m u y = absurd (List·Memᴰ·not-nil m)
 seek-found b k i (x ∷ l) p m u y =

@@ -27,7 +27,15 @@ word-of ws i k h =
 
 pub read-relay : (ws : List ℕ) (i : ℕ) → relay-row .read (part 5 i (drop 1 ws)) ≡ relay-at ws i
 read-relay ws i =
-    rw (word-of ws i 0 (omega arith), word-of ws i 1 (omega arith), word-of ws i 2 (omega arith), word-of ws i 3 (omega arith), word-of ws i 4 (omega arith), add-zero (1 + 5 * i))
+    rw (
+      word-of ws i 0 (omega arith),
+      word-of ws i 1 (omega arith),
+      word-of ws i 2 (omega arith),
+      word-of ws i 3 (omega arith),
+      word-of ws i 4
+          (omega arith),
+      add-zero (1 + 5 * i),
+    )
 
 module _ (c : Settings) (good : ℕ → Bool) (ws : List ℕ) (n : ℕ) (e : n ≡ getD ws 0 0) where
   -- what is left to test from relay i on

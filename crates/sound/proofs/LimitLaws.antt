@@ -97,7 +97,8 @@ module _ (c : Settings) (given : ℕ) (ws : List ℕ) (old : List ℕ) where
   unfolding of
   fill-start = record { long = refl; each = λ i. by (was-given given i) (λ q. rw q) (λ q. rw q) }
 
-  module _ (p : ℕ) (new : List ℕ) (few : given < length old) (f : Filled c given ws p old new) (id next : ℕ) (ei : id ≡ id-at c ws p) (en : next ≡ next-in c ws p) where
+  module _ (p : ℕ) (new : List ℕ) (few : given < length old) (f : Filled c given ws p old new) (id next : ℕ) (ei : id ≡ id-at c ws p)
+      (en : next ≡ next-in c ws p) where
     abbrev seen : ℕ → ℕ → ℕ
     seen n i = cond (was-given given i) (of n (id-at c ws) (getD old i 0) (next-in c ws) i) (getD old i 0)
 

@@ -71,7 +71,8 @@ module _ (ws : List ℕ) (h : length ws ≡ store-words (settings-of ws)) where
         (λ _ e. let z : 0 < s .ids p = omega arith in
         let t = held p l z y in
         let k = brick-there ws h apart p l z lim b (and-r _ _ t) in (
-          or-r _ _ (both _ _ (both _ _ (ap (λ (n : ℕ). leb n (s .given)) (id-here ws h p l) ∙ ap (leb (id-at c ws p)) (given-read ws h) ∙ and-l _ _ (and-l _ _ t))
+          or-r _ _ (both _ _ (both _ _ (ap (λ (n : ℕ). leb n (s .given)) (id-here ws h p l) ∙ ap (leb (id-at c ws p)) (given-read ws h) ∙ and-l _ _
+              (and-l _ _ t))
               (sym (alone-same p l) ∙ and-r _ _ (and-l _ _ t))) (k .1)),
           λ _. k .0,
         ))

@@ -79,7 +79,8 @@ module _ (c : Settings) (good : ℕ → Bool) (whose : Whose) (most : ℕ) (ws :
   table-rows l = yes-first _ _ (rw count (le-leb n most l)) ∙ rw e
 
 -- a table that passes has room for its rows
-pub table-few : (c : Settings) (good : ℕ → Bool) (whose : Whose) (most : ℕ) (ws : List ℕ) → table-good c good whose most (entries-in ws) ≡ true → getD ws 0 0 ≤ most
+pub table-few : (c : Settings) (good : ℕ → Bool) (whose : Whose) (most : ℕ) (ws : List ℕ) → table-good c good whose most (entries-in ws) ≡ true
+    → getD ws 0 0 ≤ most
 unfolding table-good table-dec
 table-few c good whose most ws y =
     rw (length-rows 2 (entry-row .read) (getD ws 0 0) (drop 1 ws)) at (leb-true (length (entries-in ws)) most (and-l _ _ y))

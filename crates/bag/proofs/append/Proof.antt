@@ -24,8 +24,10 @@ returns : tie.Need-returns
 returns c =
     let s = c .before .before .before .before .before .before .before .before in
     c .before .before .insert-row .ensures
-    ∙ append-leaves (words (s .args .t .now)) (length-words (s .args .t .now) ∙ omega arith) (s .pre .0 .few) (c .before .before .before .before .before .read .result)
-    (relay (s .args .view) (s .args .bucket) (s .args .order) (s .args .block) (s .args .key)) (c .before .before .before .before .before .read .ensures) (s .pre .1)
+    ∙ append-leaves (words (s .args .t .now)) (length-words (s .args .t .now) ∙ omega arith) (s .pre .0 .few)
+    (c .before .before .before .before .before .read .result)
+    (relay (s .args .view) (s .args .bucket) (s .args .order) (s .args .block) (s .args .key)) (c .before .before .before .before .before .read .ensures)
+    (s .pre .1)
 
 pub append-spec : {M : Type 1} → statement M
 append-spec =

@@ -16,7 +16,8 @@ cell-requires c κs = search needs
 returns : tie.Need-returns
 returns c =
     let s = c .before .before in
-    c .cell .ensures ∙ ap (λ (r : List ℕ). getD r 3 0) (row-is (words (s .args .t .now)) (length-words (s .args .t .now) ∙ omega arith) (s .pre .0 .few) (s .args .i) (s .pre .1))
+    c .cell .ensures ∙ ap (λ (r : List ℕ). getD r 3 0) (row-is (words (s .args .t .now)) (length-words (s .args .t .now) ∙ omega arith) (s .pre .0 .few)
+    (s .args .i) (s .pre .1))
 
 pub block-at-spec : {M : Type 1} → statement M
 block-at-spec = tie.close (tie.spec cell-requires returns)

@@ -16,7 +16,8 @@ same-length c = search needs
 returns : tie.Need-returns
 returns c =
     let s = c .before .before .before .before .before in
-    c .before .before .remove-row .ensures ∙ remove-leaves (words (s .args .t .now)) (length-words (s .args .t .now) ∙ omega arith) (s .pre .0 .few) (s .args .i)
+    c .before .before .remove-row .ensures ∙ remove-leaves (words (s .args .t .now)) (length-words (s .args .t .now) ∙ omega arith) (s .pre .0 .few)
+    (s .args .i)
 
 pub remove-spec : {M : Type 1} → statement M
 remove-spec = tie.close (tie.spec remove-row-requires same-length returns)

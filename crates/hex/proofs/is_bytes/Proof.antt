@@ -17,7 +17,8 @@ all-digits-requires c κs = search needs
 
 returns-3 : tie.Need-returns-3
 returns-3 c =
-    c .all-digits .ensures ∙ sym (right-length (c .before .before .before .before .args .n) (c .before .before .before .before .args .digits .now) (omega arith))
+    let s = c .before .before .before .before in
+    c .all-digits .ensures ∙ sym (right-length (s .args .n) (s .args .digits .now) (omega arith))
 
 pub is-bytes-spec : {M : Type 1} → statement M
 is-bytes-spec = tie.close (tie.spec returns returns-2 all-digits-requires returns-3)

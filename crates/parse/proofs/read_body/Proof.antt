@@ -34,7 +34,9 @@ field-end-requires : tie.Need-field-end-requires
 field-end-requires c κs = search needs
 
 slice-aggregate-find-kind : tie.Need-slice-aggregate-find-kind
-slice-aggregate-find-kind c = sym (length-take-le (c .before .field-end .result) (c .before .before .before .args .body .now) (c .before .field-end .ensures .0))
+slice-aggregate-find-kind c =
+    let s = c .before .before .before in
+    sym (length-take-le (c .before .field-end .result) (s .args .body .now) (c .before .field-end .ensures .0))
 
 find-kind-requires : tie.Need-find-kind-requires
 find-kind-requires c κs = search needs
@@ -110,7 +112,8 @@ is-bytes-requires c κs = search needs
 
 returns-4 : tie.Need-returns-4
 returns-4 c =
-    let a = c .before .before .before .before .before .before .before .before .before .before .before .before .before .before .before .args in
+    let b = c .before .before .before .before .before .before .before .before .before .before .before .before .before .before .before in
+    let a = b .args in
     let s = a .body .now in
     let e = c .before .before .before .before .before .before .before .before .before .before .before .before .before .field-end .result in
     let k = c .before .before .before .before .before .before .before .before .before .before .before .find-kind .result in
@@ -130,7 +133,8 @@ returns-4 c =
     let g : next ≤ length s = omega arith in
     record {
       found =
-          body-loaded (a .size) s w fs k (r .numbers) (r .payload) q x y z (fields-from s next) t (drop next s) (from-within s next g) (c .before .before .before .before .if2 .taken) h;
+          body-loaded (a .size) s w fs k (r .numbers) (r .payload) q x y z (fields-from s next) t (drop next s) (from-within s next g)
+          (c .before .before .before .before .if2 .taken) h;
       within =
           g;
       hexadecimal = h;

@@ -37,8 +37,12 @@ fronted c =
       same = n .kept .1 .1 .1 .1 .0 ∙ w .kept .1 .0;
     }
 
-payload : (c : tie.After-put-numbers) → kind-at (c .before .before .before .before .before .before .before .before .before .args .kind) .payload ≡ c .before .before .before .before .before .before .shape-of .result .payload
-payload c = let r = c .before .before .before .before .before .before .shape-of in sym (row-payload (kind-at (c .before .before .before .before .before .before .before .before .before .args .kind)) (r .result) (r .ensures))
+payload : (c : tie.After-put-numbers)
+    → kind-at (c .before .before .before .before .before .before .before .before .before .args .kind) .payload
+    ≡ c .before .before .before .before .before .before .shape-of .result .payload
+payload c =
+    let s = c .before .before .before .before .before .before .before .before .before in
+    let r = c .before .before .before .before .before .before .shape-of in sym (row-payload (kind-at (s .args .kind)) (r .result) (r .ensures))
 
 shape-of-requires : tie.Need-shape-of-requires
 shape-of-requires c κs = search needs
@@ -87,11 +91,14 @@ same-length c = search needs
 
 returns : tie.Need-returns
 returns c =
-    let a = c .before .before .before .before .before .before .before .before .before .before .before .before .before .before .before .before .before .before .before .before .args in
+    let after-numbers = c .before .before .before .before .before .before .before .before .before .before .before in
+    let s = after-numbers .before .before .before .before .before .before .before .before .before in
+    let a = s .args in
     let d = a .«data» .now in
-    let f = fronted (c .before .before .before .before .before .before .before .before .before .before .before) in
+    let f = fronted after-numbers in
     let pay : kind-at (a .kind) .payload ≡ true =
-    payload (c .before .before .before .before .before .before .before .before .before .before .before) ∙ c .before .before .before .before .before .before .before .before .if1 .taken in
+    payload after-numbers
+    ∙ c .before .before .before .before .before .before .before .before .if1 .taken in
     let len = loaded-length (a .kind) (a .a) (a .b) (a .c) d pay in
     let q = c .before .before .before .before .before .before .put-data in
     let p = c .before .before .put in

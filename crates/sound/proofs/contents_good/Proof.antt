@@ -44,9 +44,12 @@ bag-good-requires c κs = search needs
 returns : tie.Need-returns
 unfolding buckets contents-good
 returns c =
-    let s = c .before .before .before .before .before .args .store .now in
-    let n = c .before .before .before .before .before .args .settings in
-    sym (no-first _ _ (no-first _ _ (ap (bag-good n (key-below (c .before .before .before .before .before .args .limits .now))) (ap (bag-codec .dec) (sym (lent s (8 * bag-at n) (8 * bag-at n + 8 * bag-words) (bag-at n) bag-words refl refl (omega arith)))) ∙ sym (c .before .bag-good .ensures) ∙ not-true _ (c .if1 .taken))))
+    let b = c .before .before .before .before .before in
+    let s = b .args .store .now in
+    let n = b .args .settings in
+    sym (no-first _ _ (no-first _ _ (ap (bag-good n (key-below (b .args .limits .now))) (ap (bag-codec .dec)
+    (sym (lent s (8 * bag-at n) (8 * bag-at n + 8 * bag-words) (bag-at n) bag-words refl refl (omega arith)))) ∙ sym (c .before .bag-good .ensures)
+    ∙ not-true _ (c .if1 .taken))))
 
 proxies-good-requires : tie.Need-proxies-good-requires
 unfolding buckets
@@ -63,9 +66,13 @@ places-good-requires c κs = search needs
 returns-3 : tie.Need-returns-3
 unfolding buckets contents-good
 returns-3 c =
-    let s = c .before .before .before .before .before .before .before .before .args .store .now in
-    let n = c .before .before .before .before .before .before .before .before .args .settings in
-    c .places-good .ensures ∙ sym (yes-first _ _ (both _ _ (ap (bag-good n (key-below (c .before .before .before .before .before .before .before .before .args .limits .now))) (ap (bag-codec .dec) (sym (lent s (8 * bag-at n) (8 * bag-at n + 8 * bag-words) (bag-at n) bag-words refl refl (omega arith)))) ∙ sym (c .before .before .before .before .bag-good .ensures) ∙ not-false _ (c .before .before .before .if1 .left)) (sym (c .before .before .proxies-good .ensures) ∙ not-false _ (c .before .if2 .left))))
+    let b = c .before .before .before .before .before .before .before .before in
+    let s = b .args .store .now in
+    let n = b .args .settings in
+    c .places-good .ensures ∙ sym (yes-first _ _ (both _ _ (ap (bag-good n (key-below (b .args .limits .now)))
+    (ap (bag-codec .dec) (sym (lent s (8 * bag-at n) (8 * bag-at n + 8 * bag-words) (bag-at n) bag-words refl refl (omega arith)))) ∙ sym
+    (c .before .before .before .before .bag-good .ensures) ∙ not-false _ (c .before .before .before .if1 .left))
+    (sym (c .before .before .proxies-good .ensures) ∙ not-false _ (c .before .if2 .left))))
 
 pub contents-good-spec : {M : Type 1} → statement M
 contents-good-spec =

@@ -47,44 +47,70 @@ enum-told c = search needs
 
 returns-3 : tie.Need-returns-3
 returns-3 c =
-    let s = c .before .before .before .before .before .before .before .before .before .before .args .store .now in
-    sym (limit-bytes s (settings-bad (words s) _ _ _ _ (c .before .before .before .before .before .before .read .ensures) (c .before .before .before .before .before .read2 .ensures) (c .before .before .before .before .read3 .ensures) (c .before .before .before .read4 .ensures) (sym (c .enum-told .given .1) ∙ c .before .before .new .ensures)))
+    let b = c .before .before .before .before .before .before .before .before .before .before in
+    let s = b .args .store .now in
+    sym (limit-bytes s (settings-bad (words s) _ _ _ _ (c .before .before .before .before .before .before .read .ensures)
+    (c .before .before .before .before .before .read2 .ensures) (c .before .before .before .before .read3 .ensures)
+    (c .before .before .before .read4 .ensures) (sym (c .enum-told .given .1) ∙ c .before .before .new .ensures)))
 
 store-words-requires : tie.Need-store-words-requires
 store-words-requires c κs =
-    let s = c .before .before .before .before .before .before .before .before .before .before .before .args .store .now in
+    let b = c .before .before .before .before .before .before .before .before .before .before .before in
+    let s = b .args .store .now in
     let n = c .before .settings .given .0 .0 in
-    let o = settings-own (words s) _ _ _ _ (c .before .before .before .before .before .before .before .read .ensures) (c .before .before .before .before .before .before .read2 .ensures) (c .before .before .before .before .before .read3 .ensures) (c .before .before .before .before .read4 .ensures) n (sym (c .before .settings .given .1) ∙ c .before .before .before .new .ensures) in
+    let o = settings-own (words s) _ _ _ _ (c .before .before .before .before .before .before .before .read .ensures)
+    (c .before .before .before .before .before .before .read2 .ensures) (c .before .before .before .before .before .read3 .ensures)
+    (c .before .before .before .before .read4 .ensures) n (sym (c .before .settings .given .1) ∙ c .before .before .before .new .ensures) in
     subst Limits (o .0) (limits _ (o .1))
 
 mul-if3 : tie.Need-mul-if3
 mul-if3 c =
-    let s = c .before .before .before .before .before .before .before .before .before .before .before .before .args .store .now in
+    let b = c .before .before .before .before .before .before .before .before .before .before .before .before in
+    let s = b .args .store .now in
     let n = c .before .before .settings .given .0 .0 in
-    let o = settings-own (words s) _ _ _ _ (c .before .before .before .before .before .before .before .before .read .ensures) (c .before .before .before .before .before .before .before .read2 .ensures) (c .before .before .before .before .before .before .read3 .ensures) (c .before .before .before .before .before .read4 .ensures) n (sym (c .before .before .settings .given .1) ∙ c .before .before .before .before .new .ensures) in
+    let o = settings-own (words s) _ _ _ _ (c .before .before .before .before .before .before .before .before .read .ensures)
+    (c .before .before .before .before .before .before .before .read2 .ensures) (c .before .before .before .before .before .before .read3 .ensures)
+    (c .before .before .before .before .before .read4 .ensures) n (sym (c .before .before .settings .given .1)
+    ∙ c .before .before .before .before .new .ensures) in
     omega (arith, store-small n (subst Limits (o .0) (limits _ (o .1))))
 
 returns-4 : tie.Need-returns-4
 returns-4 c =
-    let s = c .before .before .before .before .before .before .before .before .before .before .before .before .before .args .store .now in
+    let b = c .before .before .before .before .before .before .before .before .before .before .before .before .before in
+    let s = b .args .store .now in
     let n = c .before .before .before .settings .given .0 .0 in
-    let o = settings-own (words s) _ _ _ _ (c .before .before .before .before .before .before .before .before .before .read .ensures) (c .before .before .before .before .before .before .before .before .read2 .ensures) (c .before .before .before .before .before .before .before .read3 .ensures) (c .before .before .before .before .before .before .read4 .ensures) n (sym (c .before .before .before .settings .given .1) ∙ c .before .before .before .before .before .new .ensures) in
-    sym (other-bytes s (λ e. c .if3 .taken (e ∙ ap (λ (c : Settings). 8 * store-words c) (o .0) ∙ ap (λ (k : ℕ). 8 * k) (sym (c .before .store-words .ensures)))))
+    let o = settings-own (words s) _ _ _ _ (c .before .before .before .before .before .before .before .before .before .read .ensures)
+    (c .before .before .before .before .before .before .before .before .read2 .ensures)
+    (c .before .before .before .before .before .before .before .read3 .ensures) (c .before .before .before .before .before .before .read4 .ensures) n
+    (sym (c .before .before .before .settings .given .1) ∙ c .before .before .before .before .before .new .ensures) in
+    sym (other-bytes s (λ e. c .if3 .taken (e ∙ ap (λ (c : Settings). 8 * store-words c) (o .0) ∙ ap (λ (k : ℕ). 8 * k)
+    (sym (c .before .store-words .ensures)))))
 
 parts-good-requires : tie.Need-parts-good-requires
 parts-good-requires c κs =
-    let s = c .before .before .before .before .before .before .before .before .before .before .before .before .before .args .store .now in
+    let b = c .before .before .before .before .before .before .before .before .before .before .before .before .before in
+    let s = b .args .store .now in
     let n = c .before .before .before .settings .given .0 .0 in
-    let o = settings-own (words s) _ _ _ _ (c .before .before .before .before .before .before .before .before .before .read .ensures) (c .before .before .before .before .before .before .before .before .read2 .ensures) (c .before .before .before .before .before .before .before .read3 .ensures) (c .before .before .before .before .before .before .read4 .ensures) n (sym (c .before .before .before .settings .given .1) ∙ c .before .before .before .before .before .new .ensures) in
+    let o = settings-own (words s) _ _ _ _ (c .before .before .before .before .before .before .before .before .before .read .ensures)
+    (c .before .before .before .before .before .before .before .before .read2 .ensures)
+    (c .before .before .before .before .before .before .before .read3 .ensures) (c .before .before .before .before .before .before .read4 .ensures) n
+    (sym (c .before .before .before .settings .given .1) ∙ c .before .before .before .before .before .new .ensures) in
     record { small = subst Limits (o .0) (limits _ (o .1)); size = c .if3 .left ∙ ap (λ (k : ℕ). 8 * k) (c .before .store-words .ensures); own = o .0 }
 
 returns-5 : tie.Need-returns-5
 returns-5 c =
-    let s = c .before .before .before .before .before .before .before .before .before .before .before .before .before .before .args .store .now in
+    let b = c .before .before .before .before .before .before .before .before .before .before .before .before .before .before in
+    let known = c .before .before .before .before .before .before .before .before .before .before .before .before .before .shared-slice-known in
+    let s = b .args .store .now in
     let n = c .before .before .before .before .settings .given .0 .0 in
-    let o = settings-own (words s) _ _ _ _ (c .before .before .before .before .before .before .before .before .before .before .read .ensures) (c .before .before .before .before .before .before .before .before .before .read2 .ensures) (c .before .before .before .before .before .before .before .before .read3 .ensures) (c .before .before .before .before .before .before .before .read4 .ensures) n (sym (c .before .before .before .before .settings .given .1) ∙ c .before .before .before .before .before .before .new .ensures) in
+    let o = settings-own (words s) _ _ _ _ (c .before .before .before .before .before .before .before .before .before .before .read .ensures)
+    (c .before .before .before .before .before .before .before .before .before .read2 .ensures)
+    (c .before .before .before .before .before .before .before .before .read3 .ensures)
+    (c .before .before .before .before .before .before .before .read4 .ensures) n (sym (c .before .before .before .before .settings .given .1)
+    ∙ c .before .before .before .before .before .before .new .ensures) in
     let size = c .before .if3 .left ∙ ap (λ (k : ℕ). 8 * k) (c .before .before .store-words .ensures) ∙ ap (λ (c : Settings). 8 * store-words c) (sym (o .0)) in
-    c .parts-good .ensures ∙ ap (λ (c : Settings). parts-good c (sound-key (decode (words s))) (words s)) (sym (o .0)) ∙ parts-bytes s (below-of 256 s (λ i. c .before .before .before .before .before .before .before .before .before .before .before .before .before .shared-slice-known .given i .fits)) size (o .1)
+    c .parts-good .ensures ∙ ap (λ (c : Settings). parts-good c (sound-key (decode (words s))) (words s)) (sym (o .0)) ∙ parts-bytes s
+    (below-of 256 s (λ i. known .given i .fits)) size (o .1)
 
 pub is-sound-spec : {M : Type 1} → statement M
 is-sound-spec =

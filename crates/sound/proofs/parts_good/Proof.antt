@@ -40,16 +40,21 @@ all-agreed-good-requires c κs = search needs
 returns-2 : tie.Need-returns-2
 unfolding parts-good
 returns-2 c =
-    let n = c .before .before .before .before .before .before .args .settings in
-    let ws = words (c .before .before .before .before .before .before .args .store .now) in
-    sym (no-first _ _ (no-second _ _ (ap (λ (k : ℕ). all-below (buckets n) (agreed-at-good k ws)) (sym (c .before .before .read .ensures)) ∙ sym (c .before .all-agreed-good .ensures) ∙ not-true _ (c .if2 .taken))))
+    let s = c .before .before .before .before .before .before in
+    let n = s .args .settings in
+    let ws = words (s .args .store .now) in
+    sym (no-first _ _ (no-second _ _ (ap (λ (k : ℕ). all-below (buckets n) (agreed-at-good k ws)) (sym (c .before .before .read .ensures)) ∙ sym
+    (c .before .all-agreed-good .ensures) ∙ not-true _ (c .if2 .taken))))
 
 slice-aggregate-fill-given : tie.Need-slice-aggregate-fill-given
 unfolding buckets
 slice-aggregate-fill-given c = search needs
 
 fill-given-requires : tie.Need-fill-given-requires
-fill-given-requires c κs = let few : getD (words (c .before .before .before .before .before .before .before .args .store .now)) given-at 0 ≤ max-id = header-given _ _ (sym (c .before .before .before .before .before .header-good .ensures) ∙ not-false _ (c .before .before .before .before .if1 .left)) in search needs
+fill-given-requires c κs =
+    let s = c .before .before .before .before .before .before .before in
+    let few : getD (words (s .args .store .now)) given-at 0 ≤ max-id = header-given _ _ (sym
+    (c .before .before .before .before .before .header-good .ensures) ∙ not-false _ (c .before .before .before .before .if1 .left)) in search needs
 
 slice-aggregate-fill-places : tie.Need-slice-aggregate-fill-places
 unfolding buckets
@@ -57,8 +62,11 @@ slice-aggregate-fill-places c = search needs
 
 fill-places-requires : tie.Need-fill-places-requires
 fill-places-requires c κs =
-    let few : getD (words (c .before .before .before .before .before .before .before .before .before .before .args .store .now)) given-at 0 ≤ max-id = header-given _ _ (sym (c .before .before .before .before .before .before .before .before .header-good .ensures) ∙ not-false _ (c .before .before .before .before .before .before .before .if1 .left)) in
-    record { known = c .before .before .fill-given .ensures .long; few = omega arith; small = c .before .before .before .before .before .before .before .before .before .before .pre .small; size = c .before .before .before .before .before .before .before .before .before .before .pre .size }
+    let s = c .before .before .before .before .before .before .before .before .before .before in
+    let few : getD (words (s .args .store .now)) given-at 0 ≤ max-id = header-given _ _ (sym
+    (c .before .before .before .before .before .before .before .before .header-good .ensures) ∙ not-false _
+    (c .before .before .before .before .before .before .before .if1 .left)) in
+    record { known = c .before .before .fill-given .ensures .long; few = omega arith; small = s .pre .small; size = s .pre .size }
 
 slice-aggregate-contents-good : tie.Need-slice-aggregate-contents-good
 unfolding buckets
@@ -66,20 +74,34 @@ slice-aggregate-contents-good c = search needs
 
 contents-good-requires : tie.Need-contents-good-requires
 contents-good-requires c κs =
+    let s = c .before .before .before .before .before .before .before .before .before .before .before .before .before in
     record {
       known = c .before .before .fill-places .ensures .long ∙ c .before .before .before .before .before .fill-given .ensures .long;
-      none = zero-limit _ (words (c .before .before .before .before .before .before .before .before .before .before .before .before .before .args .store .now)) _ _ _ _ _ (zeros ids) (c .before .before .before .before .before .fill-given .ensures) (c .before .before .fill-places .ensures);
-      small = c .before .before .before .before .before .before .before .before .before .before .before .before .before .pre .small;
-      size = c .before .before .before .before .before .before .before .before .before .before .before .before .before .pre .size;
+      none = zero-limit _ (words (s .args .store .now)) _ _ _ _ _ (zeros ids) (c .before .before .before .before .before .fill-given .ensures)
+          (c .before .before .fill-places .ensures);
+      small = s .pre .small;
+      size = s .pre .size;
     }
 
 returns-3 : tie.Need-returns-3
 unfolding parts-good
 returns-3 c =
-    let n = c .before .before .before .before .before .before .before .before .before .before .before .before .before .before .args .settings in
-    let ws = words (c .before .before .before .before .before .before .before .before .before .before .before .before .before .before .args .store .now) in
-    let keys = keys-below ws n (c .before .before .before .before .before .before .before .before .before .before .before .before .before .before .pre .own) _ _ _ _ (zeros ids) (c .before .before .before .before .before .before .fill-given .ensures) (length-words (c .before .before .before .before .before .before .before .before .before .before .before .before .before .before .args .store .now) ∙ omega arith) (c .before .before .before .before .before .before .before .before .before .before .read .ensures) (c .before .before .before .fill-places .ensures) in
-    c .contents-good .ensures ∙ ap (λ (good : ℕ → Bool). contents-good n good (c .before .before .before .before .before .before .before .before .before .before .read .result) ws) keys ∙ ap (λ (k : ℕ). contents-good n (sound-key (decode ws)) k ws) (c .before .before .before .before .before .before .before .before .before .before .read .ensures) ∙ sym (yes-first _ _ (both _ _ (sym (c .before .before .before .before .before .before .before .before .before .before .before .before .header-good .ensures) ∙ not-false _ (c .before .before .before .before .before .before .before .before .before .before .before .if1 .left)) (ap (λ (k : ℕ). all-below (buckets n) (agreed-at-good k ws)) (sym (c .before .before .before .before .before .before .before .before .before .before .read .ensures)) ∙ sym (c .before .before .before .before .before .before .before .before .before .all-agreed-good .ensures) ∙ not-false _ (c .before .before .before .before .before .before .before .before .if2 .left))))
+    let s = c .before .before .before .before .before .before .before .before .before .before .before .before .before .before in
+    let n = s .args .settings in
+    let ws = words (s .args .store .now) in
+    let keys = keys-below ws n (s .pre .own) _ _ _ _ (zeros ids) (c .before .before .before .before .before .before .fill-given .ensures)
+    (length-words (s .args .store .now) ∙ omega arith) (c .before .before .before .before .before .before .before .before .before .before .read .ensures)
+    (c .before .before .before .fill-places .ensures) in
+    c .contents-good .ensures ∙ ap (λ (good : ℕ → Bool). contents-good n good
+    (c .before .before .before .before .before .before .before .before .before .before .read .result) ws) keys ∙ ap
+    (λ (k : ℕ). contents-good n (sound-key (decode ws)) k ws)
+    (c .before .before .before .before .before .before .before .before .before .before .read .ensures) ∙ sym
+    (yes-first _ _ (both _ _ (sym (c .before .before .before .before .before .before .before .before .before .before .before .before .header-good .ensures)
+    ∙ not-false _ (c .before .before .before .before .before .before .before .before .before .before .before .if1 .left))
+    (ap (λ (k : ℕ). all-below (buckets n) (agreed-at-good k ws))
+    (sym (c .before .before .before .before .before .before .before .before .before .before .read .ensures)) ∙ sym
+    (c .before .before .before .before .before .before .before .before .before .all-agreed-good .ensures) ∙ not-false _
+    (c .before .before .before .before .before .before .before .before .if2 .left))))
 
 pub parts-good-spec : {M : Type 1} → statement M
 parts-good-spec =

@@ -36,7 +36,19 @@ read-requires-8 c κs = search needs
 
 returns : tie.Need-returns
 unfolding agreed-good _and_
-returns c = rw (c .before .before .before .before .before .before .before .pair-good .ensures, c .before .before .before .before .pair-good2 .ensures, c .before .before .before .before .before .before .before .before .before .read .ensures, c .before .before .before .before .before .before .before .before .read2 .ensures, c .before .before .before .before .before .before .read3 .ensures, c .before .before .before .before .before .read4 .ensures, c .before .before .before .read5 .ensures, c .before .before .read6 .ensures, c .before .read7 .ensures, c .read8 .ensures)
+returns c =
+    rw (
+      c .before .before .before .before .before .before .before .pair-good .ensures,
+      c .before .before .before .before .pair-good2 .ensures,
+      c .before .before .before .before .before .before .before .before .before .read .ensures,
+      c .before .before .before .before .before .before .before .before .read2 .ensures,
+      c .before .before .before .before .before .before .read3 .ensures,
+      c .before .before .before .before .before .read4 .ensures,
+      c .before .before .before .read5 .ensures,
+      c .before .before .read6 .ensures,
+      c .before .read7 .ensures,
+      c .read8 .ensures,
+    )
 
 pub agreed-good-spec : {M : Type 1} → statement M
 agreed-good-spec =

@@ -62,9 +62,12 @@ agreed-good-requires c κs = search needs
 returns : tie.Need-returns Inv-loop μ-loop
 unfolding buckets agreed-at-good
 returns c =
-    let s = c .before .before .before .before .before .before .args .store .now in
+    let b = c .before .before .before .before .before .before in
+    let s = b .args .store .now in
     let a = 8 * agreed-at (c .before .before .before .before .loop .g) in
-    sym (all-false _ _ (c .before .before .before .before .loop .g) (search needs) (ap (agreed-good (c .before .before .before .before .before .before .args .given)) (sym (lent s a (a + 8 * agreed-words) (agreed-at (c .before .before .before .before .loop .g)) agreed-words (omega arith) refl (omega arith))) ∙ sym (c .before .agreed-good .ensures) ∙ not-true _ (c .if1 .taken)))
+    sym (all-false _ _ (c .before .before .before .before .loop .g) (search needs) (ap (agreed-good (b .args .given))
+    (sym (lent s a (a + 8 * agreed-words) (agreed-at (c .before .before .before .before .loop .g)) agreed-words (omega arith) refl (omega arith))) ∙ sym
+    (c .before .agreed-good .ensures) ∙ not-true _ (c .if1 .taken)))
 
 add-g : tie.Need-add-g Inv-loop μ-loop
 unfolding buckets
@@ -77,9 +80,14 @@ loop-less c = search needs
 loop-again : tie.Need-loop-again Inv-loop μ-loop
 unfolding buckets agreed-at-good
 loop-again c =
-    let s = c .before .before .before .before .before .before .args .store .now in
-    let a = 8 * agreed-at (c .before .before .before .before .loop .g) in
-    (search needs, below-more _ (c .before .before .before .before .loop .g) (c .before .before .before .before .loop .inv .1) (ap (agreed-good (c .before .before .before .before .before .before .args .given)) (sym (lent s a (a + 8 * agreed-words) (agreed-at (c .before .before .before .before .loop .g)) agreed-words (omega arith) refl (omega arith))) ∙ sym (c .before .agreed-good .ensures) ∙ not-false _ (c .if1 .left)))
+    let b = c .before .before .before .before .before .before in
+    let s = b .args .store .now in
+    let a = 8 * agreed-at (c .before .before .before .before .loop .g) in (
+      search needs,
+      below-more _ (c .before .before .before .before .loop .g) (c .before .before .before .before .loop .inv .1)
+          (ap (agreed-good (b .args .given)) (sym (lent s a (a + 8 * agreed-words) (agreed-at (c .before .before .before .before .loop .g)) agreed-words
+          (omega arith) refl (omega arith))) ∙ sym (c .before .agreed-good .ensures) ∙ not-false _ (c .if1 .left)),
+    )
 
 returns-2 : tie.Need-returns-2 Inv-loop μ-loop
 unfolding buckets

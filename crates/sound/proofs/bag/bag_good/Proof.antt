@@ -13,7 +13,9 @@ use Rattle.sound.proofs.bag.bag_good.Statement.{statement}
 use Rattle.sound.proofs.bag.bag_good.Tie as tie
 
 abbrev Inv-loop : tie.InvT-loop
-Inv-loop settings limits bag count i₀ i = (i ≤ count) × (bag-good settings (key-below limits) (bag-codec .dec (words bag)) ≡ relays-left settings (key-below limits) (words bag) (getD (words bag) 0 0) refl i)
+Inv-loop settings limits bag count i₀ i =
+    (i ≤ count) × (bag-good settings (key-below limits) (bag-codec .dec (words bag)) ≡ relays-left settings (key-below limits) (words bag)
+    (getD (words bag) 0 0) refl i)
 
 abbrev μ-loop : tie.MeasureT-loop
 μ-loop settings limits bag count i₀ i = count - i
@@ -31,7 +33,10 @@ relay-good-requires : tie.Need-relay-good-requires Inv-loop μ-loop
 relay-good-requires c κs = search needs
 
 returns-2 : tie.Need-returns-2 Inv-loop μ-loop
-returns-2 c = sym (c .before .before .before .loop .inv .1 ∙ bag-bad _ _ (words (c .before .before .before .before .before .before .before .before .args .bag .now)) _ refl (c .before .before .before .loop .i) (omega arith) (sym (c .before .relay-good .ensures) ∙ not-true _ (c .if2 .taken)))
+returns-2 c =
+    let s = c .before .before .before .before .before .before .before .before in
+    sym (c .before .before .before .loop .inv .1 ∙ bag-bad _ _ (words (s .args .bag .now)) _ refl (c .before .before .before .loop .i) (omega arith)
+    (sym (c .before .relay-good .ensures) ∙ not-true _ (c .if2 .taken)))
 
 add-i : tie.Need-add-i Inv-loop μ-loop
 add-i c = search needs
@@ -40,10 +45,17 @@ loop-less : tie.Need-loop-less Inv-loop μ-loop
 loop-less c = search needs
 
 loop-again : tie.Need-loop-again Inv-loop μ-loop
-loop-again c = (search needs, c .before .before .before .loop .inv .1 ∙ bag-next _ _ (words (c .before .before .before .before .before .before .before .before .args .bag .now)) _ refl (c .before .before .before .loop .i) (omega arith) (sym (c .before .relay-good .ensures) ∙ not-false _ (c .if2 .left)))
+loop-again c =
+    let s = c .before .before .before .before .before .before .before .before in (
+      search needs,
+      c .before .before .before .loop .inv .1 ∙ bag-next _ _ (words (s .args .bag .now)) _ refl (c .before .before .before .loop .i)
+          (omega arith) (sym (c .before .relay-good .ensures) ∙ not-false _ (c .if2 .left)),
+    )
 
 returns-3 : tie.Need-returns-3 Inv-loop μ-loop
-returns-3 c = sym (c .before .loop .inv .1 ∙ bag-end _ _ (words (c .before .before .before .before .before .before .args .bag .now)) _ refl (c .before .loop .i) (omega arith) (omega arith))
+returns-3 c =
+    let s = c .before .before .before .before .before .before in
+    sym (c .before .loop .inv .1 ∙ bag-end _ _ (words (s .args .bag .now)) _ refl (c .before .loop .i) (omega arith) (omega arith))
 
 pub bag-good-spec : {M : Type 1} → statement M
 bag-good-spec =

@@ -45,7 +45,16 @@ key-below-requires c κs = search needs
 
 returns : tie.Need-returns
 unfolding relay-good _and_
-returns c = rw (c .key-below .ensures, c .before .before .bucket .ensures, c .before .before .before .before .before .before .read .ensures, c .before .before .before .before .before .read2 .ensures, c .before .before .before .before .read3 .ensures, c .before .before .before .read4 .ensures, c .before .read5 .ensures)
+returns c =
+    rw (
+      c .key-below .ensures,
+      c .before .before .bucket .ensures,
+      c .before .before .before .before .before .before .read .ensures,
+      c .before .before .before .before .before .read2 .ensures,
+      c .before .before .before .before .read3 .ensures,
+      c .before .before .before .read4 .ensures,
+      c .before .read5 .ensures,
+    )
 
 pub relay-good-spec : {M : Type 1} → statement M
 relay-good-spec =

@@ -22,7 +22,9 @@ returns-2 : tie.Need-returns-2
 returns-2 c =
     let s = c .before .before .before .before .before in
     let k = s .pre .small in
-    c .pass .ensures ∙ sym (log-pass _ (key-below (s .args .limits .now)) (words (s .args .log .now)) (length-words (s .args .log .now) ∙ omega (arith, s .pre .size)) (zero-not-below (s .args .limits .now) (s .pre .none)) _ (c .before .before .read .ensures) (c .before .if1 .left))
+    c .pass .ensures ∙ sym (log-pass _ (key-below (s .args .limits .now)) (words (s .args .log .now))
+    (length-words (s .args .log .now) ∙ omega (arith, s .pre .size)) (zero-not-below (s .args .limits .now) (s .pre .none)) _
+    (c .before .before .read .ensures) (c .before .if1 .left))
 
 pub log-good-spec : {M : Type 1} → statement M
 log-good-spec = tie.close (tie.spec read-requires returns pass-requires returns-2)

@@ -16,7 +16,8 @@ use Rattle.sound.proofs.copies.all_copies_good.Statement.{statement}
 use Rattle.sound.proofs.copies.all_copies_good.Tie as tie
 
 abbrev Inv-loop : tie.InvT-loop
-Inv-loop settings limits up copies size g₀ g = (g ≤ buckets settings) × ((k : ℕ) → k < g → copies-at-good settings (key-below limits) up (words copies) k ≡ true)
+Inv-loop settings limits up copies size g₀ g =
+    (g ≤ buckets settings) × ((k : ℕ) → k < g → copies-at-good settings (key-below limits) up (words copies) k ≡ true)
 
 abbrev μ-loop : tie.MeasureT-loop
 μ-loop settings limits up copies size g₀ g = buckets settings - g
@@ -64,9 +65,14 @@ copies-good-requires c κs = search needs
 returns : tie.Need-returns Inv-loop μ-loop
 unfolding buckets
 returns c =
-    let s = c .before .before .before .before .before .before .before .before .before .args .copies .now in
+    let b = c .before .before .before .before .before .before .before .before .before in
+    let s = b .args .copies .now in
     let a = 8 * c .before .before .before .offset .result in
-    sym (all-false _ _ (c .before .before .before .before .before .loop .g) (search needs) (copies-part _ _ _ (words s) _ (c .before .before .before .before .before .loop .g) (lent s a (a + 8 * c .before .before .before .before .before .before .copies-words .result) (c .before .before .before .before .before .loop .g * c .before .before .before .before .before .before .copies-words .result) (c .before .before .before .before .before .before .copies-words .result) (omega arith) refl (omega arith) ∙ rw (c .before .before .before .before .before .before .copies-words .ensures)) ∙ sym (c .before .copies-good .ensures) ∙ not-true _ (c .if1 .taken)))
+    sym (all-false _ _ (c .before .before .before .before .before .loop .g) (search needs) (copies-part _ _ _ (words s) _
+    (c .before .before .before .before .before .loop .g) (lent s a (a + 8 * c .before .before .before .before .before .before .copies-words .result)
+    (c .before .before .before .before .before .loop .g * c .before .before .before .before .before .before .copies-words .result)
+    (c .before .before .before .before .before .before .copies-words .result) (omega arith) refl (omega arith) ∙ rw
+    (c .before .before .before .before .before .before .copies-words .ensures)) ∙ sym (c .before .copies-good .ensures) ∙ not-true _ (c .if1 .taken)))
 
 add-g : tie.Need-add-g Inv-loop μ-loop
 unfolding buckets
@@ -79,9 +85,17 @@ loop-less c = search needs
 loop-again : tie.Need-loop-again Inv-loop μ-loop
 unfolding buckets
 loop-again c =
-    let s = c .before .before .before .before .before .before .before .before .before .args .copies .now in
-    let a = 8 * c .before .before .before .offset .result in
-    (search needs, below-more _ (c .before .before .before .before .before .loop .g) (c .before .before .before .before .before .loop .inv .1) (copies-part _ _ _ (words s) _ (c .before .before .before .before .before .loop .g) (lent s a (a + 8 * c .before .before .before .before .before .before .copies-words .result) (c .before .before .before .before .before .loop .g * c .before .before .before .before .before .before .copies-words .result) (c .before .before .before .before .before .before .copies-words .result) (omega arith) refl (omega arith) ∙ rw (c .before .before .before .before .before .before .copies-words .ensures)) ∙ sym (c .before .copies-good .ensures) ∙ not-false _ (c .if1 .left)))
+    let b = c .before .before .before .before .before .before .before .before .before in
+    let s = b .args .copies .now in
+    let a = 8 * c .before .before .before .offset .result in (
+      search needs,
+      below-more _ (c .before .before .before .before .before .loop .g) (c .before .before .before .before .before .loop .inv .1)
+          (copies-part _ _ _ (words s) _ (c .before .before .before .before .before .loop .g) (lent s a
+          (a + 8 * c .before .before .before .before .before .before .copies-words .result)
+          (c .before .before .before .before .before .loop .g * c .before .before .before .before .before .before .copies-words .result)
+          (c .before .before .before .before .before .before .copies-words .result) (omega arith) refl (omega arith) ∙ rw
+          (c .before .before .before .before .before .before .copies-words .ensures)) ∙ sym (c .before .copies-good .ensures) ∙ not-false _ (c .if1 .left)),
+    )
 
 returns-2 : tie.Need-returns-2 Inv-loop μ-loop
 unfolding buckets

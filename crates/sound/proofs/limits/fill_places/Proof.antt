@@ -43,9 +43,17 @@ loop-less c = search needs
 
 loop-again : tie.Need-loop-again Inv-loop μ-loop
 loop-again c =
+    let s = c .before .before .before .before .before .before .before .before .before .before .before .before in
     let e = c .before .before .before .before .before .before .place-at .ensures .0 in
-    let ws = words (c .before .before .before .before .before .before .before .before .before .before .before .before .args .store .now) in
-    (search needs, rw (c .before .before .set-limit .ensures) (fill-turn _ _ ws _ (c .before .before .before .before .before .before .before .before .before .loop .p) _ (omega (arith, c .before .before .before .before .before .before .before .before .before .loop .inv .1 .long)) (c .before .before .before .before .before .before .before .before .before .loop .inv .1) _ _ (c .before .before .before .before .read .ensures ∙ ap (λ (k : ℕ). getD ws k 0) e) (c .before .before .before .read2 .ensures ∙ ap (λ (k : ℕ). getD ws (k + next-at) 0) e)))
+    let ws = words (s .args .store .now) in (
+      search needs,
+      rw (c .before .before .set-limit .ensures)
+          (fill-turn _ _ ws _ (c .before .before .before .before .before .before .before .before .before .loop .p) _
+          (omega (arith, c .before .before .before .before .before .before .before .before .before .loop .inv .1 .long))
+          (c .before .before .before .before .before .before .before .before .before .loop .inv .1) _ _
+          (c .before .before .before .before .read .ensures ∙ ap (λ (k : ℕ). getD ws k 0) e) (c .before .before .before .read2 .ensures ∙ ap
+          (λ (k : ℕ). getD ws (k + next-at) 0) e)),
+    )
 
 same-length : tie.Need-same-length Inv-loop μ-loop
 same-length c = search needs

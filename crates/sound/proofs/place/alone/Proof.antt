@@ -29,7 +29,8 @@ read-requires c κs = search needs
 
 returns : tie.Need-returns Inv-loop μ-loop
 returns c =
-    let r = c .before .read .ensures ∙ ap (λ (k : ℕ). getD (words (c .before .before .before .before .before .before .args .store .now)) k 0) (c .before .before .place-at .ensures .0) in
+    let s = c .before .before .before .before .before .before in
+    let r = c .before .read .ensures ∙ ap (λ (k : ℕ). getD (words (s .args .store .now)) k 0) (c .before .before .place-at .ensures .0) in
     sym (all-false _ _ (c .before .before .before .before .loop .q) (search needs) (ap not (eq-eqb _ _ (sym r ∙ c .if1 .taken))))
 
 add-q : tie.Need-add-q Inv-loop μ-loop
@@ -40,8 +41,12 @@ loop-less c = search needs
 
 loop-again : tie.Need-loop-again Inv-loop μ-loop
 loop-again c =
-    let r = c .before .read .ensures ∙ ap (λ (k : ℕ). getD (words (c .before .before .before .before .before .before .args .store .now)) k 0) (c .before .before .place-at .ensures .0) in
-    (search needs, below-more _ (c .before .before .before .before .loop .q) (c .before .before .before .before .loop .inv .1) (ap not (ne-eqb _ _ (λ z. c .if1 .left (r ∙ z)))))
+    let s = c .before .before .before .before .before .before in
+    let r = c .before .read .ensures ∙ ap (λ (k : ℕ). getD (words (s .args .store .now)) k 0) (c .before .before .place-at .ensures .0) in (
+      search needs,
+      below-more _ (c .before .before .before .before .loop .q) (c .before .before .before .before .loop .inv .1)
+          (ap not (ne-eqb _ _ (λ z. c .if1 .left (r ∙ z)))),
+    )
 
 returns-2 : tie.Need-returns-2 Inv-loop μ-loop
 returns-2 c = sym (all-true _ _ (λ k h. c .before .loop .inv .1 k (omega arith)))

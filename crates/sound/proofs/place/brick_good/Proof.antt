@@ -40,10 +40,12 @@ buffer-good-requires c κs = search needs
 returns-2 : tie.Need-returns-2
 unfolding brick-good
 returns-2 c =
-    let s = c .before .before .before .before .before .before .before .args .place .now in
-    let n = c .before .before .before .before .before .before .before .args .settings in
+    let at-start = c .before .before .before .before .before .before .before in
+    let s = at-start .args .place .now in
+    let n = at-start .args .settings in
     let up = ap (λ (k : ℕ). eqb k 1) (c .before .before .read .ensures) in
-    sym (no-first _ _ (no-first _ _ (no-second _ _ (ap (λ (b : Bool). buffer-good n (key-below (c .before .before .before .before .before .before .before .args .limits .now)) b (words s)) (sym up) ∙ sym (c .before .buffer-good .ensures) ∙ not-true _ (c .if2 .taken)))))
+    sym (no-first _ _ (no-first _ _ (no-second _ _ (ap (λ (b : Bool). buffer-good n (key-below (at-start .args .limits .now)) b (words s)) (sym up) ∙ sym
+    (c .before .buffer-good .ensures) ∙ not-true _ (c .if2 .taken)))))
 
 mul-from : tie.Need-mul-from
 unfolding buckets
@@ -76,10 +78,15 @@ all-copies-good-requires c κs = search needs
 returns-3 : tie.Need-returns-3
 unfolding brick-good buckets
 returns-3 c =
-    let s = c .before .before .before .before .before .before .before .before .before .before .before .args .place .now in
-    let n = c .before .before .before .before .before .before .before .before .before .before .before .args .settings in
+    let at-start = c .before .before .before .before .before .before .before .before .before .before .before in
+    let s = at-start .args .place .now in
+    let n = at-start .args .settings in
     let up = ap (λ (k : ℕ). eqb k 1) (c .before .before .before .before .before .before .read .ensures) in
-    sym (no-first _ _ (no-second _ _ (ap (λ (b : Bool). all-below (buckets n) (copies-at-good n (key-below (c .before .before .before .before .before .before .before .before .before .before .before .args .limits .now)) b (run all-copies-at (all-copies-codec n .size) (words s)))) (sym up) ∙ ap (λ (v : List ℕ). all-below (buckets n) (copies-at-good n (key-below (c .before .before .before .before .before .before .before .before .before .before .before .args .limits .now)) (eqb (c .before .before .before .before .before .before .read .result) 1) v)) (sym (lent s (8 * all-copies-at) (8 * c .before .before .before .log-at .result) all-copies-at (all-copies-codec n .size) refl (omega arith) (omega arith))) ∙ sym (c .before .all-copies-good .ensures) ∙ not-true _ (c .if3 .taken))))
+    sym (no-first _ _ (no-second _ _ (ap (λ (b : Bool). all-below (buckets n) (copies-at-good n (key-below (at-start .args .limits .now)) b
+    (run all-copies-at (all-copies-codec n .size) (words s)))) (sym up) ∙ ap (λ (v : List ℕ). all-below (buckets n)
+    (copies-at-good n (key-below (at-start .args .limits .now)) (eqb (c .before .before .before .before .before .before .read .result) 1) v))
+    (sym (lent s (8 * all-copies-at) (8 * c .before .before .before .log-at .result) all-copies-at (all-copies-codec n .size) refl (omega arith)
+    (omega arith))) ∙ sym (c .before .all-copies-good .ensures) ∙ not-true _ (c .if3 .taken))))
 
 place-words-requires : tie.Need-place-words-requires
 unfolding buckets
@@ -108,10 +115,23 @@ log-good-requires c κs = search needs
 returns-4 : tie.Need-returns-4
 unfolding brick-good buckets
 returns-4 c =
-    let s = c .before .before .before .before .before .before .before .before .before .before .before .before .before .before .args .place .now in
-    let n = c .before .before .before .before .before .before .before .before .before .before .before .before .before .before .args .settings in
+    let at-start = c .before .before .before .before .before .before .before .before .before .before .before .before .before .before in
+    let s = at-start .args .place .now in
+    let n = at-start .args .settings in
     let up = ap (λ (k : ℕ). eqb k 1) (c .before .before .before .before .before .before .before .before .before .read .ensures) in
-    c .log-good .ensures ∙ ap (log-good n (key-below (c .before .before .before .before .before .before .before .before .before .before .before .before .before .before .args .limits .now))) (lent s (8 * c .before .before .before .before .before .before .log-at .result) (8 * c .before .before .place-words .result) (log-at n) (log-words n) (omega arith) (omega arith) (omega arith)) ∙ sym (yes-first _ _ (both _ _ (both _ _ (sym (c .before .before .before .before .before .before .before .before .before .before .before .status-good .ensures) ∙ not-false _ (c .before .before .before .before .before .before .before .before .before .before .if1 .left)) (ap (λ (b : Bool). buffer-good n (key-below (c .before .before .before .before .before .before .before .before .before .before .before .before .before .before .args .limits .now)) b (words s)) (sym up) ∙ sym (c .before .before .before .before .before .before .before .before .buffer-good .ensures) ∙ not-false _ (c .before .before .before .before .before .before .before .if2 .left))) (ap (λ (b : Bool). all-below (buckets n) (copies-at-good n (key-below (c .before .before .before .before .before .before .before .before .before .before .before .before .before .before .args .limits .now)) b (run all-copies-at (all-copies-codec n .size) (words s)))) (sym up) ∙ ap (λ (v : List ℕ). all-below (buckets n) (copies-at-good n (key-below (c .before .before .before .before .before .before .before .before .before .before .before .before .before .before .args .limits .now)) (eqb (c .before .before .before .before .before .before .before .before .before .read .result) 1) v)) (sym (lent s (8 * all-copies-at) (8 * c .before .before .before .before .before .before .log-at .result) all-copies-at (all-copies-codec n .size) refl (omega arith) (omega arith))) ∙ sym (c .before .before .before .before .all-copies-good .ensures) ∙ not-false _ (c .before .before .before .if3 .left))))
+    c .log-good .ensures ∙ ap (log-good n (key-below (at-start .args .limits .now))) (lent s
+    (8 * c .before .before .before .before .before .before .log-at .result) (8 * c .before .before .place-words .result) (log-at n) (log-words n)
+    (omega arith) (omega arith) (omega arith)) ∙ sym (yes-first _ _ (both _ _ (both _ _ (sym
+    (c .before .before .before .before .before .before .before .before .before .before .before .status-good .ensures) ∙ not-false _
+    (c .before .before .before .before .before .before .before .before .before .before .if1 .left))
+    (ap (λ (b : Bool). buffer-good n (key-below (at-start .args .limits .now)) b (words s)) (sym up) ∙ sym
+    (c .before .before .before .before .before .before .before .before .buffer-good .ensures) ∙ not-false _
+    (c .before .before .before .before .before .before .before .if2 .left))) (ap (λ (b : Bool). all-below (buckets n)
+    (copies-at-good n (key-below (at-start .args .limits .now)) b (run all-copies-at (all-copies-codec n .size) (words s)))) (sym up) ∙ ap
+    (λ (v : List ℕ). all-below (buckets n) (copies-at-good n (key-below (at-start .args .limits .now))
+    (eqb (c .before .before .before .before .before .before .before .before .before .read .result) 1) v))
+    (sym (lent s (8 * all-copies-at) (8 * c .before .before .before .before .before .before .log-at .result) all-copies-at (all-copies-codec n .size) refl
+    (omega arith) (omega arith))) ∙ sym (c .before .before .before .before .all-copies-good .ensures) ∙ not-false _ (c .before .before .before .if3 .left))))
 
 pub brick-good-spec : {M : Type 1} → statement M
 brick-good-spec =

@@ -49,8 +49,10 @@ table-good-requires c κs = search needs
 returns-2 : tie.Need-returns-2
 unfolding buckets
 returns-2 c =
-    let s = c .before .before .before .before .before .args .place .now in
-    c .table-good .ensures ∙ buffer-up _ _ _ (words s) (not-false _ (c .before .before .if1 .left)) _ (lent s (8 * buffer-at) (8 * buffer-at + 8 * buffer-codec .size) buffer-at (buffer-codec .size) refl refl (omega arith))
+    let b = c .before .before .before .before .before in
+    let s = b .args .place .now in
+    c .table-good .ensures ∙ buffer-up _ _ _ (words s) (not-false _ (c .before .before .if1 .left)) _
+    (lent s (8 * buffer-at) (8 * buffer-at + 8 * buffer-codec .size) buffer-at (buffer-codec .size) refl refl (omega arith))
 
 pub buffer-good-spec : {M : Type 1} → statement M
 buffer-good-spec =

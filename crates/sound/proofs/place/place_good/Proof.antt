@@ -37,9 +37,10 @@ alone-requires c κs = search needs
 
 returns-3 : tie.Need-returns-3
 returns-3 c =
-    let ws = words (c .before .before .before .before .before .before .before .before .args .store .now) in
+    let s = c .before .before .before .before .before .before .before .before in
+    let ws = words (s .args .store .now) in
     let r = c .before .before .before .before .read .ensures ∙ ap (λ (k : ℕ). getD ws k 0) (c .before .before .before .before .before .place-at .ensures .0) in
-    sym (place-twice _ _ _ ws (c .before .before .before .before .before .before .before .before .args .p) _ r (c .before .before .before .if1 .left) (sym (c .before .alone .ensures) ∙ not-true _ (c .if3 .taken)))
+    sym (place-twice _ _ _ ws (s .args .p) _ r (c .before .before .before .if1 .left) (sym (c .before .alone .ensures) ∙ not-true _ (c .if3 .taken)))
 
 mul-a : tie.Need-mul-a
 mul-a c = omega (arith, store-small _ (c .before .before .before .before .before .before .before .before .pre .0 .small))
@@ -67,11 +68,19 @@ brick-good-requires c κs = search needs
 
 returns-4 : tie.Need-returns-4
 returns-4 c =
-    let ws = words (c .before .before .before .before .before .before .before .before .before .before .before .args .store .now) in
-    let r = c .before .before .before .before .before .before .before .read .ensures ∙ ap (λ (k : ℕ). getD ws k 0) (c .before .before .before .before .before .before .before .before .place-at .ensures .0) in
-    let s = c .before .before .before .before .before .before .before .before .before .before .before .args .store .now in
-    let n = c .before .before .before .before .before .before .before .before .before .before .before .args .settings in
-    c .brick-good .ensures ∙ ap (brick-good n (key-below (c .before .before .before .before .before .before .before .before .before .before .before .args .limits .now))) (lent s (8 * c .before .before .before .before .before .before .before .before .place-at .result) (8 * c .before .before .before .before .before .before .before .before .place-at .result + 8 * c .before .before .place-words .result) (place-at n (c .before .before .before .before .before .before .before .before .before .before .before .args .p)) (place-words n) (omega arith) (omega arith) (omega arith)) ∙ sym (place-brick _ _ _ ws (c .before .before .before .before .before .before .before .before .before .before .before .args .p) _ r (c .before .before .before .before .before .before .if1 .left) (c .before .before .before .before .before .if2 .left) (sym (c .before .before .before .before .alone .ensures) ∙ not-false _ (c .before .before .before .if3 .left)))
+    let b = c .before .before .before .before .before .before .before .before .before .before .before in
+    let ws = words (b .args .store .now) in
+    let r = c .before .before .before .before .before .before .before .read .ensures ∙ ap (λ (k : ℕ). getD ws k 0)
+    (c .before .before .before .before .before .before .before .before .place-at .ensures .0) in
+    let s = b .args .store .now in
+    let n = b .args .settings in
+    c .brick-good .ensures ∙ ap (brick-good n (key-below (b .args .limits .now)))
+    (lent s (8 * c .before .before .before .before .before .before .before .before .place-at .result)
+    (8 * c .before .before .before .before .before .before .before .before .place-at .result + 8 * c .before .before .place-words .result)
+    (place-at n (b .args .p)) (place-words n) (omega arith) (omega arith) (omega arith)) ∙ sym
+    (place-brick _ _ _ ws (b .args .p) _ r (c .before .before .before .before .before .before .if1 .left)
+    (c .before .before .before .before .before .if2 .left) (sym (c .before .before .before .before .alone .ensures) ∙ not-false _
+    (c .before .before .before .if3 .left)))
 
 pub place-good-spec : {M : Type 1} → statement M
 place-good-spec =

@@ -34,7 +34,11 @@ loop-less : tie.Need-loop-less Inv-loop μ-loop
 loop-less c = search needs
 
 loop-again : tie.Need-loop-again Inv-loop μ-loop
-loop-again c = (search needs, below-more _ (c .before .before .before .before .loop .p) (c .before .before .before .before .loop .inv .1) (sym (c .before .place-good .ensures) ∙ not-false _ (c .if2 .left)))
+loop-again c = (
+  search needs,
+  below-more _ (c .before .before .before .before .loop .p) (c .before .before .before .before .loop .inv .1)
+      (sym (c .before .place-good .ensures) ∙ not-false _ (c .if2 .left)),
+)
 
 returns-2 : tie.Need-returns-2 Inv-loop μ-loop
 returns-2 c = sym (all-true _ _ (λ k h. c .before .before .loop .inv .1 k (omega arith)))

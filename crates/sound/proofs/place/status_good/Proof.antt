@@ -21,7 +21,14 @@ read-requires-5 c κs = search needs
 
 returns : tie.Need-returns
 unfolding status-good _and_
-returns c = rw (c .before .before .before .before .read .ensures, c .before .before .before .read2 .ensures, c .before .before .read3 .ensures, c .before .read4 .ensures, c .read5 .ensures)
+returns c =
+    rw (
+      c .before .before .before .before .read .ensures,
+      c .before .before .before .read2 .ensures,
+      c .before .before .read3 .ensures,
+      c .before .read4 .ensures,
+      c .read5 .ensures,
+    )
 
 pub status-good-spec : {M : Type 1} → statement M
 status-good-spec =

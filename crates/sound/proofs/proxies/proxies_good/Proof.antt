@@ -63,9 +63,13 @@ proxy-good-requires c κs = search needs
 returns : tie.Need-returns Inv-loop μ-loop
 unfolding buckets proxy-at-good
 returns c =
-    let s = c .before .before .before .before .before .before .before .args .store .now in
-    let a = 8 * (proxies-at (c .before .before .before .before .before .before .before .args .settings) + c .before .before .before .before .loop .p * proxy-words) in
-    sym (all-false _ _ (c .before .before .before .before .loop .p) (search needs) (ap (proxy-good _ (key-below (c .before .before .before .before .before .before .before .args .limits .now)) (c .before .before .before .before .loop .p)) (ap (proxy-codec .dec) (sym (lent s a (a + 8 * proxy-words) (proxy-at (c .before .before .before .before .before .before .before .args .settings) (c .before .before .before .before .loop .p)) proxy-words (omega arith) refl (omega arith)))) ∙ sym (c .before .proxy-good .ensures) ∙ not-true _ (c .if1 .taken)))
+    let b = c .before .before .before .before .before .before .before in
+    let s = b .args .store .now in
+    let a = 8 * (proxies-at (b .args .settings) + c .before .before .before .before .loop .p * proxy-words) in
+    sym (all-false _ _ (c .before .before .before .before .loop .p) (search needs) (ap (proxy-good _ (key-below (b .args .limits .now))
+    (c .before .before .before .before .loop .p)) (ap (proxy-codec .dec) (sym (lent s a (a + 8 * proxy-words)
+    (proxy-at (b .args .settings) (c .before .before .before .before .loop .p)) proxy-words (omega arith) refl (omega arith)))) ∙ sym
+    (c .before .proxy-good .ensures) ∙ not-true _ (c .if1 .taken)))
 
 add-p : tie.Need-add-p Inv-loop μ-loop
 unfolding buckets
@@ -78,9 +82,15 @@ loop-less c = search needs
 loop-again : tie.Need-loop-again Inv-loop μ-loop
 unfolding buckets proxy-at-good
 loop-again c =
-    let s = c .before .before .before .before .before .before .before .args .store .now in
-    let a = 8 * (proxies-at (c .before .before .before .before .before .before .before .args .settings) + c .before .before .before .before .loop .p * proxy-words) in
-    (search needs, below-more _ (c .before .before .before .before .loop .p) (c .before .before .before .before .loop .inv .1) (ap (proxy-good _ (key-below (c .before .before .before .before .before .before .before .args .limits .now)) (c .before .before .before .before .loop .p)) (ap (proxy-codec .dec) (sym (lent s a (a + 8 * proxy-words) (proxy-at (c .before .before .before .before .before .before .before .args .settings) (c .before .before .before .before .loop .p)) proxy-words (omega arith) refl (omega arith)))) ∙ sym (c .before .proxy-good .ensures) ∙ not-false _ (c .if1 .left)))
+    let b = c .before .before .before .before .before .before .before in
+    let s = b .args .store .now in
+    let a = 8 * (proxies-at (b .args .settings) + c .before .before .before .before .loop .p * proxy-words) in (
+      search needs,
+      below-more _ (c .before .before .before .before .loop .p) (c .before .before .before .before .loop .inv .1)
+          (ap (proxy-good _ (key-below (b .args .limits .now)) (c .before .before .before .before .loop .p))
+          (ap (proxy-codec .dec) (sym (lent s a (a + 8 * proxy-words) (proxy-at (b .args .settings) (c .before .before .before .before .loop .p)) proxy-words
+          (omega arith) refl (omega arith)))) ∙ sym (c .before .proxy-good .ensures) ∙ not-false _ (c .if1 .left)),
+    )
 
 returns-2 : tie.Need-returns-2 Inv-loop μ-loop
 unfolding buckets

@@ -22,7 +22,9 @@ key-below-requires c κs = search needs
 
 returns-3 : tie.Need-returns-3
 unfolding entry-good
-returns-3 c = c .key-below .ensures ∙ sym (yes-first _ _ (both _ _ (sym (c .before .before .before .belongs .ensures) ∙ not-false _ (c .before .before .if1 .left)) (lt-ltb _ _ (c .before .if2 .left))))
+returns-3 c =
+    c .key-below .ensures ∙ sym (yes-first _ _ (both _ _ (sym (c .before .before .before .belongs .ensures) ∙ not-false _ (c .before .before .if1 .left))
+    (lt-ltb _ _ (c .before .if2 .left))))
 
 pub entry-good-spec : {M : Type 1} → statement M
 entry-good-spec =

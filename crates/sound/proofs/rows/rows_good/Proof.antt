@@ -10,7 +10,8 @@ use Rattle.sound.proofs.rows.rows_good.Tie as tie
 
 abbrev Inv-loop : tie.InvT-loop
 Inv-loop settings limits whose table n floor₀ i₀ floor i =
-    (i ≤ n) × (rows-good settings (key-below limits) whose 0 (first-entries n (words table)) ≡ rows-left settings (key-below limits) whose n (words table) floor i)
+    (i ≤ n) × (rows-good settings (key-below limits) whose 0 (first-entries n (words table)) ≡ rows-left settings (key-below limits) whose n
+    (words table) floor i)
 
 abbrev μ-loop : tie.MeasureT-loop
 μ-loop settings limits whose table n floor₀ i₀ floor i = n - i
@@ -47,7 +48,8 @@ entry-good-requires c κs = search needs
 returns-2 : tie.Need-returns-2 Inv-loop μ-loop
 returns-2 c =
     let l = c .before .before .before .before .before .before .loop in
-    sym (l .inv .1 ∙ rows-bad _ _ _ _ _ (l .floor) (l .i) (c .before .before .before .before .read .result) (c .before .before .read2 .result) (search needs) (c .before .before .before .before .read .ensures) (c .before .before .read2 .ensures) (sym (c .before .entry-good .ensures) ∙ not-true _ (c .if2 .taken)))
+    sym (l .inv .1 ∙ rows-bad _ _ _ _ _ (l .floor) (l .i) (c .before .before .before .before .read .result) (c .before .before .read2 .result) (search needs)
+    (c .before .before .before .before .read .ensures) (c .before .before .read2 .ensures) (sym (c .before .entry-good .ensures) ∙ not-true _ (c .if2 .taken)))
 
 floor-after-requires : tie.Need-floor-after-requires Inv-loop μ-loop
 floor-after-requires c κs = entry-small _ _ _ _ _ (sym (c .before .entry-good .ensures) ∙ not-false _ (c .if2 .left))
@@ -61,8 +63,12 @@ loop-less c = search needs
 loop-again : tie.Need-loop-again Inv-loop μ-loop
 loop-again c =
     let l = c .before .before .before .before .before .before .before .loop in
-    let r = c .before .before .before .before .before in
-    (search needs, l .inv .1 ∙ rows-next _ _ _ _ _ (l .floor) (l .i) (r .read .result) (c .before .before .before .read2 .result) (search needs) (r .read .ensures) (c .before .before .before .read2 .ensures) (c .before .before .before .before .if1 .left) (sym (c .before .before .entry-good .ensures) ∙ not-false _ (c .before .if2 .left)) ∙ rw (c .floor-after .ensures))
+    let r = c .before .before .before .before .before in (
+      search needs,
+      l .inv .1 ∙ rows-next _ _ _ _ _ (l .floor) (l .i) (r .read .result) (c .before .before .before .read2 .result) (search needs)
+          (r .read .ensures) (c .before .before .before .read2 .ensures) (c .before .before .before .before .if1 .left)
+          (sym (c .before .before .entry-good .ensures) ∙ not-false _ (c .before .if2 .left)) ∙ rw (c .floor-after .ensures),
+    )
 
 returns-3 : tie.Need-returns-3 Inv-loop μ-loop
 returns-3 c = let l = c .before .loop in sym (l .inv .1 ∙ rows-end _ _ _ _ _ (l .floor) (l .i) (search needs) (search needs))
