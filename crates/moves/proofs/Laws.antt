@@ -1,57 +1,99 @@
 -- Laws of a run of elements moved within one list: `paste d at s n` is d with n elements of s from `at` on.
-use mathlib.Core.Path.{_≡_, sym, ap, _∙_}
+use mathlib.Core.Path.{_≡_, refl, sym, ap, _∙_}
 use mathlib.Core.List.{List, _++_, append-assoc, append-nil}
-use Prim.Native.Nat.{ℕ, zero, suc, _+_, _-_, _≤_, _<_}
-use native.Mathlib.Nat.{add-suc, suc-add, not-suc-le-zero}
-use native.Mathlib.Numerals.{add-one, sub-one}
+use Prim.Native.Nat.{ℕ, suc, _+_, _*_, _-_, _≤_, _<_}
+use native.Mathlib.Nat.{zero-add, add-assoc}
+use native.Mathlib.Numerals.{add-one}
 use native.Mathlib.Omega.{arith}
-use lib.ListN.{length, take, drop, getD, set, replicate, length-drop, length-replicate, getD-replicate, List·getD-append, drop-of-length-le}
-use lib.Seq.{take-all, paste, paste-suc, drop-cons, getD-drop, getD-take, drop-paste, set-at, take-suc, length-take-le}
+use lib.ListN.{length, take, drop, getD, set, replicate, length-drop, length-replicate, getD-replicate, drop-of-length-le}
+use lib.Seq.{take-all, take-at, drop-at, take-add, take-take, drop-drop, take-append-le, take-suc, drop-cons, set-at, length-take-le}
+use lib.Seq.{paste, paste-suc, length-paste, take-paste, drop-paste}
+use Rattle.words.specs.Words.{words}
+use Rattle.words.proofs.Laws.{words-part, words-back}
 
--- what is read above the run that was written, and below it
-pub paste-above : (d : List ℕ) (at : ℕ) (s : List ℕ) (n k : ℕ) → at ≤ length d → n ≤ length s → at + n ≤ k
-    → getD (paste d at s n) k 0 ≡ getD d k 0
-paste-above d at s n k hd hs hk =
-    let e : k ≡ at + n + (k - (at + n)) = omega arith in
-    rw e (sym (getD-drop (at + n) (paste d at s n) (k - (at + n)) 0)
-    ∙ rw (drop-paste d at s n hd hs) (getD-drop (at + n) d (k - (at + n)) 0))
+-- what lies in a part that was lent and written over
+pub lent : (l t u : List ℕ) (n : ℕ) → length u ≡ n → t ≡ u → take n (t ++ drop n l) ≡ u
+lent l t u n h e = rw e (take-at u (drop n l) n h)
 
-pub paste-below : (d : List ℕ) (at : ℕ) (s : List ℕ) (n k : ℕ) → at ≤ length d → k < at → getD (paste d at s n) k 0 ≡ getD d k 0
-paste-below d at s n k hd hk =
-    let h : k < length (take at d) = rw (length-take-le at d hd) hk in
-    rw (append-assoc, List·getD-append (take at d) (take n s ++ drop (at + n) d) 0 k h) (getD-take at d k 0 hk)
+-- k bytes from `at`, as the code cuts them out; and what a run of bytes or of words is after they were written over it
+abbrev pub part : ℕ → ℕ → List ℕ → List ℕ
+part at k s = take (at + k - at) (drop at s)
 
--- one word more, in front of the run
-paste-back : (d : List ℕ) (at from m : ℕ) → at < length d → from < length d
-    → set (paste d (suc at) (drop (suc from) d) m) at (getD d from 0) ≡ paste d at (drop from d) (suc m)
-paste-back d at from m ha hf =
-    rw (take-suc d at 0 ha, drop-cons d from 0 hf, add-suc at m, suc-add at m)
-    (simp append-assoc (set-at (take at d) (getD d at 0) (take m (drop (suc from) d) ++ drop (suc (at + m)) d) (getD d from 0) at
-    (length-take-le at d (omega arith))))
+pub part-length : (at k : ℕ) (s : List ℕ) → at + k ≤ length s → length (part at k s) ≡ k
+part-length at k s h =
+    let e : at + k - at ≡ k = omega arith in
+    rw e (length-take-le k (drop at s) (rw length-drop (omega arith)))
 
--- the turns of the loops
-pub down-turn : (w : List ℕ) (from to n i : ℕ) → to ≤ from → from + n ≤ length w → i < n
-    → set (paste w to (drop from w) i) (to + i) (getD (paste w to (drop from w) i) (from + i) 0) ≡ paste w to (drop from w) (i + 1)
-down-turn w from to n i h hl hi =
-    let hs : i < length (drop from w) = rw length-drop (omega arith) in
-    rw (paste-above w to (drop from w) i (from + i) (omega arith) (omega arith) (omega arith), ← getD-drop from w i 0, add-one i)
-    (paste-suc w to (drop from w) i 0 (omega arith) hs)
+pub part-copied : (d src t : List ℕ) (at n : ℕ) → t ≡ part at n src
+    → take at d ++ (t ++ drop (at + n - at) (drop at d)) ≡ paste d at (drop at src) n
+part-copied d src t at n e =
+    let k : at + n - at ≡ n = omega arith in
+    rw (e, k, drop-drop n at d) (sym (append-assoc (take at d) (take n (drop at src)) (drop (at + n) d)))
 
-pub up-turn : (w : List ℕ) (from to n i : ℕ) → from ≤ to → to + n ≤ length w → i ≤ n → 0 < i
-    → set (paste w (to + i) (drop (from + i) w) (n - i)) (to + (i - 1))
-    (getD (paste w (to + i) (drop (from + i) w) (n - i)) (from + (i - 1)) 0)
-    ≡ paste w (to + (i - 1)) (drop (from + (i - 1)) w) (n - (i - 1))
-up-turn w from to n zero h hl hi p = absurd (not-suc-le-zero p)
-up-turn w from to n (suc j) h hl hi p =
-    let e : n - j ≡ suc (n - suc j) = omega arith in
-    rw (
-      sub-one,
-      e,
-      paste-below w (to + suc j) (drop (from + suc j) w) (n - suc j) (from + j) (omega arith) (omega arith),
-      add-suc to j,
-      add-suc from j,
-    )
-    (paste-back w (to + j) (from + j) (n - suc j) (omega arith) (omega arith))
+pub part-moved : (s t : List ℕ) (from to n : ℕ) → 8 * (from + n) ≤ length s → 8 * (to + n) ≤ length s → t ≡ part (8 * from) (8 * n) s
+    → words (take (8 * to) s ++ (t ++ drop (8 * to + 8 * n - 8 * to) (drop (8 * to) s))) ≡ paste (words s) to (drop from (words s)) n
+part-moved s t from to n hf ht e =
+    let ef : 8 * from + 8 * n - 8 * from ≡ 8 * n = omega arith in
+    let et : 8 * to + 8 * n - 8 * to ≡ 8 * n = omega arith in
+    words-back s (8 * to) (8 * to + 8 * n - 8 * to) to n refl et (omega arith) t (ap length e ∙ part-length (8 * from) (8 * n) s (omega arith))
+    ∙ rw (e, words-part s (8 * from) (8 * from + 8 * n - 8 * from) from n refl ef (omega arith), drop-drop n to (words s))
+    (sym (append-assoc (take to (words s)) (take n (drop from (words s))) (drop (to + n) (words s))))
+
+-- the run made longer at its end, and at its front
+paste-more : (d : List ℕ) (at : ℕ) (s : List ℕ) (i k : ℕ) → at + i ≤ length d → i ≤ length s
+    → paste (paste d at s i) (at + i) (drop i s) k ≡ paste d at s (i + k)
+paste-more d at s i k hd hs =
+    let e : drop (at + i + k) (paste d at s i) ≡ drop (at + (i + k)) d =
+    sym (drop-drop k (at + i) (paste d at s i)) ∙ ap (drop k) (drop-paste d at s i (omega arith) hs) ∙ drop-drop k (at + i) d
+    ∙ ap (λ (j : ℕ). drop j d) (add-assoc at i k) in
+    rw (take-paste d at s i (omega arith) hs, e, take-add i k s, append-assoc (take at d) (take i s) (take k (drop i s)))
+
+paste-front : (d : List ℕ) (at : ℕ) (s : List ℕ) (k m : ℕ) → at + k ≤ length d
+    → paste (paste d (at + k) (drop k s) m) at s k ≡ paste d at s (k + m)
+paste-front d at s k m hd =
+    let front : List ℕ = take (at + k) d in
+    let rest : List ℕ = take m (drop k s) ++ drop (at + k + m) d in
+    let l : length front ≡ at + k = length-take-le (at + k) d hd in
+    let t : take at (front ++ rest) ≡ take at d =
+    take-append-le at front rest (omega arith) ∙ take-take at (at + k) d (omega arith) in
+    rw (append-assoc front (take m (drop k s)) (drop (at + k + m) d), t, drop-at front rest (at + k) l, take-add k m s, add-assoc at k m)
+    (simp append-assoc)
+
+-- the turns of the loops that move k words: those that are read have not been written yet
+pub down-turn : (w : List ℕ) (from to n i k : ℕ) → to ≤ from → from + n ≤ length w → i + k ≤ n
+    → paste (paste w to (drop from w) i) (to + i) (drop (from + i) (paste w to (drop from w) i)) k ≡ paste w to (drop from w) (i + k)
+down-turn w from to n i k h hl hi =
+    let hs : i ≤ length (drop from w) = rw length-drop (omega arith) in
+    let f : to + i + (from - to) ≡ from + i = omega arith in
+    let e : drop (from + i) (paste w to (drop from w) i) ≡ drop i (drop from w) =
+    ap (λ (j : ℕ). drop j (paste w to (drop from w) i)) (sym f) ∙ sym (drop-drop (from - to) (to + i) (paste w to (drop from w) i))
+    ∙ ap (drop (from - to)) (drop-paste w to (drop from w) i (omega arith) hs) ∙ drop-drop (from - to) (to + i) w
+    ∙ ap (λ (j : ℕ). drop j w) f ∙ sym (drop-drop i from w) in
+    rw e (paste-more w to (drop from w) i k (omega arith) hs)
+
+same-run : (d w : List ℕ) (a k : ℕ) → a ≤ length d → a ≤ length w → take (a + k) d ≡ take (a + k) w → take k (drop a d) ≡ take k (drop a w)
+same-run d w a k hd hw e =
+    sym (drop-at (take a d) (take k (drop a d)) a (length-take-le a d hd)) ∙ ap (drop a) (sym (take-add a k d) ∙ e ∙ take-add a k w)
+    ∙ drop-at (take a w) (take k (drop a w)) a (length-take-le a w hw)
+
+pub up-turn : (w : List ℕ) (from to n l j k : ℕ) → from ≤ to → to + n ≤ length w → l ≤ n → l ≡ j + k
+    → paste (paste w (to + l) (drop (from + l) w) (n - l)) (to + j) (drop (from + j) (paste w (to + l) (drop (from + l) w) (n - l))) k
+    ≡ paste w (to + j) (drop (from + j) w) (n - j)
+up-turn w from to n l j k h hl hn el =
+    let d : List ℕ = paste w (to + l) (drop (from + l) w) (n - l) in
+    let front : List ℕ = take (to + l) w in
+    let lf : length front ≡ to + l = length-take-le (to + l) w (omega arith) in
+    let ld : length d ≡ length w = length-paste w (to + l) (drop (from + l) w) (n - l) (omega arith) (rw length-drop (omega arith)) in
+    let td : take (from + j + k) d ≡ take (from + j + k) w =
+    ap (take (from + j + k)) (append-assoc front (take (n - l) (drop (from + l) w)) (drop (to + l + (n - l)) w))
+    ∙ take-append-le (from + j + k) front (take (n - l) (drop (from + l) w) ++ drop (to + l + (n - l)) w) (omega arith)
+    ∙ take-take (from + j + k) (to + l) w (omega arith) in
+    let read : take k (drop (from + j) d) ≡ take k (drop (from + j) w) = same-run d w (from + j) k (omega arith) (omega arith) td in
+    let et : to + l ≡ to + j + k = omega arith in
+    let ef : from + l ≡ from + j + k = omega arith in
+    let en : k + (n - l) ≡ n - j = omega arith in
+    ap (λ (r : List ℕ). take (to + j) d ++ r ++ drop (to + j + k) d) read
+    ∙ rw (et, ef, ← drop-drop k (from + j) w, ← en) (paste-front w (to + j) (drop (from + j) w) k (n - l) (omega arith))
 
 -- one word more of a list
 pub put-turn : (w : List ℕ) (at : ℕ) (l : List ℕ) (i : ℕ) → at + length l ≤ length w → i < length l
@@ -70,6 +112,11 @@ pub copy-turn : (d s : List ℕ) (i : ℕ) → length d ≡ length s → i < len
 copy-turn d s i e h =
     rw (drop-cons d i 0 (omega arith), add-one i, take-suc s i 0 h, append-assoc)
     (set-at (take i s) (getD d i 0) (drop (suc i) d) (getD s i 0) i (length-take-le i s (omega arith)))
+
+-- the turn of the loop that copies k bytes, and its end
+pub copy-more : (d s : List ℕ) (i k : ℕ) → i ≤ length d → i ≤ length s
+    → paste (take i s ++ drop i d) i (drop i s) k ≡ take (i + k) s ++ drop (i + k) d
+copy-more d s i k hd hs = simp zero-add at (paste-more d 0 s i k (omega arith) hs)
 
 pub copy-end : (d s : List ℕ) (i : ℕ) → length d ≡ length s → i ≡ length s → take i s ++ drop i d ≡ s
 copy-end d s i e h =

@@ -1,13 +1,14 @@
-use mathlib.Core.Path.{_≡_}
-use Prim.Native.Nat.{_+_, _-_, _≤_}
+use mathlib.Core.Path.{_≡_, ap, _∙_}
+use mathlib.Core.List.{List}
+use Prim.Native.Nat.{ℕ, _+_, _-_, _≤_}
 use native.Mathlib.Omega.{arith}
 use lib.ListN.{length, drop}
 use lib.Seq.{paste, paste-zero}
 use Rattle.words.specs.Words.{words}
-use native.Mathlib.Nat.{sub-self, add-zero, sub-zero}
 use Rattle.words.proofs.Laws.{room}
-use Rattle.moves.proofs.Laws.{up-turn}
 use borrow.Author.Needs.{needs}
+use native.Mathlib.Nat.{add-zero, sub-self, sub-zero}
+use Rattle.moves.proofs.Laws.{up-turn}
 use Rattle.moves.proofs.move_up.Statement.{statement}
 use Rattle.moves.proofs.move_up.Tie as tie
 
@@ -29,39 +30,44 @@ loop-holds c = (
 sub-left : tie.Need-sub-left Inv-loop μ-loop
 sub-left c = search needs
 
-add-read : tie.Need-add-read Inv-loop μ-loop
-add-read c = search needs
+add-move-block : tie.Need-add-move-block Inv-loop μ-loop
+add-move-block c = search needs
 
-read-requires : tie.Need-read-requires Inv-loop μ-loop
-read-requires c κs = search needs
+add-move-block-2 : tie.Need-add-move-block-2 Inv-loop μ-loop
+add-move-block-2 c = search needs
 
-add-write : tie.Need-add-write Inv-loop μ-loop
-add-write c = search needs
-
-write-requires : tie.Need-write-requires Inv-loop μ-loop
-write-requires c κs = search needs
+move-block-requires : tie.Need-move-block-requires Inv-loop μ-loop
+move-block-requires c κs = search needs
 
 loop-less : tie.Need-loop-less Inv-loop μ-loop
 loop-less c = search needs
 
 loop-again : tie.Need-loop-again Inv-loop μ-loop
 loop-again c =
-    let l = c .before .before .before .before .before .before .before in
-    let b = l .before .before in (
+    let l = c .before .before .before .before .before .loop in
+    let b = c .before .before .before .before .before .before .before in (
       search needs,
       search needs,
-      cc (up-turn (words (b .args .s .now)) (b .args .from) (b .args .to) (b .args .n) (l .loop .left)
-          (b .pre .0) (room (b .args .s .now) (b .args .to + b .args .n) (b .pre .1)) (l .loop .inv .0) (omega arith)),
+      c .before .before .move-block .ensures
+          ∙ ap (λ (w : List ℕ). paste w (b .args .to + (l .left - 1024)) (drop (b .args .from + (l .left - 1024)) w) 1024) (l .inv .2)
+          ∙ up-turn (words (b .args .s .now)) (b .args .from) (b .args .to) (b .args .n) (l .left) (l .left - 1024) 1024
+          (b .pre .0) (room (b .args .s .now) (b .args .to + b .args .n) (b .pre .1)) (l .inv .0) (omega arith),
     )
+
+move-block-requires-2 : tie.Need-move-block-requires-2 Inv-loop μ-loop
+move-block-requires-2 c κs = search needs
 
 same-length : tie.Need-same-length Inv-loop μ-loop
 same-length c = search needs
 
 returns : tie.Need-returns Inv-loop μ-loop
 returns c =
-    let b = c .before .before .before in
-    let e : c .before .loop .left ≡ 0 = omega arith in
-    rw (e, add-zero (b .args .to), add-zero (b .args .from), sub-zero) at (c .before .loop .inv .2)
+    let l = c .before .before .before .before .before .loop in
+    let b = c .before .before .before .before .before .before .before in
+    c .before .before .move-block2 .ensures ∙ ap (λ (w : List ℕ). paste w (b .args .to) (drop (b .args .from) w) (l .left)) (l .inv .2)
+    ∙ rw (add-zero (b .args .to), add-zero (b .args .from), sub-zero) at
+    (up-turn (words (b .args .s .now)) (b .args .from) (b .args .to) (b .args .n) (l .left) 0 (l .left)
+    (b .pre .0) (room (b .args .s .now) (b .args .to + b .args .n) (b .pre .1)) (l .inv .0) (omega arith))
 
 pub move-up-spec : {M : Type 1} → statement M
 move-up-spec =
@@ -71,11 +77,11 @@ move-up-spec =
     μ-loop
     loop-holds
     sub-left
-    add-read
-    read-requires
-    add-write
-    write-requires
+    add-move-block
+    add-move-block-2
+    move-block-requires
     loop-less
     loop-again
+    move-block-requires-2
     same-length
     returns)
