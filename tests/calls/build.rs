@@ -4,7 +4,9 @@ fn main() {
         format!("{here}/../../target/staticlib")
     });
     println!("cargo:rustc-link-search=native={folder}");
-    println!("cargo:rustc-link-lib=static=disk");
-    println!("cargo:rerun-if-changed={folder}/libdisk.a");
+    for library in ["disk", "bench"] {
+        println!("cargo:rustc-link-lib=static={library}");
+        println!("cargo:rerun-if-changed={folder}/lib{library}.a");
+    }
     println!("cargo:rerun-if-env-changed=DISK_LIBRARY");
 }

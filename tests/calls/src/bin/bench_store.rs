@@ -1,8 +1,11 @@
-//! Side by side with the independent implementation, in one run: check at 0, 10 and 100 % use, check by the number of chunks, and format.
+//! Side by side with the independent implementation, in one run: check at 0, 10 and 100 % use, check by the number of chunks, and format;
+//! and a move of words side by side with memmove.
+use call_tests::moves::{memmove, move_words};
 use call_tests::store::model::{self, Settings};
 use call_tests::random::Random;
 use call_tests::time::{compare, heading};
 use call_tests::store::random::sound_store;
+use std::cell::RefCell;
 
 fn main() {
     let mut r = Random::new(21);
@@ -26,5 +29,13 @@ fn main() {
         let mut ours = r.bytes(s.bytes());
         let mut theirs = ours.clone();
         compare(&format!("format, {} bytes", s.bytes()), || call_tests::store::format(&mut ours, s), || model::format(&mut theirs, s));
+    }
+    for n in [8, 64, 512, 2048, 65536] {
+        for (way, from, to) in [("up by 2", 0, 2), ("down by 2", 2, 0), ("apart", 0, n)] {
+            // both move the same bytes: where they lie in a cache line matters
+            let bytes = RefCell::new(r.bytes(8 * (2 * n + 2)));
+            let name = format!("move of {n} words {way}; memmove");
+            compare(&name, || move_words(&mut bytes.borrow_mut(), from, to, n), || memmove(&mut bytes.borrow_mut(), from, to, n));
+        }
     }
 }
