@@ -10,7 +10,7 @@ use lib.Seq.{getD-take, getD-drop, drop-length}
 use Rattle.lists.specs.Runs.{run, on-run, part}
 use Rattle.lists.proofs.Tests.{by-eq}
 use Rattle.lists.proofs.Runs.{fits-in, run-length, run-of-run, run-front, run-all, on-left, on-right, on-same, on-within, set-is}
-use Rattle.codec.specs.Codec.{Codec, Clean, Two, word, Reading, via, enc-two, _then_, enc-many, many, enc-slot, slot}
+use Rattle.codec.specs.Codec.{Codec, Clean, change, Two, word, Reading, via, enc-two, _then_, enc-many, many, enc-slot, slot}
 use Rattle.codec.proofs.Laws.{Lawful, via-law, then-law, many-law, slot-law, two-is, two-left, two-right}
 use Rattle.codec.proofs.Laws.{many-last, many-left, many-right, many-keeps, rest-length}
 
@@ -50,6 +50,15 @@ module _ {A B : Type 0} {c : Codec A} {d : Codec B} (f : Focus c d) where
 pub on-const : (a n : ℕ) (f : List ℕ → List ℕ) (w : List ℕ) → on-run a n (λ _. f (run a n w)) w ≡ on-run a n f w
 unfolding on-run
 on-const a n f w = refl
+
+-- clean words with one part of their value changed: the words of that part change
+module _ {A B : Type 0} {c : Codec A} {d : Codec B} (f : Focus c d) (g : A → A) (w : List ℕ) (h : length w ≡ c .size) (k : Clean c w)
+    (e : f .Else (c .dec w) (g (c .dec w))) where
+  pub part-changed : change c g w ≡ on-run (f .off) (d .size) (d .enc (f .see (g (c .dec w)))) w
+  part-changed =
+      let new : List ℕ → List ℕ = d .enc (f .see (g (c .dec w))) in
+      f .write (c .dec w) (g (c .dec w)) w h e ∙ ap (on-run (f .off) (d .size) (λ _. new (run (f .off) (d .size) w))) k
+      ∙ on-const (f .off) (d .size) new w
 
 -- ---- a part of a part
 module _ {A B C : Type 0} {c : Codec A} {d : Codec B} {e : Codec C} (f : Focus c d) (g : Focus d e) where

@@ -1,8 +1,9 @@
 // Sizes and offsets of the parts, in words.
 ghost use mathlib.Core.Path.{_≡_};
+ghost use Prim.Native.Nat.{_+_, _≤_, _<_};
 ghost use Rattle.rules.specs.Limits.{buckets};
 ghost use Rattle.rules.proofs.Limits.{Limits};
-ghost use Rattle.layout.specs.Layout.{copy-words, copies-words, log-words, log-at, place-words, proxies-at, bag-at, places-at, store-words};
+ghost use Rattle.layout.specs.Layout.{copy-words, copies-words, log-words, log-at, place-words, proxies-at, bag-at, places-at, place-at, store-words};
 ghost use Rattle.layout.specs.Store.{store-bytes};
 use rules::constants;
 use rules::settings::Settings;
@@ -139,6 +140,14 @@ pub fn places_at(settings: Settings) -> usize
     ensures { λ r. ⌜ r ≡ places-at settings ⌝ }
 {
     bag_at(settings) + BAG_WORDS
+}
+
+// Where place p begins.
+pub fn place_at(settings: Settings, p: usize) -> usize
+    requires { ⌜ Limits settings × (p < settings .places) ⌝ }
+    ensures { λ r. ⌜ (r ≡ place-at settings p) × (r + place-words settings ≤ store-words settings) ⌝ }
+{
+    places_at(settings) + words::offset(p, place_words(settings), settings.places)
 }
 
 pub fn store_words(settings: Settings) -> usize

@@ -6,22 +6,13 @@ use native.Mathlib.Omega.{arith}
 use lib.ListN.{length, drop, getD, set}
 use Rattle.lists.specs.Runs.{run, on-run}
 use Rattle.rules.specs.declared.settings.Settings.{Settings}
-use Rattle.codec.specs.Codec.{Codec, Clean, change, enc-slot}
-use Rattle.codec.proofs.Focus.{Focus, _through_, on-const, write-word, slot-none, slot-some}
+use Rattle.codec.specs.Codec.{Clean, change, enc-slot}
+use Rattle.codec.proofs.Focus.{_through_, part-changed, write-word, slot-none, slot-some}
 use Rattle.layout.specs.Disk.{Status}
 use Rattle.layout.specs.Layout.{proxy-codec, status-codec, brick-codec, place-codec, proxy-words, place-words, up-at, status-words}
 use Rattle.layout.proofs.Clean.{proxy-any}
 use Rattle.layout.proofs.Foci.{known-in, status-in, brick-in-place}
 use Rattle.parts.specs.Parts.{with-known, with-id, with-status}
-
--- clean words with one part of their value changed: the words of that part change
-module _ {A B : Type 0} {c : Codec A} {d : Codec B} (f : Focus c d) (g : A → A) (w : List ℕ) (h : length w ≡ c .size) (k : Clean c w)
-    (e : f .Else (c .dec w) (g (c .dec w))) where
-  part-changed : change c g w ≡ on-run (f .off) (d .size) (d .enc (f .see (g (c .dec w)))) w
-  part-changed =
-      let new : List ℕ → List ℕ = d .enc (f .see (g (c .dec w))) in
-      f .write (c .dec w) (g (c .dec w)) w h e ∙ ap (on-run (f .off) (d .size) (λ _. new (run (f .off) (d .size) w))) k
-      ∙ on-const (f .off) (d .size) new w
 
 -- ---- a proxy
 pub known-changed : (view : ℕ) (w : List ℕ) → length w ≡ proxy-words → set w 0 view ≡ change proxy-codec (with-known view) w

@@ -1,26 +1,16 @@
--- Where a place begins, and what it is to the check.
+-- What a place is to the check.
 use mathlib.Core.Path.{_≡_, _∙_}
 use mathlib.Core.List.{List}
 use mathlib.Core.Bool.{Bool, true, false}
-use Prim.Native.Nat.{ℕ, _+_, _*_, _≤_, _<_}
-use native.Mathlib.Omega.{arith}
+use Prim.Native.Nat.{ℕ, _≤_, _<_}
 use lib.Dec.{leb}
 use borrow.Author.Tests.{eq-eqb, ne-eqb, lt-leb, le-leb}
 use Rattle.lists.specs.Tests.{_and_, all-below}
 use Rattle.lists.proofs.Tests.{both, or-l, no-first, no-second, yes-first, or-no}
-use Rattle.lists.proofs.Runs.{fits-in}
 use Rattle.rules.specs.declared.settings.Settings.{Settings}
-use Rattle.layout.specs.Layout.{places-at, place-words, place-at, place-part, store-words}
+use Rattle.layout.specs.Layout.{place-part}
 use Rattle.sound.specs.Places.{brick-good, id-at, alone-at, place-at-good}
 
-module _ (c : Settings) (p r size : ℕ) (es : size ≡ place-words c) (er : r ≡ p * size) where
-  pub place-start : places-at c + r ≡ place-at c p
-  place-start = rw (er, es)
-
-  pub place-inside : p < c .places → place-at c p + place-words c ≤ store-words c
-  place-inside h = omega (arith, fits-in (place-words c) h)
-
--- ---- what a place is to the check
 module _ (c : Settings) (good : ℕ → Bool) (given : ℕ) (ws : List ℕ) (p id : ℕ) (e : id ≡ id-at c ws p) where
   pub place-empty : id ≡ 0 → place-at-good c good given ws p ≡ true
   unfolding place-at-good

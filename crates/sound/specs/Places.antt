@@ -41,10 +41,6 @@ pub record PlaceFit (c : Settings) (limits : List ℕ) (bytes : ℕ) : Type 0 wh
   pub small : Limits c
   pub size : bytes ≡ 8 * place-words c
 
-pub record PlaceIn (c : Settings) (p : ℕ) : Type 0 where
-  pub small : Limits c
-  pub inside : p < c .places
-
 -- the id at a place, in the words of a store
 abbrev pub id-at : Settings → List ℕ → ℕ → ℕ
 id-at c ws p = getD ws (place-at c p) 0

@@ -4,7 +4,6 @@ ghost use mathlib.Core.Path.{_≡_};
 ghost use lib.ListN.{length};
 ghost use Rattle.words.specs.Words.{words};
 ghost use Rattle.sound.specs.Limits.{with-limit, GivenFit, Given, Filled, FillFit};
-use crate::place;
 use layout::sizes;
 use rules::constants;
 use rules::settings::Settings;
@@ -42,7 +41,7 @@ pub fn fill_places(limits: &mut [u64], settings: Settings, given: u64, store: &[
 {
     let mut p = 0;
     while p < settings.places {
-        let at = place::place_at(settings, p);
+        let at = sizes::place_at(settings, p);
         set_limit(
             limits,
             given,

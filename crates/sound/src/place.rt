@@ -4,9 +4,9 @@ ghost use Prim.Native.Nat.{_+_, _*_, _≤_, _<_};
 ghost use Rattle.lists.specs.Tests.{all-below};
 ghost use lib.ListN.{length};
 ghost use Rattle.words.specs.Words.{words};
-ghost use Rattle.layout.specs.Layout.{buffer-at, place-words, place-at, store-words};
+ghost use Rattle.layout.specs.Layout.{buffer-at};
 ghost use Rattle.sound.specs.Rows.{key-below};
-ghost use Rattle.sound.specs.Places.{status-good, buffer-good, brick-good, alone-at, place-at-good, PlaceIn, PlaceFit, PlacesFit, OnePlaceFit};
+ghost use Rattle.sound.specs.Places.{status-good, buffer-good, brick-good, alone-at, place-at-good, PlaceFit, PlacesFit, OnePlaceFit};
 use crate::chunks;
 use crate::copies;
 use crate::rows;
@@ -78,7 +78,7 @@ fn alone(settings: Settings, store: &[u8], p: usize, id: u64) -> bool
 {
     let mut q = 0;
     while q < p {
-        if words::read(store, place_at(settings, q)) == id {
+        if words::read(store, sizes::place_at(settings, q)) == id {
             return false;
         }
         q += 1;
@@ -92,7 +92,7 @@ fn place_good(settings: Settings, limits: &[u64], given: u64, store: &[u8], p: u
     requires { ⌜ p < settings .places ⌝ }
     ensures { λ r. ⌜ r ≡ place-at-good settings (key-below (now (limits .entry))) given (words (now (store .entry))) p ⌝ }
 {
-    let at = place_at(settings, p);
+    let at = sizes::place_at(settings, p);
     let id = words::read(store, at);
     if id == 0 {
         return true;
@@ -120,12 +120,4 @@ pub fn places_good(settings: Settings, limits: &[u64], given: u64, store: &[u8])
         p += 1;
     }
     true
-}
-
-// Where place p begins.
-pub fn place_at(settings: Settings, p: usize) -> usize
-    requires { ⌜ PlaceIn settings p ⌝ }
-    ensures { λ r. ⌜ (r ≡ place-at settings p) × (r + place-words settings ≤ store-words settings) ⌝ }
-{
-    sizes::PLACES_AT + words::offset(p, sizes::place_words(settings), settings.places)
 }
