@@ -20,6 +20,7 @@ ghost use Rattle.entries.specs.Words.{entry-words, entries-words, copied
 ghost use Rattle.entries.specs.Steps.{SiftStep, take-in, drained-at, drained-words, Drains};
 use layout::sizes::ENTRY_WORDS;
 use rules::numbers::BlockNumber;
+use rules::numbers::ChunkKey;
 use rules::settings::Settings;
 use tables::Spot;
 
@@ -29,53 +30,53 @@ const KEY: usize = 1;
 // ---- look-up
 
 // The block and the key of entry i.
-pub fn block_at(t: &[u8], most: usize, i: usize) -> u64
+pub fn block_at(t: &[u8], most: usize, i: usize) -> BlockNumber
     requires { ⌜ IsTable entry-words most (words (now t)) (length (now t)) ⌝ }
     requires { ⌜ i < getD (words (now t)) 0 0 ⌝ }
-    ensures { λ r. ⌜ r ≡ entry-at (entries-codec most .dec (words (now (t .entry)))) i .block ⌝ }
+    ensures { λ r. ⌜ r .0 ≡ entry-at (entries-codec most .dec (words (now (t .entry)))) i .block ⌝ }
 {
-    words::read(t, 1 + i * ENTRY_WORDS)
+    BlockNumber(words::read(t, 1 + i * ENTRY_WORDS))
 }
 
-pub fn key_at(t: &[u8], most: usize, i: usize) -> u64
+pub fn key_at(t: &[u8], most: usize, i: usize) -> ChunkKey
     requires { ⌜ IsTable entry-words most (words (now t)) (length (now t)) ⌝ }
     requires { ⌜ i < getD (words (now t)) 0 0 ⌝ }
-    ensures { λ r. ⌜ r ≡ entry-at (entries-codec most .dec (words (now (t .entry)))) i .key ⌝ }
+    ensures { λ r. ⌜ r .0 ≡ entry-at (entries-codec most .dec (words (now (t .entry)))) i .key ⌝ }
 {
-    words::read(t, 2 + i * ENTRY_WORDS)
+    ChunkKey(words::read(t, 2 + i * ENTRY_WORDS))
 }
 
 // The key of a block; 0 means no mapping.
-pub fn look(t: &[u8], most: usize, b: u64) -> u64
+pub fn look(t: &[u8], most: usize, b: BlockNumber) -> ChunkKey
     requires { ⌜ Sorted entry-words most (words (now t)) (length (now t)) ⌝ }
-    ensures { λ r. ⌜ r ≡ look (entries-codec most .dec (words (now (t .entry)))) b ⌝ }
+    ensures { λ r. ⌜ r .0 ≡ look (entries-codec most .dec (words (now (t .entry)))) (b .0) ⌝ }
 {
-    match tables::find(t, ENTRY_WORDS, most, b) {
+    match tables::find(t, ENTRY_WORDS, most, b.0) {
         Spot::Here(p) => key_at(t, most, p),
-        Spot::Gap(_) => 0,
+        Spot::Gap(_) => ChunkKey(0),
     }
 }
 
 // Is there an entry for the block?
-pub fn has(t: &[u8], most: usize, b: u64) -> bool
+pub fn has(t: &[u8], most: usize, b: BlockNumber) -> bool
     requires { ⌜ Sorted entry-words most (words (now t)) (length (now t)) ⌝ }
-    ensures { λ r. ⌜ r ≡ has (entries-codec most .dec (words (now (t .entry)))) b ⌝ }
+    ensures { λ r. ⌜ r ≡ has (entries-codec most .dec (words (now (t .entry)))) (b .0) ⌝ }
 {
-    match tables::find(t, ENTRY_WORDS, most, b) {
+    match tables::find(t, ENTRY_WORDS, most, b.0) {
         Spot::Here(_) => true,
         Spot::Gap(_) => false,
     }
 }
 
 // The same in a table that need not be sorted.
-pub fn waits(t: &[u8], most: usize, b: u64) -> bool
+pub fn waits(t: &[u8], most: usize, b: BlockNumber) -> bool
     requires { ⌜ IsTable entry-words most (words (now t)) (length (now t)) ⌝ }
-    ensures { λ r. ⌜ r ≡ has (entries-codec most .dec (words (now (t .entry)))) b ⌝ }
+    ensures { λ r. ⌜ r ≡ has (entries-codec most .dec (words (now (t .entry)))) (b .0) ⌝ }
 {
     let n = words::read(t, 0) as usize;
     let mut i = 0;
     while i < n {
-        if block_at(t, most, i) == b {
+        if block_at(t, most, i).0 == b.0 {
             return true;
         }
         i += 1;
@@ -84,9 +85,9 @@ pub fn waits(t: &[u8], most: usize, b: u64) -> bool
 }
 
 // May the table take the block?
-pub fn takes(t: &[u8], most: usize, b: u64) -> bool
+pub fn takes(t: &[u8], most: usize, b: BlockNumber) -> bool
     requires { ⌜ Sorted entry-words most (words (now t)) (length (now t)) ⌝ }
-    ensures { λ r. ⌜ r ≡ takes most (entries-codec most .dec (words (now (t .entry)))) b ⌝ }
+    ensures { λ r. ⌜ r ≡ takes most (entries-codec most .dec (words (now (t .entry)))) (b .0) ⌝ }
 {
     if has(t, most, b) {
         return true;
@@ -108,24 +109,24 @@ pub fn same(a: &[u8], b: &[u8], most: usize) -> bool
 // ---- changes of a sorted table
 
 // The block gets the key, at its place in the order.
-pub fn insert(t: &mut [u8], most: usize, b: u64, k: u64)
+pub fn insert(t: &mut [u8], most: usize, b: BlockNumber, k: ChunkKey)
     requires { ⌜ Sorted entry-words most (words (now t)) (length (now t)) ⌝ }
-    requires { ⌜ takes most (entries-codec most .dec (words (now t))) b ≡ true ⌝ }
-    ensures { λ _. ⌜ words (now (t .exit)) ≡ change (entries-codec most) (λ l. insert l b k) (words (now (t .entry))) ⌝ }
+    requires { ⌜ takes most (entries-codec most .dec (words (now t))) (b .0) ≡ true ⌝ }
+    ensures { λ _. ⌜ words (now (t .exit)) ≡ change (entries-codec most) (λ l. insert l (b .0) (k .0)) (words (now (t .entry))) ⌝ }
 {
-    match tables::find(t, ENTRY_WORDS, most, b) {
-        Spot::Here(p) => tables::set_cell(t, ENTRY_WORDS, most, p, KEY, k),
+    match tables::find(t, ENTRY_WORDS, most, b.0) {
+        Spot::Here(p) => tables::set_cell(t, ENTRY_WORDS, most, p, KEY, k.0),
         Spot::Gap(p) => {
-            let row = [b, k];
+            let row = [b.0, k.0];
             tables::insert_row(t, ENTRY_WORDS, most, p, &row)
         }
     }
 }
 
 // The same, but a new block that finds the table full is dropped.
-pub fn insert_or_drop(t: &mut [u8], most: usize, b: u64, k: u64)
+pub fn insert_or_drop(t: &mut [u8], most: usize, b: BlockNumber, k: ChunkKey)
     requires { ⌜ Sorted entry-words most (words (now t)) (length (now t)) ⌝ }
-    ensures { λ _. ⌜ words (now (t .exit)) ≡ change (entries-codec most) (λ l. take-in most l (entry b k)) (words (now (t .entry))) ⌝ }
+    ensures { λ _. ⌜ words (now (t .exit)) ≡ change (entries-codec most) (λ l. take-in most l (entry (b .0) (k .0))) (words (now (t .entry))) ⌝ }
 {
     if takes(t, most, b) {
         insert(t, most, b, k);
@@ -134,11 +135,11 @@ pub fn insert_or_drop(t: &mut [u8], most: usize, b: u64, k: u64)
 }
 
 // The block's entry goes.
-pub fn remove(t: &mut [u8], most: usize, b: u64)
+pub fn remove(t: &mut [u8], most: usize, b: BlockNumber)
     requires { ⌜ Sorted entry-words most (words (now t)) (length (now t)) ⌝ }
-    ensures { λ _. ⌜ words (now (t .exit)) ≡ change (entries-codec most) (λ l. remove l b) (words (now (t .entry))) ⌝ }
+    ensures { λ _. ⌜ words (now (t .exit)) ≡ change (entries-codec most) (λ l. remove l (b .0)) (words (now (t .entry))) ⌝ }
 {
-    match tables::find(t, ENTRY_WORDS, most, b) {
+    match tables::find(t, ENTRY_WORDS, most, b.0) {
         Spot::Here(p) => tables::remove_row(t, ENTRY_WORDS, most, p),
         Spot::Gap(_) => {}
     }
@@ -155,13 +156,13 @@ pub fn clear(t: &mut [u8], most: usize)
 }
 
 // An entry at the end.
-pub fn append(t: &mut [u8], most: usize, b: u64, k: u64)
+pub fn append(t: &mut [u8], most: usize, b: BlockNumber, k: ChunkKey)
     requires { ⌜ IsTable entry-words most (words (now t)) (length (now t)) ⌝ }
     requires { ⌜ getD (words (now t)) 0 0 < most ⌝ }
-    ensures { λ _. ⌜ words (now (t .exit)) ≡ change (entries-codec most) (λ l. l ++ entry b k ∷ []) (words (now (t .entry))) ⌝ }
+    ensures { λ _. ⌜ words (now (t .exit)) ≡ change (entries-codec most) (λ l. l ++ entry (b .0) (k .0) ∷ []) (words (now (t .entry))) ⌝ }
 {
     let n = words::read(t, 0) as usize;
-    let last = [b, k];
+    let last = [b.0, k.0];
     tables::insert_row(t, ENTRY_WORDS, most, n, &last);
 }
 
@@ -176,11 +177,10 @@ pub fn copy(s: &mut [u8], from: usize, to: usize, most: usize)
 // ---- a bucket's entries in a buffer
 
 // Is the block of the bucket?
-fn of_bucket(b: u64, settings: Settings, g: u64) -> bool
-    ensures { λ r. ⌜ r ≡ eqb (bucket-of (buckets settings) b) g ⌝ }
+fn of_bucket(b: BlockNumber, settings: Settings, g: u64) -> bool
+    ensures { λ r. ⌜ r ≡ eqb (bucket-of (buckets settings) (b .0)) g ⌝ }
 {
-    let block = BlockNumber(b);
-    block.bucket(settings) == g
+    b.bucket(settings) == g
 }
 
 // Entry i, where it is not of the bucket, goes to place o.
@@ -188,7 +188,7 @@ fn sift_at(t: &mut [u8], most: usize, settings: Settings, g: u64, i: usize, o: u
     requires { ⌜ (o ≤ i) × (i < most) × (length (now t) ≡ 8 * entries-words most) ⌝ }
     ensures { λ r. ⌜ SiftStep (buckets settings) g i o (words (now (t .entry))) (words (now (t .exit))) r ⌝ }
 {
-    let b = words::read(t, 1 + i * ENTRY_WORDS);
+    let b = BlockNumber(words::read(t, 1 + i * ENTRY_WORDS));
     if of_bucket(b, settings, g) {
         return o;
     }
@@ -217,8 +217,8 @@ fn drain_at(s: &mut [u8], at: usize, copy: usize, most: usize, settings: Setting
     requires { ⌜ Sorted entry-words most (run copy (entries-words most) (words (now s))) (8 * entries-words most) ⌝ }
     ensures { λ _. ⌜ words (now (s .exit)) ≡ drained-at (buckets settings) g at copy most (words (now (s .entry))) ⌝ }
 {
-    let b = words::read(s, at);
-    let k = words::read(s, at + 1);
+    let b = BlockNumber(words::read(s, at));
+    let k = ChunkKey(words::read(s, at + 1));
     if of_bucket(b, settings, g) {
         let start = 8 * copy;
         let size = 8 * (1 + most * ENTRY_WORDS);

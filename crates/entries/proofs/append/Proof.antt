@@ -25,7 +25,7 @@ returns c =
     let after-read = c .before .before .before .before .before in
     let s = after-read .before .before .before in
     c .before .before .insert-row .ensures ∙ append-leaves (s .args .most) (words (s .args .t .now)) (length-words (s .args .t .now) ∙ omega arith)
-    (s .pre .0 .few) (after-read .read .result) (s .args .b) (s .args .k) (after-read .read .ensures) (s .pre .1)
+    (s .pre .0 .few) (after-read .read .result) (s .args .b .0) (s .args .k .0) (after-read .read .ensures) (s .pre .1)
 
 pub append-spec : {M : Type 1} → statement M
 append-spec =

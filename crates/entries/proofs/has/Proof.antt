@@ -22,17 +22,17 @@ enum-told-2 c = search needs
 returns : tie.Need-returns
 returns c =
     let s = c .before .before .before .before in
-    let h : HereAt 2 (words (s .args .t .now)) (s .args .b) (c .enum-told .given .0 .0) = rw (c .enum-told .given .1) at
+    let h : HereAt 2 (words (s .args .t .now)) (s .args .b .0) (c .enum-told .given .0 .0) = rw (c .enum-told .given .1) at
     (c .before .before .find .ensures) in
-    sym (has-here (s .args .most) (words (s .args .t .now)) (length (s .args .t .now)) (length-words (s .args .t .now) ∙ omega arith) (s .pre) (s .args .b)
+    sym (has-here (s .args .most) (words (s .args .t .now)) (length (s .args .t .now)) (length-words (s .args .t .now) ∙ omega arith) (s .pre) (s .args .b .0)
     (c .enum-told .given .0 .0) h)
 
 returns-2 : tie.Need-returns-2
 returns-2 c =
     let s = c .before .before .before .before in
-    let h : GapAt 2 (words (s .args .t .now)) (s .args .b) (c .enum-told2 .given .0 .0) = rw (c .enum-told2 .given .1) at
+    let h : GapAt 2 (words (s .args .t .now)) (s .args .b .0) (c .enum-told2 .given .0 .0) = rw (c .enum-told2 .given .1) at
     (c .before .before .find .ensures) in
-    sym (has-gap (s .args .most) (words (s .args .t .now)) (length (s .args .t .now)) (length-words (s .args .t .now) ∙ omega arith) (s .pre) (s .args .b)
+    sym (has-gap (s .args .most) (words (s .args .t .now)) (length (s .args .t .now)) (length-words (s .args .t .now) ∙ omega arith) (s .pre) (s .args .b .0)
     (c .enum-told2 .given .0 .0) h)
 
 pub has-spec : {M : Type 1} → statement M

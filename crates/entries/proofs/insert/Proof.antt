@@ -19,7 +19,7 @@ enum-known-p c = search needs
 set-cell-requires : tie.Need-set-cell-requires
 set-cell-requires c κs =
     let s = c .before .before .before .before .before .before .before in
-    let h : HereAt 2 (words (s .args .t .now)) (s .args .b) (c .before .before .p .given .0 .0) = rw (c .before .before .p .given .1) at
+    let h : HereAt 2 (words (s .args .t .now)) (s .args .b .0) (c .before .before .p .given .0 .0) = rw (c .before .before .p .given .1) at
     (c .before .before .before .before .find .ensures) in
     (record { few = s .pre .0 .few; size = s .pre .0 .size }, (h .in-use, omega arith))
 
@@ -34,10 +34,10 @@ insert-row-requires c κs =
     let after-p2 = c .before .before .before in
     let after-find = after-p2 .before .before in
     let s = after-find .before .before .before in
-    let g : GapAt 2 (words (s .args .t .now)) (s .args .b) (after-p2 .p2 .given .0 .0) = rw (after-p2 .p2 .given .1) at
+    let g : GapAt 2 (words (s .args .t .now)) (s .args .b .0) (after-p2 .p2 .given .0 .0) = rw (after-p2 .p2 .given .1) at
     (after-find .find .ensures) in
     let r = gap-room (s .args .most) (words (s .args .t .now)) (length (s .args .t .now)) (length-words (s .args .t .now) ∙ omega arith) (s .pre .0)
-    (s .args .b) (after-p2 .p2 .given .0 .0) g (s .pre .1) in
+    (s .args .b .0) (after-p2 .p2 .given .0 .0) g (s .pre .1) in
     (record { few = s .pre .0 .few; size = s .pre .0 .size }, (g .place .within, r, refl))
 
 same-length : tie.Need-same-length
@@ -48,9 +48,9 @@ returns c =
     let after-p = c .before .before .before .before .before in
     let after-find = after-p .before .before in
     let s = after-find .before .before .before in
-    let h : HereAt 2 (words (s .args .t .now)) (s .args .b) (after-p .p .given .0 .0) = rw (after-p .p .given .1) at (after-find .find .ensures) in
+    let h : HereAt 2 (words (s .args .t .now)) (s .args .b .0) (after-p .p .given .0 .0) = rw (after-p .p .given .1) at (after-find .find .ensures) in
     c .before .before .set-cell .ensures ∙ put-here (s .args .most) (words (s .args .t .now)) (length (s .args .t .now))
-    (length-words (s .args .t .now) ∙ omega arith) (s .pre .0) (s .args .b) (after-p .p .given .0 .0) h (s .args .k)
+    (length-words (s .args .t .now) ∙ omega arith) (s .pre .0) (s .args .b .0) (after-p .p .given .0 .0) h (s .args .k .0)
 
 same-length-2 : tie.Need-same-length-2
 same-length-2 c = search needs
@@ -60,9 +60,9 @@ returns-2 c =
     let after-p2 = c .before .before .before .before .before .before in
     let after-find = after-p2 .before .before in
     let s = after-find .before .before .before in
-    let g : GapAt 2 (words (s .args .t .now)) (s .args .b) (after-p2 .p2 .given .0 .0) = rw (after-p2 .p2 .given .1) at (after-find .find .ensures) in
+    let g : GapAt 2 (words (s .args .t .now)) (s .args .b .0) (after-p2 .p2 .given .0 .0) = rw (after-p2 .p2 .given .1) at (after-find .find .ensures) in
     c .before .before .insert-row .ensures ∙ put-gap (s .args .most) (words (s .args .t .now)) (length (s .args .t .now))
-    (length-words (s .args .t .now) ∙ omega arith) (s .pre .0) (s .args .b) (after-p2 .p2 .given .0 .0) g (s .args .k) (s .pre .1)
+    (length-words (s .args .t .now) ∙ omega arith) (s .pre .0) (s .args .b .0) (after-p2 .p2 .given .0 .0) g (s .args .k .0) (s .pre .1)
 
 pub insert-spec : {M : Type 1} → statement M
 insert-spec =

@@ -19,7 +19,7 @@ enum-known-p c = search needs
 key-at-requires : tie.Need-key-at-requires
 key-at-requires c κs =
     let s = c .before .before .before .before .before in
-    let h : HereAt 2 (words (s .args .t .now)) (s .args .b) (c .before .p .given .0 .0) = rw (c .before .p .given .1) at
+    let h : HereAt 2 (words (s .args .t .now)) (s .args .b .0) (c .before .p .given .0 .0) = rw (c .before .p .given .1) at
     (c .before .before .before .find .ensures) in
     (record { few = s .pre .few; size = s .pre .size }, h .in-use)
 
@@ -29,17 +29,17 @@ enum-told c = search needs
 returns : tie.Need-returns
 returns c =
     let s = c .before .before .before .before .before .before in
-    let h : HereAt 2 (words (s .args .t .now)) (s .args .b) (c .before .before .p .given .0 .0) = rw (c .before .before .p .given .1) at
+    let h : HereAt 2 (words (s .args .t .now)) (s .args .b .0) (c .before .before .p .given .0 .0) = rw (c .before .before .p .given .1) at
     (c .before .before .before .before .find .ensures) in
     c .key-at .ensures ∙ sym (look-here (s .args .most) (words (s .args .t .now)) (length (s .args .t .now)) (length-words (s .args .t .now) ∙ omega arith)
-    (s .pre) (s .args .b) (c .before .before .p .given .0 .0) h)
+    (s .pre) (s .args .b .0) (c .before .before .p .given .0 .0) h)
 
 returns-2 : tie.Need-returns-2
 returns-2 c =
     let s = c .before .before .before .before in
-    let h : GapAt 2 (words (s .args .t .now)) (s .args .b) (c .enum-told .given .0 .0) = rw (c .enum-told .given .1) at
+    let h : GapAt 2 (words (s .args .t .now)) (s .args .b .0) (c .enum-told .given .0 .0) = rw (c .enum-told .given .1) at
     (c .before .before .find .ensures) in
-    sym (look-gap (s .args .most) (words (s .args .t .now)) (length (s .args .t .now)) (length-words (s .args .t .now) ∙ omega arith) (s .pre) (s .args .b)
+    sym (look-gap (s .args .most) (words (s .args .t .now)) (length (s .args .t .now)) (length-words (s .args .t .now) ∙ omega arith) (s .pre) (s .args .b .0)
     (c .enum-told .given .0 .0) h)
 
 pub look-spec : {M : Type 1} → statement M

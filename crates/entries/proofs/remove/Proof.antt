@@ -19,7 +19,7 @@ enum-known-p c = search needs
 remove-row-requires : tie.Need-remove-row-requires
 remove-row-requires c κs =
     let s = c .before .before .before .before .before .before .before in
-    let h : HereAt 2 (words (s .args .t .now)) (s .args .b) (c .before .before .p .given .0 .0) = rw (c .before .before .p .given .1) at
+    let h : HereAt 2 (words (s .args .t .now)) (s .args .b .0) (c .before .before .p .given .0 .0) = rw (c .before .before .p .given .1) at
     (c .before .before .before .before .find .ensures) in
     (record { few = s .pre .few; size = s .pre .size }, h .in-use)
 
@@ -34,9 +34,9 @@ returns c =
     let after-p = c .before .before .before .before .before in
     let after-find = after-p .before .before in
     let s = after-find .before .before .before in
-    let h : HereAt 2 (words (s .args .t .now)) (s .args .b) (after-p .p .given .0 .0) = rw (after-p .p .given .1) at (after-find .find .ensures) in
+    let h : HereAt 2 (words (s .args .t .now)) (s .args .b .0) (after-p .p .given .0 .0) = rw (after-p .p .given .1) at (after-find .find .ensures) in
     c .before .before .remove-row .ensures ∙ remove-leaves (s .args .most) (words (s .args .t .now)) (length (s .args .t .now))
-    (length-words (s .args .t .now) ∙ omega arith) (s .pre) (s .args .b) (after-p .p .given .0 .0) h
+    (length-words (s .args .t .now) ∙ omega arith) (s .pre) (s .args .b .0) (after-p .p .given .0 .0) h
 
 same-length-2 : tie.Need-same-length-2
 same-length-2 c = search needs
@@ -44,9 +44,9 @@ same-length-2 c = search needs
 returns-2 : tie.Need-returns-2
 returns-2 c =
     let s = c .before .before .before .before .before in
-    let g : GapAt 2 (words (s .args .t .now)) (s .args .b) (c .enum-told .given .0 .0) = rw (c .enum-told .given .1) at
+    let g : GapAt 2 (words (s .args .t .now)) (s .args .b .0) (c .enum-told .given .0 .0) = rw (c .enum-told .given .1) at
     (c .before .before .find .ensures) in
-    remove-gap (s .args .most) (words (s .args .t .now)) (length (s .args .t .now)) (length-words (s .args .t .now) ∙ omega arith) (s .pre) (s .args .b)
+    remove-gap (s .args .most) (words (s .args .t .now)) (length (s .args .t .now)) (length-words (s .args .t .now) ∙ omega arith) (s .pre) (s .args .b .0)
     (c .enum-told .given .0 .0) g
 
 pub remove-spec : {M : Type 1} → statement M

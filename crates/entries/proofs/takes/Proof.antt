@@ -15,7 +15,7 @@ has-requires c κs = search needs
 returns : tie.Need-returns
 returns c =
     let s = c .before .before .before in
-    sym (takes-has (s .args .most) (entries (words (s .args .t .now))) (s .args .b) (sym (c .before .has .ensures) ∙ c .if1 .taken))
+    sym (takes-has (s .args .most) (entries (words (s .args .t .now))) (s .args .b .0) (sym (c .before .has .ensures) ∙ c .if1 .taken))
 
 read-requires : tie.Need-read-requires
 read-requires c κs = search needs
@@ -23,7 +23,7 @@ read-requires c κs = search needs
 returns-2 : tie.Need-returns-2
 returns-2 c =
     let s = c .before .before .before .before in
-    sym (takes-room (s .args .most) (entries (words (s .args .t .now))) (s .args .b) (sym (c .before .before .has .ensures) ∙ c .before .if1 .left) ∙ rw
+    sym (takes-room (s .args .most) (entries (words (s .args .t .now))) (s .args .b .0) (sym (c .before .before .has .ensures) ∙ c .before .if1 .left) ∙ rw
     (entries-length (s .args .most) (words (s .args .t .now)) (length-words (s .args .t .now) ∙ omega arith) (s .pre .few), c .read .ensures))
 
 pub takes-spec : {M : Type 1} → statement M

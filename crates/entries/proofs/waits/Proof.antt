@@ -15,7 +15,7 @@ use Rattle.entries.proofs.waits.Tie as tie
 
 abbrev Inv-loop : tie.InvT-loop
 Inv-loop t most b n i₀ i =
-    (i ≤ n) × (n ≡ getD (words t) 0 0) × ((j : ℕ) → j < i → entry-at (entries (words t)) j .block ≢ b)
+    (i ≤ n) × (n ≡ getD (words t) 0 0) × ((j : ℕ) → j < i → entry-at (entries (words t)) j .block ≢ b .0)
 
 abbrev μ-loop : tie.MeasureT-loop
 μ-loop t most b n i₀ i = n - i
@@ -31,11 +31,11 @@ block-at-requires c κs = search needs
 
 returns : tie.Need-returns Inv-loop μ-loop
 returns c =
-    let s = c .before .before .before .before .before .before in
-    let l = c .before .before .before .loop in
-    sym (has-at (s .args .b) (entries (words (s .args .t .now))) (l .i)
+    let s = c .before .before .before .before .before .before .before .before in
+    let l = c .before .before .before .before .before .loop in
+    sym (has-at (s .args .b .0) (entries (words (s .args .t .now))) (l .i)
     (rw (entries-length (s .args .most) (words (s .args .t .now)) (length-words (s .args .t .now) ∙ omega arith) (s .pre .few)) (omega arith))
-    (sym (c .before .block-at .ensures) ∙ c .if1 .taken))
+    (sym (c .before .before .before .block-at .ensures) ∙ c .if1 .taken))
 
 add-i : tie.Need-add-i Inv-loop μ-loop
 add-i c = search needs
@@ -45,19 +45,19 @@ loop-less c = search needs
 
 loop-again : tie.Need-loop-again Inv-loop μ-loop
 loop-again c =
-    let s = c .before .before .before .before .before .before in
-    let l = c .before .before .before .loop in (
+    let s = c .before .before .before .before .before .before .before .before in
+    let l = c .before .before .before .before .before .loop in (
       search needs,
       search needs,
-      below-more (λ j. entry-at (entries (words (s .args .t .now))) j .block ≢ s .args .b) (l .i) (l .inv .2)
-          (λ e. c .if1 .left (c .before .block-at .ensures ∙ e)),
+      below-more (λ j. entry-at (entries (words (s .args .t .now))) j .block ≢ s .args .b .0) (l .i) (l .inv .2)
+          (λ e. c .if1 .left (c .before .before .before .block-at .ensures ∙ e)),
     )
 
 returns-2 : tie.Need-returns-2 Inv-loop μ-loop
 returns-2 c =
     let s = c .before .before .before .before in
     let l = c .before .loop in
-    sym (has-none (s .args .b) (entries (words (s .args .t .now)))
+    sym (has-none (s .args .b .0) (entries (words (s .args .t .now)))
     (λ j h. let q : j < getD (words (s .args .t .now)) 0 0 = rw
     (entries-length (s .args .most) (words (s .args .t .now)) (length-words (s .args .t .now) ∙ omega arith) (s .pre .few)) at h in l .inv .2 j
     (omega arith)))
