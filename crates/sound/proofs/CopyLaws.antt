@@ -15,7 +15,7 @@ use Rattle.rules.specs.Sound.{same-entries}
 use Rattle.layout.specs.Layout.{copy-codec, copies-codec, copies-words}
 use Rattle.layout.proofs.Lent.{lent}
 use Rattle.sound.specs.declared.rows.Whose.the-variants.{Bucket}
-use Rattle.sound.specs.Rows.{entries-in, table-good}
+use Rattle.sound.specs.Rows.{table-good}
 use Rattle.sound.specs.Copies.{copies-good, copies-at-good}
 
 module _ (c : Settings) (good : ℕ → Bool) (up : Bool) where
@@ -25,8 +25,8 @@ module _ (c : Settings) (good : ℕ → Bool) (up : Bool) where
   -- the test of the two tables, from their words
   pub copies-are : (g : ℕ) (ws memory disk : List ℕ) → length ws ≡ copies-words c → memory ≡ run 0 half ws → disk ≡ run half half ws
       → copies-good c good g up (copies-codec c .dec ws)
-      ≡ (table-good c good (Bucket g) (c .entries) (entries-in memory) and table-good c good (Bucket g) (c .entries) (entries-in disk)
-      and (up or same-entries (entries-in memory) (entries-in disk)))
+      ≡ (table-good c good (Bucket g) (c .entries) (copy-codec c .dec memory) and table-good c good (Bucket g) (c .entries) (copy-codec c .dec disk)
+      and (up or same-entries (copy-codec c .dec memory) (copy-codec c .dec disk)))
   unfolding copies-good
   copies-are g ws memory disk h em ed =
       let l : length (drop half ws) ≡ half = length-drop half ws ∙ omega arith in
@@ -35,9 +35,9 @@ module _ (c : Settings) (good : ℕ → Bool) (up : Bool) where
   -- from the parts of a slice that are lent, of h bytes each
   pub copies-lent : (g h : ℕ) (s : List ℕ) → length s ≡ 8 * copies-words c → h ≡ 8 * half
       → copies-good c good g up (copies-codec c .dec (words s))
-      ≡ (table-good c good (Bucket g) (c .entries) (entries-in (words (take (h - 0) (drop 0 s))))
-      and table-good c good (Bucket g) (c .entries) (entries-in (words (take (h + h - h) (drop h s))))
-      and (up or same-entries (entries-in (words (take (h - 0) (drop 0 s)))) (entries-in (words (take (h + h - h) (drop h s))))))
+      ≡ (table-good c good (Bucket g) (c .entries) (copy-codec c .dec (words (take (h - 0) (drop 0 s))))
+      and table-good c good (Bucket g) (c .entries) (copy-codec c .dec (words (take (h + h - h) (drop h s))))
+      and (up or same-entries (copy-codec c .dec (words (take (h - 0) (drop 0 s)))) (copy-codec c .dec (words (take (h + h - h) (drop h s))))))
   copies-lent g h s l e =
       copies-are g (words s) _ _ (length-words s ∙ omega arith) (lent s 0 h 0 half refl (omega arith) (omega arith))
       (lent s h (h + h) half half (omega arith) (omega arith) (omega arith))

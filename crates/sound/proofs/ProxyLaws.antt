@@ -16,13 +16,13 @@ use Rattle.rules.specs.declared.settings.Settings.{Settings}
 use Rattle.rules.specs.Limits.{max-number, max-items, max-waiting}
 use Rattle.layout.specs.Layout.{proxy-codec, items-codec, proxy-words, items-at, buffer-codec, buffer-at}
 use Rattle.sound.specs.declared.rows.Whose.the-variants.{Proxy, Anyone}
-use Rattle.sound.specs.Rows.{entries-in, rows-good, table-good}
+use Rattle.sound.specs.Rows.{rows-good, table-good}
 use Rattle.sound.specs.Proxies.{proxy-good}
 use Rattle.sound.specs.Places.{buffer-good}
 
 module _ (c : Settings) (good : ℕ → Bool) where
   pub proxy-is : (p : ℕ) (ws v : List ℕ) → length ws ≡ proxy-words → v ≡ run items-at (items-codec .size) ws
-      → proxy-good c good p (proxy-codec .dec ws) ≡ (leb (getD ws 0 0) max-number and table-good c good (Proxy p) max-items (entries-in v))
+      → proxy-good c good p (proxy-codec .dec ws) ≡ (leb (getD ws 0 0) max-number and table-good c good (Proxy p) max-items (items-codec .dec v))
   unfolding proxy-good
   proxy-is p ws v h e =
       let l : length (drop 1 ws) ≡ items-codec .size = length-drop 1 ws ∙ omega arith in
@@ -43,6 +43,6 @@ module _ (c : Settings) (good : ℕ → Bool) where
         by-eq n 0 (λ q z. q ∙ sym (both _ _ (none (sym e ∙ z)) (or-no _ _ u ∙ rw (← e) q))) (λ q z. q ∙ sym (no-second _ _ (or-no _ _ u ∙ rw (← e) q)))
 
     pub buffer-up : up ≡ true → (v : List ℕ) → v ≡ run buffer-at (buffer-codec .size) w
-        → table-good c good Anyone max-waiting (entries-in v) ≡ buffer-good c good up w
+        → table-good c good Anyone max-waiting (buffer-codec .dec v) ≡ buffer-good c good up w
     unfolding buffer-good
     buffer-up u v e = rw e (sym (yes-second _ _ (or-l _ _ u)))

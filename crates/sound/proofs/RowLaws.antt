@@ -18,8 +18,9 @@ use Rattle.rules.specs.declared.settings.Settings.{Settings}
 use Rattle.rules.specs.Numbers.{blocks}
 use Rattle.rules.specs.Entries.{Entry, entry}
 use Rattle.layout.specs.Disk.{entry-row}
+use Rattle.layout.specs.Layout.{entries-codec}
 use Rattle.sound.specs.declared.rows.Whose.{Whose}
-use Rattle.sound.specs.Rows.{floor-after, entry-good, rows-good, first-entries, entries-in, table-good}
+use Rattle.sound.specs.Rows.{floor-after, entry-good, rows-good, first-entries, table-good}
 
 -- the words of an entry in a table
 pub entry-at : (ws : List ℕ) (i : ℕ) → entry-row .read (part 2 i (drop 1 ws)) ≡ entry (getD ws (1 + 2 * i) 0) (getD ws (2 + 2 * i) 0)
@@ -66,21 +67,21 @@ module _ (c : Settings) (good : ℕ → Bool) (whose : Whose) (n : ℕ) (ws : Li
 
 -- ---- a whole table
 module _ (c : Settings) (good : ℕ → Bool) (whose : Whose) (most : ℕ) (ws : List ℕ) (n : ℕ) (e : n ≡ getD ws 0 0) where
-  count : length (entries-in ws) ≡ n
+  count : length (entries-codec most .dec ws) ≡ n
   unfolding table-dec
   count = length-rows 2 (entry-row .read) (getD ws 0 0) (drop 1 ws) ∙ sym e
 
-  pub table-over : most < n → table-good c good whose most (entries-in ws) ≡ false
+  pub table-over : most < n → table-good c good whose most (entries-codec most .dec ws) ≡ false
   unfolding table-good
   table-over l = no-first _ _ (rw count (lt-leb n most l))
 
-  pub table-rows : n ≤ most → table-good c good whose most (entries-in ws) ≡ rows-good c good whose 0 (first-entries n ws)
+  pub table-rows : n ≤ most → table-good c good whose most (entries-codec most .dec ws) ≡ rows-good c good whose 0 (first-entries n ws)
   unfolding table-good table-dec
   table-rows l = yes-first _ _ (rw count (le-leb n most l)) ∙ rw e
 
 -- a table that passes has room for its rows
-pub table-few : (c : Settings) (good : ℕ → Bool) (whose : Whose) (most : ℕ) (ws : List ℕ) → table-good c good whose most (entries-in ws) ≡ true
+pub table-few : (c : Settings) (good : ℕ → Bool) (whose : Whose) (most : ℕ) (ws : List ℕ) → table-good c good whose most (entries-codec most .dec ws) ≡ true
     → getD ws 0 0 ≤ most
 unfolding table-good table-dec
 table-few c good whose most ws y =
-    rw (length-rows 2 (entry-row .read) (getD ws 0 0) (drop 1 ws)) at (leb-true (length (entries-in ws)) most (and-l _ _ y))
+    rw (length-rows 2 (entry-row .read) (getD ws 0 0) (drop 1 ws)) at (leb-true (length (entries-codec most .dec ws)) most (and-l _ _ y))

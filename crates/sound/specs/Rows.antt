@@ -6,7 +6,7 @@ use Prim.Native.Nat.{ℕ, suc, _+_, _*_, _≤_}
 use lib.Dec.{ltb, leb, eqb}
 use lib.ListN.{length, getD, drop}
 use Rattle.lists.specs.Tests.{_and_}
-use Rattle.lists.specs.Rows.{rows, table-dec}
+use Rattle.lists.specs.Rows.{rows}
 use Rattle.rules.specs.declared.settings.Settings.{Settings}
 use Rattle.rules.specs.Limits.{buckets, max-id, max-entries}
 use Rattle.rules.specs.Numbers.{blocks, proxy-of, bucket-of, home-of, sequence-of}
@@ -47,12 +47,9 @@ pub record RowsFit (limits bytes n : ℕ) : Type 0 where
   pub known : limits ≡ ids
   pub room : 8 * (1 + 2 * n) ≤ bytes
 
--- the first n entries, and all in use
+-- the first n entries of a table
 abbrev pub first-entries : ℕ → List ℕ → List Entry
 first-entries n ws = rows (entry-row .size) (entry-row .read) n (drop 1 ws)
-
-abbrev pub entries-in : List ℕ → List Entry
-entries-in ws = table-dec (entry-row .size) (entry-row .read) ws
 
 unfoldable pub table-good : Settings → (ℕ → Bool) → Whose → ℕ → List Entry → Bool
 table-good c good whose most l = leb (length l) most and rows-good c good whose 0 l

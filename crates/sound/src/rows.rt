@@ -5,7 +5,8 @@ ghost use lib.ListN.{length};
 ghost use Rattle.words.specs.Words.{words};
 ghost use Rattle.rules.specs.Numbers.{blocks};
 ghost use Rattle.rules.specs.Entries.{entry};
-ghost use Rattle.sound.specs.Rows.{ids, key-below, belongs, floor-after, entry-good, rows-good, first-entries, entries-in, table-good, RowsFit, TableFit};
+ghost use Rattle.layout.specs.Layout.{entries-codec};
+ghost use Rattle.sound.specs.Rows.{ids, key-below, belongs, floor-after, entry-good, rows-good, first-entries, table-good, RowsFit, TableFit};
 use rules::constants;
 use rules::numbers::BlockNumber;
 use rules::numbers::ChunkKey;
@@ -92,7 +93,7 @@ pub fn table_good(
     most: usize,
 ) -> bool
     requires { ⌜ TableFit (length (now limits)) (length (now bytes)) most ⌝ }
-    ensures { λ r. ⌜ r ≡ table-good settings (key-below (now (limits .entry))) whose most (entries-in (words (now (bytes .entry)))) ⌝ }
+    ensures { λ r. ⌜ r ≡ table-good settings (key-below (now (limits .entry))) whose most (entries-codec most .dec (words (now (bytes .entry)))) ⌝ }
 {
     let count = words::read(bytes, 0);
     if (most as u64) < count {
