@@ -14,12 +14,12 @@ use Rattle.lists.proofs.Tests.{by}
 use Rattle.lists.proofs.Lists.{only-more}
 use Rattle.lists.proofs.Runs.{run-length, on-at-before, on-by, on-id, on-twice, on-same}
 use Rattle.rules.specs.Numbers.{bucket-of}
-use Rattle.rules.specs.Entries.{Entry, entry, waits-for, drain, ascending}
+use Rattle.rules.specs.Entries.{Entry, entry, waits-for, take-in, drain, ascending}
 use Rattle.tables.specs.Tables.{Sorted}
 use Rattle.codec.specs.Codec.{change}
 use Rattle.layout.specs.Layout.{entries-codec}
 use Rattle.entries.specs.Words.{entries-words, entry-at}
-use Rattle.entries.specs.Steps.{take-in, drained-at, drained-words, Drains}
+use Rattle.entries.specs.Steps.{drained-at, drained-words, Drains}
 use Rattle.entries.proofs.Sorted.{take-grows, drain-more, drain-ascends, drain-few}
 use Rattle.entries.proofs.Words.{entries, entries-back, entries-keeps, entries-over, entries-clean, entries-length, at-words, sorted-of, sorted-ascends}
 

@@ -10,11 +10,10 @@ use lib.ListN.{length, set}
 use borrow.Author.Tests.{lt-ltb, le-ltb, le-leb, leb-true, ltb-true, eq-eqb, ne-eqb, eqb-true}
 use Rattle.lists.specs.Tests.{_or_, some, only}
 use Rattle.lists.proofs.Tests.{by, by-eq, by-lt, impossible, and-l, and-r, both, or-l, or-r, eqb-self}
-use Rattle.rules.specs.Entries.{Entry, entry, look, has, insert, remove, takes, drain, ascending}
+use Rattle.rules.specs.Entries.{Entry, entry, look, has, insert, remove, takes, drain, ascending, take-in}
 use Rattle.rules.specs.Sound.{same-entries}
 use Rattle.tables.specs.Tables.{insert-at, remove-at}
 use Rattle.entries.specs.Words.{entry-at}
-use Rattle.entries.specs.Steps.{take-in}
 
 -- ---- look-up
 module _ (b : ℕ) where

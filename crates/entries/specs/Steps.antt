@@ -7,7 +7,7 @@ use lib.Dec.{eqb}
 use lib.ListN.{getD, drop}
 use lib.Seq.{paste}
 use Rattle.rules.specs.Numbers.{bucket-of}
-use Rattle.rules.specs.Entries.{Entry, entry, insert, takes, waits-for, drain}
+use Rattle.rules.specs.Entries.{entry, waits-for, take-in, drain}
 use Rattle.lists.specs.Tests.{only}
 use Rattle.lists.specs.Runs.{run, on-run}
 use Rattle.tables.specs.Tables.{first-at, Sorted}
@@ -29,10 +29,6 @@ abbrev pub stays : ℕ → ℕ → List ℕ → Bool
 stays count g r = not (eqb (bucket-of count (getD r 0 0)) g)
 
 -- ---- entries that move from a buffer into a copy
--- one entry, dropped where it is new and finds the copy full
-abbrev pub take-in : ℕ → List Entry → Entry → List Entry
-take-in most l e = cond (takes most l (e .block)) (insert l (e .block) (e .key)) l
-
 -- the entry at a word, where it is of the bucket, taken into the copy
 unfoldable pub drained-at : ℕ → ℕ → ℕ → ℕ → ℕ → List ℕ → List ℕ
 drained-at count g at copy most ws =

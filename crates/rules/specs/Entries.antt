@@ -52,6 +52,9 @@ unfoldable pub waits-for : ℕ → ℕ → Entry → Bool
 waits-for count number entry = eqb (bucket-of count (entry .block)) number
 
 -- buffer entries move into a copy in arrival order; a new block that finds it full is dropped
+abbrev pub take-in : ℕ → List Entry → Entry → List Entry
+take-in most copy entry = cond (takes most copy (entry .block)) (insert copy (entry .block) (entry .key)) copy
+
 unfoldable pub drain : ℕ → List Entry → List Entry → List Entry
 drain most copy [] = copy
-drain most copy (entry ∷ rest) = drain most (cond (takes most copy (entry .block)) (insert copy (entry .block) (entry .key)) copy) rest
+drain most copy (entry ∷ rest) = drain most (take-in most copy entry) rest

@@ -2,10 +2,10 @@ use mathlib.Core.Path.{_≡_, refl, sym, _∙_}
 use Prim.Native.Nat.{_+_, _*_, _-_}
 use native.Mathlib.Omega.{arith}
 use lib.ListN.{length, take, drop}
-use Rattle.rules.specs.Entries.{entry}
+use Rattle.rules.specs.Entries.{entry, take-in}
 use Rattle.lists.proofs.Runs.{run-length}
 use Rattle.words.proofs.Laws.{words-part, lent-run}
-use Rattle.entries.specs.Steps.{take-in, drained-at}
+use Rattle.entries.specs.Steps.{drained-at}
 use Rattle.codec.specs.Codec.{change}
 use Rattle.layout.specs.Layout.{entries-codec}
 use borrow.Author.Needs.{needs}
