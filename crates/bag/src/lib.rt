@@ -13,6 +13,9 @@ ghost use Rattle.layout.specs.Layout.{bag-codec};
 ghost use Rattle.bag.specs.Relays.{relay-words, relay-at};
 use layout::sizes::RELAY_WORDS;
 use rules::constants::MAX_RELAYS;
+use rules::numbers::BlockNumber;
+use rules::numbers::ChunkKey;
+use rules::numbers::ViewNumber;
 
 // what the words of a row are
 const VIEW: usize = 0;
@@ -25,12 +28,12 @@ const BLOCK: usize = 3;
 
 const KEY: usize = 4;
 
-pub fn view_at(t: &[u8], i: usize) -> u64
+pub fn view_at(t: &[u8], i: usize) -> ViewNumber
     requires { ⌜ IsTable relay-words max-relays (words (now t)) (length (now t)) ⌝ }
     requires { ⌜ i < getD (words (now t)) 0 0 ⌝ }
-    ensures { λ r. ⌜ r ≡ relay-at (words (now (t .entry))) i .view ⌝ }
+    ensures { λ r. ⌜ r .0 ≡ relay-at (words (now (t .entry))) i .view ⌝ }
 {
-    tables::cell(t, RELAY_WORDS, MAX_RELAYS, i, VIEW)
+    ViewNumber(tables::cell(t, RELAY_WORDS, MAX_RELAYS, i, VIEW))
 }
 
 pub fn bucket_at(t: &[u8], i: usize) -> u64
@@ -49,30 +52,37 @@ pub fn order_at(t: &[u8], i: usize) -> u64
     tables::cell(t, RELAY_WORDS, MAX_RELAYS, i, ORDER)
 }
 
-pub fn block_at(t: &[u8], i: usize) -> u64
+pub fn block_at(t: &[u8], i: usize) -> BlockNumber
     requires { ⌜ IsTable relay-words max-relays (words (now t)) (length (now t)) ⌝ }
     requires { ⌜ i < getD (words (now t)) 0 0 ⌝ }
-    ensures { λ r. ⌜ r ≡ relay-at (words (now (t .entry))) i .block ⌝ }
+    ensures { λ r. ⌜ r .0 ≡ relay-at (words (now (t .entry))) i .block ⌝ }
 {
-    tables::cell(t, RELAY_WORDS, MAX_RELAYS, i, BLOCK)
+    BlockNumber(tables::cell(t, RELAY_WORDS, MAX_RELAYS, i, BLOCK))
 }
 
-pub fn key_at(t: &[u8], i: usize) -> u64
+pub fn key_at(t: &[u8], i: usize) -> ChunkKey
     requires { ⌜ IsTable relay-words max-relays (words (now t)) (length (now t)) ⌝ }
     requires { ⌜ i < getD (words (now t)) 0 0 ⌝ }
-    ensures { λ r. ⌜ r ≡ relay-at (words (now (t .entry))) i .key ⌝ }
+    ensures { λ r. ⌜ r .0 ≡ relay-at (words (now (t .entry))) i .key ⌝ }
 {
-    tables::cell(t, RELAY_WORDS, MAX_RELAYS, i, KEY)
+    ChunkKey(tables::cell(t, RELAY_WORDS, MAX_RELAYS, i, KEY))
 }
 
 // A relay more, as the youngest.
-pub fn append(t: &mut [u8], view: u64, bucket: u64, order: u64, block: u64, key: u64)
+pub fn append(
+    t: &mut [u8],
+    view: ViewNumber,
+    bucket: u64,
+    order: u64,
+    block: BlockNumber,
+    key: ChunkKey,
+)
     requires { ⌜ IsTable relay-words max-relays (words (now t)) (length (now t)) ⌝ }
     requires { ⌜ getD (words (now t)) 0 0 < max-relays ⌝ }
-    ensures { λ _. ⌜ words (now (t .exit)) ≡ change bag-codec (λ l. l ++ relay view bucket order block key ∷ []) (words (now (t .entry))) ⌝ }
+    ensures { λ _. ⌜ words (now (t .exit)) ≡ change bag-codec (λ l. l ++ relay (view .0) bucket order (block .0) (key .0) ∷ []) (words (now (t .entry))) ⌝ }
 {
     let n = words::read(t, 0) as usize;
-    let row = [view, bucket, order, block, key];
+    let row = [view.0, bucket, order, block.0, key.0];
     tables::insert_row(t, RELAY_WORDS, MAX_RELAYS, n, &row);
 }
 

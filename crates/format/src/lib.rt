@@ -18,6 +18,7 @@ use parts::agreed::Agreed;
 use parts::head::Head;
 use parts::status::Status;
 use rules::constants;
+use rules::numbers::ViewNumber;
 use rules::settings::Settings;
 
 // Bucket g's record: the bricks take the slots of the pairs in turn.
@@ -147,7 +148,7 @@ pub fn first_state(s: &mut [u8], settings: Settings)
     let end = s.len();
     let head = Head {
         settings,
-        view: 1,
+        view: ViewNumber(1),
         given: settings.places as u64,
         started: settings.places as u64,
     };

@@ -7,7 +7,7 @@ use Rattle.parts.specs.declared.status.Status.{Status}
 use Rattle.layout.specs.Disk as disk
 
 abbrev pub head-of : Head → disk.Head
-head-of h = record { settings = h .settings; view = h .view; given = h .given; started = h .started }
+head-of h = record { settings = h .settings; view = h .view .0; given = h .given; started = h .started }
 
 abbrev pub agreed-of : Agreed → disk.Agreed
 agreed-of a = record {

@@ -6,11 +6,12 @@ ghost use Rattle.words.specs.Words.{words};
 ghost use Rattle.layout.specs.Layout.{head-codec, head-words};
 ghost use Rattle.parts.specs.Parts.{head-of};
 use layout::sizes;
+use rules::numbers::ViewNumber;
 use rules::settings::Settings;
 
 pub struct Head {
     pub settings: Settings,
-    pub view: u64,
+    pub view: ViewNumber,
     pub given: u64,
     pub started: u64,
 }
@@ -28,7 +29,7 @@ pub fn read(part: &[u8]) -> Head
     };
     Head {
         settings,
-        view: words::read(part, sizes::VIEW_AT),
+        view: ViewNumber(words::read(part, sizes::VIEW_AT)),
         given: words::read(part, sizes::GIVEN_AT),
         started: words::read(part, sizes::STARTED_AT),
     }
@@ -43,7 +44,7 @@ pub fn write(part: &mut [u8], head: Head)
         head.settings.size as u64,
         head.settings.entries as u64,
         head.settings.chunks as u64,
-        head.view,
+        head.view.0,
         head.given,
         head.started,
     ];

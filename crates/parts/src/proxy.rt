@@ -7,18 +7,19 @@ ghost use Rattle.codec.specs.Codec.{change};
 ghost use Rattle.layout.specs.Layout.{proxy-codec, proxy-words};
 ghost use Rattle.parts.specs.Parts.{with-known};
 use layout::sizes;
+use rules::numbers::ViewNumber;
 
-pub fn known(part: &[u8]) -> u64
+pub fn known(part: &[u8]) -> ViewNumber
     requires { ⌜ length (now part) ≡ 8 * proxy-words ⌝ }
-    ensures { λ r. ⌜ r ≡ proxy-codec .dec (words (now (part .entry))) .known ⌝ }
+    ensures { λ r. ⌜ r .0 ≡ proxy-codec .dec (words (now (part .entry))) .known ⌝ }
 {
-    words::read(part, sizes::KNOWN_AT)
+    ViewNumber(words::read(part, sizes::KNOWN_AT))
 }
 
 // The items stay.
-pub fn set_known(part: &mut [u8], view: u64)
+pub fn set_known(part: &mut [u8], view: ViewNumber)
     requires { ⌜ length (now part) ≡ 8 * proxy-words ⌝ }
-    ensures { λ _. ⌜ words (now (part .exit)) ≡ change proxy-codec (with-known view) (words (now (part .entry))) ⌝ }
+    ensures { λ _. ⌜ words (now (part .exit)) ≡ change proxy-codec (with-known (view .0)) (words (now (part .entry))) ⌝ }
 {
-    words::write(part, sizes::KNOWN_AT, view);
+    words::write(part, sizes::KNOWN_AT, view.0);
 }

@@ -26,8 +26,8 @@ returns c =
     c .before .before .insert-row .ensures
     ∙ append-leaves (words (s .args .t .now)) (length-words (s .args .t .now) ∙ omega arith) (s .pre .0 .few)
     (c .before .before .before .before .before .read .result)
-    (relay (s .args .view) (s .args .bucket) (s .args .order) (s .args .block) (s .args .key)) (c .before .before .before .before .before .read .ensures)
-    (s .pre .1)
+    (relay (s .args .view .0) (s .args .bucket) (s .args .order) (s .args .block .0) (s .args .key .0))
+    (c .before .before .before .before .before .read .ensures) (s .pre .1)
 
 pub append-spec : {M : Type 1} → statement M
 append-spec =

@@ -92,7 +92,7 @@ part-places-end : tie.Need-part-places-end
 part-places-end c = search needs
 
 places-requires : tie.Need-places-requires
-places-requires c κs = search needs
+places-requires c κs = (search needs, search needs)
 
 same-length : tie.Need-same-length
 same-length c = search needs

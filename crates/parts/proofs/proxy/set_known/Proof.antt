@@ -17,7 +17,7 @@ returns : tie.Need-returns
 returns c =
     let b = c .before .before .before .before .before in
     let s = b .args .part .now in
-    c .before .before .write .ensures ∙ known-changed (b .args .view) (words s) (length-words s ∙ omega (arith, b .pre))
+    c .before .before .write .ensures ∙ known-changed (b .args .view .0) (words s) (length-words s ∙ omega (arith, b .pre))
 
 pub set-known-spec : {M : Type 1} → statement M
 set-known-spec = tie.close (tie.spec write-requires same-length returns)
