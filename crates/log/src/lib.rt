@@ -10,6 +10,7 @@ ghost use Rattle.codec.specs.Codec.{change};
 ghost use Rattle.log.specs.Log.{log-dec, chunks-codec, log-words, chunk-at, position-at, key-by, Ordered, LogWith, IsLog, KeyPlace};
 ghost use Rattle.log.specs.Steps.{hold-saved, Takes, entered};
 ghost use Rattle.log.specs.Answers.{FoundIn};
+use rules::numbers::ChunkKey;
 
 // ---- look-up
 
@@ -48,14 +49,14 @@ pub enum Found {
 }
 
 // Marks in the saved words do no harm.
-pub fn find(log: &[u8], chunks: usize, width: usize, k: u64) -> Found
+pub fn find(log: &[u8], chunks: usize, width: usize, k: ChunkKey) -> Found
     requires { ⌜ LogWith 3 chunks width (words (now log)) (length (now log)) ⌝ }
-    ensures { λ r. ⌜ FoundIn (log-dec chunks width (words (now (log .entry)))) k r ⌝ }
+    ensures { λ r. ⌜ FoundIn (log-dec chunks width (words (now (log .entry)))) (k .0) r ⌝ }
 {
     let n = words::read(log, 0) as usize;
-    let p = place(log, chunks, n, k);
+    let p = place(log, chunks, n, k.0);
     if p < n {
-        if key_by(log, chunks, p) == k {
+        if key_by(log, chunks, p) == k.0 {
             return Found::At(words::read(log, 1 + 2 * chunks + p) as usize);
         }
         return Found::Nothing;
@@ -64,9 +65,9 @@ pub fn find(log: &[u8], chunks: usize, width: usize, k: u64) -> Found
 }
 
 // Is there a chunk with the key?
-pub fn holds(log: &[u8], chunks: usize, width: usize, k: u64) -> bool
+pub fn holds(log: &[u8], chunks: usize, width: usize, k: ChunkKey) -> bool
     requires { ⌜ LogWith 3 chunks width (words (now log)) (length (now log)) ⌝ }
-    ensures { λ r. ⌜ r ≡ held (log-dec chunks width (words (now (log .entry)))) k ⌝ }
+    ensures { λ r. ⌜ r ≡ held (log-dec chunks width (words (now (log .entry)))) (k .0) ⌝ }
 {
     match find(log, chunks, width, k) {
         Found::At(_) => true,
@@ -75,9 +76,9 @@ pub fn holds(log: &[u8], chunks: usize, width: usize, k: u64) -> bool
 }
 
 // Is there a saved chunk with the key?
-pub fn holds_saved(log: &[u8], chunks: usize, width: usize, k: u64) -> bool
+pub fn holds_saved(log: &[u8], chunks: usize, width: usize, k: ChunkKey) -> bool
     requires { ⌜ IsLog chunks width (words (now log)) (length (now log)) ⌝ }
-    ensures { λ r. ⌜ r ≡ saved-in (log-dec chunks width (words (now (log .entry)))) k ⌝ }
+    ensures { λ r. ⌜ r ≡ saved-in (log-dec chunks width (words (now (log .entry)))) (k .0) ⌝ }
 {
     match find(log, chunks, width, k) {
         Found::At(p) => words::read(log, 2 + 2 * p) == 1,
@@ -119,24 +120,24 @@ fn enter(log: &mut [u8], chunks: usize, n: usize, p: usize, key: u64, saved: u64
 }
 
 // A chunk at the end.
-pub fn append(log: &mut [u8], chunks: usize, width: usize, key: u64, saved: bool, bytes: &[u8])
+pub fn append(log: &mut [u8], chunks: usize, width: usize, key: ChunkKey, saved: bool, bytes: &[u8])
     requires { ⌜ IsLog chunks width (words (now log)) (length (now log)) ⌝ }
     requires { ⌜ (getD (words (now log)) 0 0 < chunks) × (length (now bytes) ≡ 8 * width) ⌝ }
     ensures { λ _. ⌜ words (now (log .exit))
-        ≡ change (chunks-codec chunks width) (λ l. append l (chunk key saved (now (bytes .entry)))) (words (now (log .entry))) ⌝ }
+        ≡ change (chunks-codec chunks width) (λ l. append l (chunk (key .0) saved (now (bytes .entry)))) (words (now (log .entry))) ⌝ }
 {
     let n = words::read(log, 0) as usize;
-    let p = place(log, chunks, n, key);
-    enter(log, chunks, n, p, key, saved as u64);
+    let p = place(log, chunks, n, key.0);
+    enter(log, chunks, n, p, key.0, saved as u64);
     let at = words::offset(n, width, chunks);
     let start = 8 * (1 + 3 * chunks + at);
     moves::copy_bytes(&mut log[start..start + 8 * width], bytes);
 }
 
 // The chunk with the key, where there is one, becomes saved.
-pub fn save_key(log: &mut [u8], chunks: usize, width: usize, k: u64)
+pub fn save_key(log: &mut [u8], chunks: usize, width: usize, k: ChunkKey)
     requires { ⌜ IsLog chunks width (words (now log)) (length (now log)) ⌝ }
-    ensures { λ _. ⌜ words (now (log .exit)) ≡ change (chunks-codec chunks width) (λ l. save-key l k) (words (now (log .entry))) ⌝ }
+    ensures { λ _. ⌜ words (now (log .exit)) ≡ change (chunks-codec chunks width) (λ l. save-key l (k .0)) (words (now (log .entry))) ⌝ }
 {
     match find(log, chunks, width, k) {
         Found::At(p) => words::write(log, 2 + 2 * p, 1),
@@ -145,10 +146,10 @@ pub fn save_key(log: &mut [u8], chunks: usize, width: usize, k: u64)
 }
 
 // The log gets the chunk saved: one that is held becomes saved, another is appended.
-pub fn hold_saved(log: &mut [u8], chunks: usize, width: usize, key: u64, bytes: &[u8])
+pub fn hold_saved(log: &mut [u8], chunks: usize, width: usize, key: ChunkKey, bytes: &[u8])
     requires { ⌜ IsLog chunks width (words (now log)) (length (now log)) ⌝ }
-    requires { ⌜ Takes chunks width key (words (now log)) (length (now bytes)) ⌝ }
-    ensures { λ _. ⌜ words (now (log .exit)) ≡ change (chunks-codec chunks width) (hold-saved key (now (bytes .entry))) (words (now (log .entry))) ⌝ }
+    requires { ⌜ Takes chunks width (key .0) (words (now log)) (length (now bytes)) ⌝ }
+    ensures { λ _. ⌜ words (now (log .exit)) ≡ change (chunks-codec chunks width) (hold-saved (key .0) (now (bytes .entry))) (words (now (log .entry))) ⌝ }
 {
     if holds(log, chunks, width, key) {
         save_key(log, chunks, width, key);

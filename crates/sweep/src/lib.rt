@@ -11,6 +11,7 @@ ghost use Rattle.codec.specs.Codec.{change};
 ghost use Rattle.log.specs.Log.{chunks-codec, log-words, position-at, LogWith, IsLog};
 ghost use Rattle.sweep.specs.Sweep.{ranked, pick-first, put-positions, moved, RenumberStep, PackStep, PackAll};
 ghost use Rattle.sweep.specs.Marks.{marked, swept};
+use rules::numbers::ChunkKey;
 
 // Each saved word gets four times its row's rank among the rows that stay.
 fn rank(log: &mut [u8], chunks: usize, width: usize, n: usize)
@@ -119,9 +120,9 @@ pub fn keep_marked(log: &mut [u8], chunks: usize, width: usize)
 }
 
 // The chunk with the key, where there is one, gets a mark, and so stays at the next sweep.
-pub fn mark_key(log: &mut [u8], chunks: usize, width: usize, k: u64)
+pub fn mark_key(log: &mut [u8], chunks: usize, width: usize, k: ChunkKey)
     requires { ⌜ LogWith 3 chunks width (words (now log)) (length (now log)) ⌝ }
-    ensures { λ _. ⌜ words (now (log .exit)) ≡ marked chunks width (λ x. eqb k (x .key)) (words (now (log .entry))) ⌝ }
+    ensures { λ _. ⌜ words (now (log .exit)) ≡ marked chunks width (λ x. eqb (k .0) (x .key)) (words (now (log .entry))) ⌝ }
 {
     match log::find(log, chunks, width, k) {
         log::Found::At(p) => {

@@ -69,7 +69,7 @@ returns c =
     let at = after-offset .offset in
     let q = 8 * (1 + 3 * s .args .chunks + at .result) in
     append-leaves (s .args .chunks) (s .args .width) (s .args .log .now) (s .pre .0)
-    (below-of 256 (s .args .log .now) (λ i. k .slice-known .given i .fits)) (r .result) (after-place .place .result) (s .args .key) (s .args .saved)
+    (below-of 256 (s .args .log .now) (λ i. k .slice-known .given i .fits)) (r .result) (after-place .place .result) (s .args .key .0) (s .args .saved)
     (boolByte (s .args .saved)) (at .result) (s .args .bytes .now) (after-enter .enter .last .0) (c .before .before .copy-bytes .last .0) q
     (q + 8 * s .args .width - q) (flag-word (s .args .saved)) (s .pre .1 .0) (r .ensures) (after-place .place .ensures) (s .pre .1 .1) (omega arith)
     (after-enter .enter .ensures) (c .before .before .copy-bytes .ensures) (at .ensures .0) (at .ensures .1) refl (omega arith)

@@ -30,28 +30,30 @@ read-requires-2 c κs = search needs
 
 returns : tie.Need-returns
 returns c =
+    let after-place = c .before .before .before .before .before in
+    let after-read = after-place .before in
+    let s = after-read .before .before in
+    let v = s .args .log .now in
+    let pl = rw (after-read .read .ensures) at (after-place .place .ensures) in
+    rw (c .read2 .ensures) (found (s .args .chunks) (s .args .width) v (s .pre) (s .args .k .0) (after-place .place .result) pl (omega arith)
+    (sym (c .before .before .before .key-by .ensures) ∙ c .before .if2 .taken))
+
+returns-2 : tie.Need-returns-2
+returns-2 c =
     let after-place = c .before .before .before .before in
     let after-read = after-place .before in
     let s = after-read .before .before in
     let v = s .args .log .now in
     let pl = rw (after-read .read .ensures) at (after-place .place .ensures) in
-    rw (c .read2 .ensures) (found (s .args .chunks) (s .args .width) v (s .pre) (s .args .k) (after-place .place .result) pl (omega arith)
-    (sym (c .before .before .key-by .ensures) ∙ c .before .if2 .taken))
-
-returns-2 : tie.Need-returns-2
-returns-2 c =
-    let s = c .before .before .before .before .before .before in
-    let v = s .args .log .now in
-    let pl = rw (c .before .before .before .before .read .ensures) at (c .before .before .before .place .ensures) in
-    missing (s .args .chunks) (s .args .width) v (s .pre) (s .args .k) (c .before .before .before .place .result) pl
-    (λ _ e. c .if2 .left (c .before .key-by .ensures ∙ e))
+    missing (s .args .chunks) (s .args .width) v (s .pre) (s .args .k .0) (after-place .place .result) pl
+    (λ _ e. c .if2 .left (c .before .before .key-by .ensures ∙ e))
 
 returns-3 : tie.Need-returns-3
 returns-3 c =
     let s = c .before .before .before .before in
     let v = s .args .log .now in
     let pl = rw (c .before .before .read .ensures) at (c .before .place .ensures) in
-    missing (s .args .chunks) (s .args .width) v (s .pre) (s .args .k) (c .before .place .result) pl (λ h _. omega arith)
+    missing (s .args .chunks) (s .args .width) v (s .pre) (s .args .k .0) (c .before .place .result) pl (λ h _. omega arith)
 
 pub find-spec : {M : Type 1} → statement M
 find-spec =

@@ -19,9 +19,9 @@ enum-told-2 c = search needs
 returns : tie.Need-returns
 returns c =
     let s = c .before .before .before .before in
-    let f : FoundAt (log-dec (s .args .chunks) (s .args .width) (words (s .args .log .now))) (s .args .k) (c .enum-told .given .0 .0) = rw
+    let f : FoundAt (log-dec (s .args .chunks) (s .args .width) (words (s .args .log .now))) (s .args .k .0) (c .enum-told .given .0 .0) = rw
     (c .enum-told .given .1) at (c .before .before .find .ensures) in
-    sym (found-held (s .args .chunks) (s .args .width) (s .args .log .now) (s .pre) (s .args .k) _ f)
+    sym (found-held (s .args .chunks) (s .args .width) (s .args .log .now) (s .pre) (s .args .k .0) _ f)
 
 returns-2 : tie.Need-returns-2
 returns-2 c = sym (rw (c .enum-told2 .given .1) at (c .before .before .find .ensures))

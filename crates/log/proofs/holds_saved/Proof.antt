@@ -22,12 +22,13 @@ enum-known-p c = search needs
 -- the chunk found, and so a row in use
 here : (c : tie.After-known-told)
     → FoundAt (log-dec (c .before .before .before .before .before .args .chunks) (c .before .before .before .before .before .args .width)
-    (words (c .before .before .before .before .before .args .log .now))) (c .before .before .before .before .before .args .k)
+    (words (c .before .before .before .before .before .args .log .now))) (c .before .before .before .before .before .args .k .0)
     (c .before .p .given .0 .0)
 here c = rw (c .before .p .given .1) at (c .before .before .before .find .ensures)
 
 row : (c : tie.After-known-told) → c .before .p .given .0 .0 < getD (words (c .before .before .before .before .before .args .log .now)) 0 0
-row c = let s = c .before .before .before .before .before in found-row (s .args .chunks) (s .args .width) (s .args .log .now) (s .pre) (s .args .k) _ (here c)
+row c = let s = c .before .before .before .before .before in found-row (s .args .chunks) (s .args .width) (s .args .log .now) (s .pre)
+    (s .args .k .0) _ (here c)
 
 mul-read : tie.Need-mul-read
 mul-read c = let r = row c in omega arith
@@ -46,12 +47,12 @@ returns c =
     let after-shared-slice-known = c .before .before .before .before .before in
     let s = after-shared-slice-known .before in
     rw (c .read .ensures) (holds-saved (s .args .chunks) (s .args .width) (s .args .log .now) (s .pre)
-    (below-of 256 (s .args .log .now) (λ i. after-shared-slice-known .shared-slice-known .given i .fits)) (s .args .k) _ (here (c .before)))
+    (below-of 256 (s .args .log .now) (λ i. after-shared-slice-known .shared-slice-known .given i .fits)) (s .args .k .0) _ (here (c .before)))
 
 returns-2 : tie.Need-returns-2
 returns-2 c =
     let s = c .before .before .before .before in
-    sym (none-saved (log-dec (s .args .chunks) (s .args .width) (words (s .args .log .now))) (s .args .k)
+    sym (none-saved (log-dec (s .args .chunks) (s .args .width) (words (s .args .log .now))) (s .args .k .0)
     (rw (c .enum-told .given .1) at (c .before .before .find .ensures)))
 
 pub holds-saved-spec : {M : Type 1} → statement M

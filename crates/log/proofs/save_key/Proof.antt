@@ -23,14 +23,14 @@ here : (c : tie.After-write-arg)
     → FoundAt (log-dec (c .before .before .before .before .before .before .before .args .chunks)
     (c .before .before .before .before .before .before .before .args .width)
     (words (c .before .before .before .before .before .before .before .args .log .now)))
-    (c .before .before .before .before .before .before .before .args .k)
+    (c .before .before .before .before .before .before .before .args .k .0)
     (c .before .before .p .given .0 .0)
 here c = rw (c .before .before .p .given .1) at (c .before .before .before .before .find .ensures)
 
 row : (c : tie.After-write-arg) → c .before .before .p .given .0 .0 < getD
     (words (c .before .before .before .before .before .before .before .args .log .now)) 0 0
 row c = let s = c .before .before .before .before .before .before .before in found-row (s .args .chunks) (s .args .width) (s .args .log .now) (s .pre)
-    (s .args .k) _ (here c)
+    (s .args .k .0) _ (here c)
 
 mul-write : tie.Need-mul-write
 mul-write c = let r = row c in omega arith
@@ -52,7 +52,7 @@ returns c =
     let k = c .before .before .before .before .before .before .before .before .before in
     let s = k .before in
     c .before .before .write .ensures ∙ save-leaves (s .args .chunks) (s .args .width) (s .args .log .now) (s .pre)
-    (below-of 256 (s .args .log .now) (λ i. k .slice-known .given i .fits)) (s .args .k) _ _ (here (c .before .before .before)) refl
+    (below-of 256 (s .args .log .now) (λ i. k .slice-known .given i .fits)) (s .args .k .0) _ _ (here (c .before .before .before)) refl
 
 same-length-2 : tie.Need-same-length-2
 same-length-2 c = search needs
@@ -62,7 +62,7 @@ returns-2 c =
     let k = c .before .before .before .before in
     let s = k .before in
     save-none (s .args .chunks) (s .args .width) (s .args .log .now) (s .pre) (below-of 256 (s .args .log .now) (λ i. k .slice-known .given i .fits))
-    (s .args .k) (rw (c .enum-told .given .1) at (c .before .before .find .ensures))
+    (s .args .k .0) (rw (c .enum-told .given .1) at (c .before .before .find .ensures))
 
 pub save-key-spec : {M : Type 1} → statement M
 save-key-spec =

@@ -22,14 +22,14 @@ here : (c : tie.After-read-arg)
     → FoundAt (log-dec (c .before .before .before .before .before .before .before .args .chunks)
     (c .before .before .before .before .before .before .before .args .width)
     (words (c .before .before .before .before .before .before .before .args .log .now)))
-    (c .before .before .before .before .before .before .before .args .k)
+    (c .before .before .before .before .before .before .before .args .k .0)
     (c .before .before .p .given .0 .0)
 here c = rw (c .before .before .p .given .1) at (c .before .before .before .before .find .ensures)
 
 row : (c : tie.After-read-arg) → c .before .before .p .given .0 .0 < getD
     (words (c .before .before .before .before .before .before .before .args .log .now)) 0 0
 row c = let s = c .before .before .before .before .before .before .before in found-row (s .args .chunks) (s .args .width) (s .args .log .now) (s .pre)
-    (s .args .k) _ (here c)
+    (s .args .k .0) _ (here c)
 
 mul-read : tie.Need-mul-read
 mul-read c = let r = row c in omega arith
@@ -63,7 +63,7 @@ returns c =
     let after-read = c .before .before .before .before in
     let after-x = after-read .before in
     let s = after-x .before .before .before .before .before .before .before in
-    c .before .before .write .ensures ∙ mark-leaves (s .args .chunks) (s .args .width) (s .args .log .now) (s .pre) (s .args .k) _
+    c .before .before .write .ensures ∙ mark-leaves (s .args .chunks) (s .args .width) (s .args .log .now) (s .pre) (s .args .k .0) _
     (after-read .read .result) _ (here (after-x)) (after-read .read .ensures) refl
 
 same-length-2 : tie.Need-same-length-2
@@ -72,7 +72,7 @@ same-length-2 c = search needs
 returns-2 : tie.Need-returns-2
 returns-2 c =
     let s = c .before .before .before .before .before in
-    mark-none (s .args .chunks) (s .args .width) (s .args .log .now) (s .pre) (s .args .k)
+    mark-none (s .args .chunks) (s .args .width) (s .args .log .now) (s .pre) (s .args .k .0)
     (rw (c .enum-told .given .1) at (c .before .before .find .ensures))
 
 pub mark-key-spec : {M : Type 1} → statement M
