@@ -1,4 +1,2 @@
 pub mod Sorted
 pub mod Words
-pub mod Buffer
-pub mod Drained

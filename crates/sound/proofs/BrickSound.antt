@@ -29,10 +29,10 @@ use Rattle.layout.proofs.Clean.{PlaceClean}
 use Rattle.layout.proofs.Parts.{place-seen}
 use Rattle.layout.proofs.Decoded.{settings-read}
 use Rattle.layout.proofs.Check.{log-checked, log-good as log-of-sound}
-use Rattle.sound.specs.declared.rows.Whose.the-variants.{Anyone}
-use Rattle.sound.specs.Rows.{table-good}
-use Rattle.sound.specs.Copies.{copies-good, copies-at-good}
-use Rattle.sound.specs.Chunks.{log-good}
+use Rattle.checks.specs.declared.rows.Whose.the-variants.{Anyone}
+use Rattle.checks.specs.Rows.{table-good}
+use Rattle.checks.specs.Copies.{copies-good, copies-at-good}
+use Rattle.checks.specs.Chunks.{log-good}
 use Rattle.sound.specs.Places.{status-good, buffer-good, brick-good}
 use Rattle.lists.specs.Rows.{table-dec}
 use Rattle.lists.proofs.Rows.{length-rows}

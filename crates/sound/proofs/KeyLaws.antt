@@ -17,15 +17,10 @@ use Rattle.layout.specs.Layout.{settings-of, store-words, place-words, place-pa
 use Rattle.layout.specs.Store.{decode}
 use Rattle.layout.proofs.Parts.{given-read, id-read, here-column, next-column}
 use Rattle.layout.proofs.Places.{of-same}
-use Rattle.sound.specs.Rows.{key-below}
+use Rattle.checks.specs.Rows.{key-below}
 use Rattle.sound.specs.Places.{id-at}
 use Rattle.sound.specs.Limits.{was-given, next-in, Given, Filled}
 use Rattle.lists.proofs.Runs.{run-at}
-
--- key 0 stands nowhere: no brick has id 0
-pub zero-not-below : (limits : List ℕ) → getD limits 0 0 ≡ 0 → key-below limits 0 ≡ false
-unfolding key-below
-zero-not-below limits e = rw e
 
 was : (n i : ℕ) → (ltb 0 i and leb i n) ≡ was-given n i
 unfolding was-given

@@ -1,9 +1,4 @@
-pub mod RowLaws
 pub mod KeyLaws
-pub mod ChunkLaws
-pub mod CopyLaws
-pub mod BagLaws
-pub mod ProxyLaws
 pub mod LimitLaws
 pub mod PlaceLaws
 pub mod TableSound

@@ -15,9 +15,9 @@ use Rattle.layout.specs.Layout.{agreed-codec, bag-codec, settings-of, store-wor
 use Rattle.layout.specs.Store.{agreed-in, decode}
 use Rattle.layout.proofs.Clean.{AgreedClean}
 use Rattle.layout.proofs.Parts.{view-read, given-read, started-read, agreed-read, proxy-read, bag-read}
-use Rattle.sound.specs.Agreed.{agreed-good, agreed-at-good}
-use Rattle.sound.specs.Bag.{bag-good}
-use Rattle.sound.specs.Proxies.{proxy-good, proxy-at-good}
+use Rattle.checks.specs.Agreed.{agreed-good, agreed-at-good}
+use Rattle.checks.specs.Bag.{bag-good}
+use Rattle.checks.specs.Proxies.{proxy-good, proxy-at-good}
 use Rattle.sound.specs.Store.{header-good}
 use Rattle.sound.proofs.TableSound.{items-are-sound, bag-is-sound}
 

@@ -21,8 +21,8 @@ use Rattle.layout.proofs.Clean.{PlaceClean}
 use Rattle.layout.proofs.Decoded.{settings-read}
 use Rattle.layout.proofs.Sound.{sound-apart}
 use Rattle.layout.proofs.Check.{Checked, checked-sound, sound-checked}
-use Rattle.sound.specs.Agreed.{agreed-at-good}
-use Rattle.sound.specs.Proxies.{proxy-at-good}
+use Rattle.checks.specs.Agreed.{agreed-at-good}
+use Rattle.checks.specs.Proxies.{proxy-at-good}
 use Rattle.sound.specs.Places.{place-at-good}
 use Rattle.sound.specs.Store.{contents-good, parts-good}
 use Rattle.sound.proofs.PartSound.{header-is, bucket-there, bucket-back, proxy-is-sound, bag-is}

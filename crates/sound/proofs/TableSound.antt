@@ -14,10 +14,10 @@ use Rattle.rules.specs.Numbers.{proxy-of}
 use Rattle.rules.specs.Entries.{Entry, ascending}
 use Rattle.rules.specs.State.{Relay, State}
 use Rattle.rules.specs.Sound.{sound-key, sound-entry, sound-table, sound-buffer, in-bucket, sound-relay}
-use Rattle.sound.specs.declared.rows.Whose.{Whose}
-use Rattle.sound.specs.declared.rows.Whose.the-variants.{Bucket, Proxy, Anyone}
-use Rattle.sound.specs.Rows.{belongs, floor-after, entry-good, rows-good, table-good}
-use Rattle.sound.specs.Bag.{relay-good, bag-good}
+use Rattle.checks.specs.declared.rows.Whose.{Whose}
+use Rattle.checks.specs.declared.rows.Whose.the-variants.{Bucket, Proxy, Anyone}
+use Rattle.checks.specs.Rows.{belongs, floor-after, entry-good, rows-good, table-good}
+use Rattle.checks.specs.Bag.{relay-good, bag-good}
 use Rattle.lists.proofs.Tests.{no-second, yes-first}
 
 -- ---- connectives

@@ -1,9 +1,3 @@
-pub mod Rows
-pub mod Copies
-pub mod Chunks
-pub mod Agreed
-pub mod Bag
-pub mod Proxies
 pub mod Places
 pub mod Limits
 pub mod Store

@@ -12,7 +12,7 @@ use Rattle.rules.specs.Numbers.{sequences}
 use Rattle.rules.proofs.Limits.{Limits}
 use Rattle.layout.specs.Places.{of}
 use Rattle.layout.specs.Layout.{store-words, place-at, next-at}
-use Rattle.sound.specs.Rows.{ids}
+use Rattle.checks.specs.Rows.{ids}
 use Rattle.sound.specs.Places.{id-at}
 
 -- an id given already

@@ -13,10 +13,10 @@ use Rattle.rules.specs.Numbers.{sequences}
 use Rattle.rules.proofs.Limits.{Limits}
 use Rattle.layout.specs.Layout.{buffer-codec, all-copies-codec, log-words, place-words, store-words, place-at, place-part}
 use Rattle.layout.specs.Layout.{up-at, member-at, began-at, next-at, ceiling-at, buffer-at, all-copies-at, log-at}
-use Rattle.sound.specs.declared.rows.Whose.the-variants.{Anyone}
-use Rattle.sound.specs.Rows.{ids, table-good}
-use Rattle.sound.specs.Copies.{copies-at-good}
-use Rattle.sound.specs.Chunks.{log-good}
+use Rattle.checks.specs.declared.rows.Whose.the-variants.{Anyone}
+use Rattle.checks.specs.Rows.{ids, table-good}
+use Rattle.checks.specs.Copies.{copies-at-good}
+use Rattle.checks.specs.Chunks.{log-good}
 
 -- flags are 0 or 1, a member is up; next is at most the ceiling
 unfoldable pub status-good : List ℕ → Bool

@@ -11,9 +11,9 @@ use Rattle.rules.specs.declared.settings.Settings.{Settings}
 use Rattle.rules.specs.Limits.{buckets, proxies, max-id, max-number}
 use Rattle.rules.proofs.Limits.{Limits}
 use Rattle.layout.specs.Layout.{bag-codec, settings-of, store-words, bag-part, view-at, given-at, started-at}
-use Rattle.sound.specs.Agreed.{agreed-at-good}
-use Rattle.sound.specs.Bag.{bag-good}
-use Rattle.sound.specs.Proxies.{proxy-at-good}
+use Rattle.checks.specs.Agreed.{agreed-at-good}
+use Rattle.checks.specs.Bag.{bag-good}
+use Rattle.checks.specs.Proxies.{proxy-at-good}
 use Rattle.sound.specs.Places.{place-at-good}
 
 unfoldable pub header-good : Settings → List ℕ → Bool

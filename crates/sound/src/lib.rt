@@ -4,7 +4,7 @@ ghost use lib.ListN.{length};
 ghost use Rattle.words.specs.Words.{words};
 ghost use Rattle.rules.specs.Sound.{sound-key};
 ghost use Rattle.layout.specs.Store.{decode, sound-bytes};
-ghost use Rattle.sound.specs.Rows.{key-below};
+ghost use Rattle.checks.specs.Rows.{key-below};
 ghost use Rattle.sound.specs.Places.{PlacesFit};
 ghost use Rattle.sound.specs.Store.{header-good, contents-good, parts-good, StoreFit};
 use layout::sizes;
@@ -12,14 +12,8 @@ use rules::constants;
 use rules::settings::Checked;
 use rules::settings::Settings;
 
-pub mod agreed;
-pub mod bag;
-pub mod chunks;
-pub mod copies;
 pub mod limits;
 pub mod place;
-pub mod proxies;
-pub mod rows;
 
 // ids 0 to 255
 const IDS: usize = 256;
@@ -44,10 +38,10 @@ fn contents_good(settings: Settings, limits: &[u64], given: u64, store: &[u8]) -
     ensures { λ r. ⌜ r ≡ contents-good settings (key-below (now (limits .entry))) given (words (now (store .entry))) ⌝ }
 {
     let a = 8 * sizes::BAG_AT;
-    if !bag::bag_good(settings, limits, &store[a..a + 8 * sizes::BAG_WORDS]) {
+    if !checks::bag::bag_good(settings, limits, &store[a..a + 8 * sizes::BAG_WORDS]) {
         return false;
     }
-    if !proxies::proxies_good(settings, limits, store) {
+    if !checks::proxies::proxies_good(settings, limits, store) {
         return false;
     }
     place::places_good(settings, limits, given, store)
@@ -62,7 +56,7 @@ fn parts_good(settings: Settings, store: &[u8]) -> bool
         return false;
     }
     let given = words::read(store, sizes::GIVEN_AT);
-    if !agreed::all_agreed_good(settings, given, store) {
+    if !checks::agreed::all_agreed_good(settings, given, store) {
         return false;
     }
     let mut limits = [0u64; IDS];

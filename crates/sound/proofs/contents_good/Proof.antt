@@ -4,8 +4,8 @@ use borrow.Author.Tests.{not-true, not-false}
 use Rattle.lists.proofs.Tests.{both, no-first, no-second, yes-first}
 use Rattle.rules.specs.Limits.{buckets}
 use Rattle.layout.specs.Layout.{bag-codec, bag-at, bag-words}
-use Rattle.sound.specs.Rows.{key-below}
-use Rattle.sound.specs.Bag.{bag-good}
+use Rattle.checks.specs.Rows.{key-below}
+use Rattle.checks.specs.Bag.{bag-good}
 use Rattle.sound.specs.Store.{contents-good}
 use Rattle.layout.proofs.Lent.{lent}
 use native.Mathlib.Omega.{arith}

@@ -11,8 +11,8 @@ use Rattle.rules.specs.Limits.{buckets, max-id}
 use Rattle.rules.specs.Sound.{sound-key}
 use Rattle.layout.specs.Layout.{given-at}
 use Rattle.layout.specs.Store.{decode}
-use Rattle.sound.specs.Rows.{ids}
-use Rattle.sound.specs.Agreed.{agreed-at-good}
+use Rattle.checks.specs.Rows.{ids}
+use Rattle.checks.specs.Agreed.{agreed-at-good}
 use Rattle.sound.specs.Store.{contents-good, parts-good}
 use Rattle.sound.proofs.KeyLaws.{zeros, zero-limit, keys-below}
 use Rattle.sound.proofs.ByteLaws.{header-given}

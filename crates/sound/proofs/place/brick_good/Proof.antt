@@ -11,9 +11,9 @@ use Rattle.words.specs.Words.{words}
 use Rattle.rules.specs.Limits.{buckets}
 use Rattle.layout.specs.Layout.{all-copies-codec, all-copies-at, log-at, log-words}
 use Rattle.layout.proofs.Bounds.{place-small}
-use Rattle.sound.specs.Rows.{key-below}
-use Rattle.sound.specs.Copies.{copies-at-good}
-use Rattle.sound.specs.Chunks.{log-good}
+use Rattle.checks.specs.Rows.{key-below}
+use Rattle.checks.specs.Copies.{copies-at-good}
+use Rattle.checks.specs.Chunks.{log-good}
 use Rattle.sound.specs.Places.{buffer-good, brick-good}
 use Rattle.layout.proofs.Lent.{lent}
 use native.Mathlib.Omega.{arith}

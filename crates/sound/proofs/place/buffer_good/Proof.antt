@@ -5,7 +5,7 @@ use Rattle.words.specs.Words.{words}
 use Rattle.layout.specs.Layout.{buffer-at, buffer-codec}
 use Rattle.rules.specs.Limits.{buckets}
 use Rattle.layout.proofs.Lent.{lent}
-use Rattle.sound.proofs.ProxyLaws.{buffer-down, buffer-up}
+use Rattle.sound.proofs.PlaceLaws.{buffer-down, buffer-up}
 use native.Mathlib.Omega.{arith}
 use borrow.Author.Needs.{needs}
 use Rattle.sound.proofs.place.buffer_good.Statement.{statement}

@@ -5,7 +5,7 @@ use borrow.Author.Tests.{not-true, not-false}
 use Rattle.words.specs.Words.{words}
 use Rattle.layout.specs.Layout.{place-at, place-words}
 use Rattle.layout.proofs.Bounds.{store-small}
-use Rattle.sound.specs.Rows.{key-below}
+use Rattle.checks.specs.Rows.{key-below}
 use Rattle.sound.specs.Places.{brick-good}
 use Rattle.layout.proofs.Lent.{lent}
 use Rattle.sound.proofs.PlaceLaws.{place-empty, place-far, place-twice, place-brick}

@@ -5,7 +5,7 @@ use borrow.Author.Count.{below-more, below-none}
 use borrow.Author.Tests.{not-true, not-false}
 use Rattle.lists.proofs.Tests.{all-true, all-false}
 use Rattle.words.specs.Words.{words}
-use Rattle.sound.specs.Rows.{key-below}
+use Rattle.checks.specs.Rows.{key-below}
 use Rattle.sound.specs.Places.{place-at-good}
 use native.Mathlib.Omega.{arith}
 use borrow.Author.Needs.{needs}

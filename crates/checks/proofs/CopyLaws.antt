@@ -1,0 +1,48 @@
+-- Bucket copies: the two tables of a bucket, and the buckets of a place.
+use mathlib.Core.Path.{_≡_, refl, _∙_}
+use mathlib.Core.List.{List}
+use mathlib.Core.Bool.{Bool}
+use Prim.Native.Nat.{ℕ, _+_, _*_, _-_}
+use native.Mathlib.Omega.{arith}
+use lib.ListN.{length, take, drop, length-drop}
+use Rattle.lists.specs.Tests.{_and_, _or_}
+use Rattle.lists.specs.Runs.{run, part}
+use Rattle.lists.proofs.Runs.{run-all}
+use Rattle.words.specs.Words.{words}
+use Rattle.words.proofs.Laws.{length-words}
+use Rattle.rules.specs.declared.settings.Settings.{Settings}
+use Rattle.rules.specs.Sound.{same-entries}
+use Rattle.layout.specs.Layout.{copy-codec, copies-codec, copies-words}
+use Rattle.layout.proofs.Lent.{lent}
+use Rattle.checks.specs.declared.rows.Whose.the-variants.{Bucket}
+use Rattle.checks.specs.Rows.{table-good}
+use Rattle.checks.specs.Copies.{copies-good, copies-at-good}
+
+module _ (c : Settings) (good : ℕ → Bool) (up : Bool) where
+  abbrev half : ℕ
+  half = copy-codec c .size
+
+  -- the test of the two tables, from their words
+  pub copies-are : (g : ℕ) (ws memory disk : List ℕ) → length ws ≡ copies-words c → memory ≡ run 0 half ws → disk ≡ run half half ws
+      → copies-good c good g up (copies-codec c .dec ws)
+      ≡ (table-good c good (Bucket g) (c .entries) (copy-codec c .dec memory) and table-good c good (Bucket g) (c .entries) (copy-codec c .dec disk)
+      and (up or same-entries (copy-codec c .dec memory) (copy-codec c .dec disk)))
+  unfolding copies-good
+  copies-are g ws memory disk h em ed =
+      let l : length (drop half ws) ≡ half = length-drop half ws ∙ omega arith in
+      rw (em, ed, run-all half (drop half ws) l)
+
+  -- from the parts of a slice that are lent, of h bytes each
+  pub copies-lent : (g h : ℕ) (s : List ℕ) → length s ≡ 8 * copies-words c → h ≡ 8 * half
+      → copies-good c good g up (copies-codec c .dec (words s))
+      ≡ (table-good c good (Bucket g) (c .entries) (copy-codec c .dec (words (take (h - 0) (drop 0 s))))
+      and table-good c good (Bucket g) (c .entries) (copy-codec c .dec (words (take (h + h - h) (drop h s))))
+      and (up or same-entries (copy-codec c .dec (words (take (h - 0) (drop 0 s)))) (copy-codec c .dec (words (take (h + h - h) (drop h s))))))
+  copies-lent g h s l e =
+      copies-are g (words s) _ _ (length-words s ∙ omega arith) (lent s 0 h 0 half refl (omega arith) (omega arith))
+      (lent s h (h + h) half half (omega arith) (omega arith) (omega arith))
+
+  -- a bucket's copies, in the words of all
+  pub copies-part : (ws v : List ℕ) (g : ℕ) → v ≡ part (copies-words c) g ws → copies-at-good c good up ws g ≡ copies-good c good g up (copies-codec c .dec v)
+  unfolding copies-at-good
+  copies-part ws v g e = rw e

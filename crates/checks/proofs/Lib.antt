@@ -1,0 +1,5 @@
+pub mod RowLaws
+pub mod ChunkLaws
+pub mod CopyLaws
+pub mod BagLaws
+pub mod ProxyLaws

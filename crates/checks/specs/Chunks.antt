@@ -1,0 +1,42 @@
+-- What the check tests of a chunk log.
+use mathlib.Core.Path.{_≡_}
+use mathlib.Core.List.{List}
+use mathlib.Core.Bool.{Bool}
+use Prim.Native.Nat.{ℕ, zero, suc, _+_, _*_, _≤_}
+use lib.Dec.{ltb}
+use lib.ListN.{length, getD}
+use Rattle.lists.specs.Tests.{_and_, every}
+use Rattle.rules.specs.declared.settings.Settings.{Settings}
+use Rattle.rules.specs.Limits.{max-chunks}
+use Rattle.log.specs.Log.{key-by, good-log}
+use Rattle.log.specs.Steps.{row-good}
+use Rattle.layout.specs.Layout.{log-codec, log-words}
+use Rattle.rules.proofs.Limits.{Limits}
+use Rattle.checks.specs.Rows.{ids}
+
+-- the key before the row at a position of the order; keys are above 0
+unfoldable pub key-before : ℕ → List ℕ → ℕ → ℕ
+key-before chunks ws zero = 0
+key-before chunks ws (suc j) = key-by chunks ws j
+
+-- position j of the order: a row in use, its flag 0 or 1, its key above the one before and below its limit
+unfoldable pub row-passes : (ℕ → Bool) → ℕ → ℕ → List ℕ → ℕ → Bool
+row-passes good chunks n ws j = row-good chunks n ws j and ltb (key-before chunks ws j) (key-by chunks ws j) and good (key-by chunks ws j)
+
+-- the log's linear test, and a test of each key
+unfoldable pub log-good : Settings → (ℕ → Bool) → List ℕ → Bool
+log-good c good ws = good-log (c .chunks) ws and every (λ x. good (x .key)) (log-codec c .dec ws)
+
+-- no brick has id 0
+pub record PassFit (limits : List ℕ) (bytes chunks n : ℕ) : Type 0 where
+  pub known : length limits ≡ ids
+  pub none : getD limits 0 0 ≡ 0
+  pub few : n ≤ chunks
+  pub small : chunks ≤ max-chunks
+  pub room : 8 * (1 + 3 * chunks) ≤ bytes
+
+pub record LogFit (c : Settings) (limits : List ℕ) (bytes : ℕ) : Type 0 where
+  pub known : length limits ≡ ids
+  pub none : getD limits 0 0 ≡ 0
+  pub small : Limits c
+  pub size : bytes ≡ 8 * log-words c

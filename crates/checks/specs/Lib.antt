@@ -1,0 +1,6 @@
+pub mod Rows
+pub mod Copies
+pub mod Chunks
+pub mod Agreed
+pub mod Bag
+pub mod Proxies

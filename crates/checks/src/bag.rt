@@ -1,0 +1,48 @@
+// The bag of relays.
+ghost use mathlib.Core.Path.{_≡_};
+ghost use lib.ListN.{length};
+ghost use Rattle.words.specs.Words.{words};
+ghost use Rattle.layout.specs.Layout.{bag-codec};
+ghost use Rattle.checks.specs.Rows.{key-below};
+ghost use Rattle.checks.specs.Bag.{relay-at, relay-good, bag-good, RelayFit, BagFit};
+use crate::rows;
+use layout::sizes;
+use rules::constants;
+use rules::numbers::BlockNumber;
+use rules::settings::Settings;
+
+fn relay_good(settings: Settings, limits: &[u64], bag: &[u8], i: usize) -> bool
+    requires { ⌜ RelayFit (length (now limits)) (length (now bag)) i ⌝ }
+    ensures { λ r. ⌜ r ≡ relay-good settings (key-below (now (limits .entry))) (relay-at (words (now (bag .entry))) i) ⌝ }
+{
+    let at = 1 + sizes::RELAY_WORDS * i;
+    let view = words::read(bag, at);
+    let bucket = words::read(bag, at + 1);
+    let order = words::read(bag, at + 2);
+    let block = words::read(bag, at + 3);
+    let home = BlockNumber(block).bucket(settings);
+    let key = rows::key_below(limits, words::read(bag, at + 4));
+    (view <= constants::MAX_NUMBER)
+        & (home == bucket)
+        & (order <= constants::MAX_NUMBER)
+        & (block < constants::BLOCKS)
+        & key
+}
+
+pub fn bag_good(settings: Settings, limits: &[u64], bag: &[u8]) -> bool
+    requires { ⌜ BagFit (length (now limits)) (length (now bag)) ⌝ }
+    ensures { λ r. ⌜ r ≡ bag-good settings (key-below (now (limits .entry))) (bag-codec .dec (words (now (bag .entry)))) ⌝ }
+{
+    let count = words::read(bag, 0);
+    if (constants::MAX_RELAYS as u64) < count {
+        return false;
+    }
+    let mut i = 0;
+    while i < count as usize {
+        if !relay_good(settings, limits, bag, i) {
+            return false;
+        }
+        i += 1;
+    }
+    true
+}

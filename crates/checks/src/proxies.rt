@@ -1,0 +1,51 @@
+// Proxies: the view that each knows, and its items.
+ghost use mathlib.Core.Path.{_≡_};
+ghost use lib.ListN.{length};
+ghost use Rattle.lists.specs.Tests.{all-below};
+ghost use Rattle.words.specs.Words.{words};
+ghost use Rattle.rules.specs.Limits.{proxies};
+ghost use Rattle.layout.specs.Layout.{proxy-codec};
+ghost use Rattle.checks.specs.Rows.{key-below};
+ghost use Rattle.checks.specs.Proxies.{proxy-good, proxy-at-good, ProxyFit, ProxiesFit};
+use crate::rows;
+use crate::rows::Whose;
+use layout::sizes;
+use rules::constants;
+use rules::settings::Settings;
+
+fn proxy_good(settings: Settings, limits: &[u64], p: u64, proxy: &[u8]) -> bool
+    requires { ⌜ ProxyFit (length (now limits)) (length (now proxy)) ⌝ }
+    ensures { λ r. ⌜ r ≡ proxy-good settings (key-below (now (limits .entry))) p (proxy-codec .dec (words (now (proxy .entry)))) ⌝ }
+{
+    if constants::MAX_NUMBER < words::read(proxy, 0) {
+        return false;
+    }
+    let a = 8 * sizes::ITEMS_AT;
+    rows::table_good(
+        settings,
+        limits,
+        Whose::Proxy(p),
+        &proxy[a..8 * sizes::PROXY_WORDS],
+        constants::MAX_ITEMS,
+    )
+}
+
+pub fn proxies_good(settings: Settings, limits: &[u64], store: &[u8]) -> bool
+    requires { ⌜ ProxiesFit settings (length (now limits)) (length (now store)) ⌝ }
+    ensures { λ r. ⌜ r ≡ all-below proxies (proxy-at-good settings (key-below (now (limits .entry))) (words (now (store .entry)))) ⌝ }
+{
+    let mut p = 0;
+    while p < constants::PROXIES {
+        let a = 8 * (sizes::PROXIES_AT + p * sizes::PROXY_WORDS);
+        if !proxy_good(
+            settings,
+            limits,
+            p as u64,
+            &store[a..a + 8 * sizes::PROXY_WORDS],
+        ) {
+            return false;
+        }
+        p += 1;
+    }
+    true
+}
