@@ -7,7 +7,7 @@ use lib.ListN.{getD, set, drop}
 use lib.Seq.{paste}
 use Rattle.lists.specs.Tests.{_and_, all-below}
 use Rattle.rules.specs.Chunks.{Chunk, chunk, held, append, save-key}
-use Rattle.log.specs.Log.{log-dec, Stored, stored, stored-at, position-at, flag-at, below-at, rises-at}
+use Rattle.log.specs.Log.{chunks-codec, Stored, stored, stored-at, position-at, flag-at, below-at, rises-at}
 
 -- a chunk that a log gets saved: one that is held becomes saved
 abbrev pub hold-saved : ℕ → List ℕ → List Chunk → List Chunk
@@ -15,7 +15,7 @@ hold-saved k d l = cond (held l k) (save-key l k) (append l (chunk k true d))
 
 -- a log has room for a chunk that it does not hold
 pub record Takes (chunks width k : ℕ) (ws : List ℕ) (len : ℕ) : Type 0 where
-  pub room : held (log-dec chunks width ws) k ≡ false → getD ws 0 0 < chunks
+  pub room : held (chunks-codec chunks width .dec ws) k ≡ false → getD ws 0 0 < chunks
   pub size : len ≡ 8 * width
 
 -- the check in one pass along the positions: each is that of a row in use whose flag is in range, and keys ascend

@@ -7,7 +7,7 @@ ghost use lib.ListN.{length, getD};
 ghost use Rattle.words.specs.Words.{words};
 ghost use Rattle.rules.specs.Chunks.{chunk, append, held, saved-in, save-all, save-key};
 ghost use Rattle.codec.specs.Codec.{change};
-ghost use Rattle.log.specs.Log.{log-dec, chunks-codec, log-words, chunk-at, position-at, key-by, Ordered, LogWith, IsLog, KeyPlace};
+ghost use Rattle.log.specs.Log.{chunks-codec, log-words, chunk-at, position-at, key-by, Ordered, LogWith, IsLog, KeyPlace};
 ghost use Rattle.log.specs.Steps.{hold-saved, Takes, entered};
 ghost use Rattle.log.specs.Answers.{FoundIn};
 use rules::numbers::ChunkKey;
@@ -51,7 +51,7 @@ pub enum Found {
 // Marks in the saved words do no harm.
 pub fn find(log: &[u8], chunks: usize, width: usize, k: ChunkKey) -> Found
     requires { ⌜ LogWith 3 chunks width (words (now log)) (length (now log)) ⌝ }
-    ensures { λ r. ⌜ FoundIn (log-dec chunks width (words (now (log .entry)))) (k .0) r ⌝ }
+    ensures { λ r. ⌜ FoundIn (chunks-codec chunks width .dec (words (now (log .entry)))) (k .0) r ⌝ }
 {
     let n = words::read(log, 0) as usize;
     let p = place(log, chunks, n, k.0);
@@ -67,7 +67,7 @@ pub fn find(log: &[u8], chunks: usize, width: usize, k: ChunkKey) -> Found
 // Is there a chunk with the key?
 pub fn holds(log: &[u8], chunks: usize, width: usize, k: ChunkKey) -> bool
     requires { ⌜ LogWith 3 chunks width (words (now log)) (length (now log)) ⌝ }
-    ensures { λ r. ⌜ r ≡ held (log-dec chunks width (words (now (log .entry)))) (k .0) ⌝ }
+    ensures { λ r. ⌜ r ≡ held (chunks-codec chunks width .dec (words (now (log .entry)))) (k .0) ⌝ }
 {
     match find(log, chunks, width, k) {
         Found::At(_) => true,
@@ -78,7 +78,7 @@ pub fn holds(log: &[u8], chunks: usize, width: usize, k: ChunkKey) -> bool
 // Is there a saved chunk with the key?
 pub fn holds_saved(log: &[u8], chunks: usize, width: usize, k: ChunkKey) -> bool
     requires { ⌜ IsLog chunks width (words (now log)) (length (now log)) ⌝ }
-    ensures { λ r. ⌜ r ≡ saved-in (log-dec chunks width (words (now (log .entry)))) (k .0) ⌝ }
+    ensures { λ r. ⌜ r ≡ saved-in (chunks-codec chunks width .dec (words (now (log .entry)))) (k .0) ⌝ }
 {
     match find(log, chunks, width, k) {
         Found::At(p) => words::read(log, 2 + 2 * p) == 1,
@@ -90,7 +90,7 @@ pub fn holds_saved(log: &[u8], chunks: usize, width: usize, k: ChunkKey) -> bool
 pub fn bytes_at<'a>(log: &'a [u8], chunks: usize, width: usize, p: usize) -> &'a [u8]
     requires { ⌜ LogWith 3 chunks width (words (now log)) (length (now log)) ⌝ }
     requires { ⌜ p < getD (words (now log)) 0 0 ⌝ }
-    ensures { λ r. ⌜ (now r ≡ chunk-at (log-dec chunks width (words (now (log .entry)))) p .bytes) × (length (now r) ≡ 8 * width) ⌝ }
+    ensures { λ r. ⌜ (now r ≡ chunk-at (chunks-codec chunks width .dec (words (now (log .entry)))) p .bytes) × (length (now r) ≡ 8 * width) ⌝ }
 {
     let at = words::offset(p, width, chunks);
     let start = 8 * (1 + 3 * chunks + at);

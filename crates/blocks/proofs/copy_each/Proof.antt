@@ -1,12 +1,12 @@
-use Rattle.moves.proofs.Laws.{copy-turn, copy-end}
+use Rattle.blocks.proofs.Laws.{copy-turn, copy-end}
 use mathlib.Core.Path.{_≡_, refl, ap, _∙_}
 use mathlib.Core.List.{List, _++_}
 use Prim.Native.Nat.{ℕ, _+_, _-_, _≤_}
 use native.Mathlib.Omega.{arith}
 use lib.ListN.{length, getD, take, drop, set}
 use borrow.Author.Needs.{needs}
-use Rattle.moves.proofs.copy_each.Statement.{statement}
-use Rattle.moves.proofs.copy_each.Tie as tie
+use Rattle.blocks.proofs.copy_each.Statement.{statement}
+use Rattle.blocks.proofs.copy_each.Tie as tie
 
 abbrev Inv-loop : tie.InvT-loop
 Inv-loop d₀ src n i₀ d i = (i ≤ n) × (n ≡ length src) × (length d ≡ length d₀) × (d ≡ take i src ++ drop i d₀)
