@@ -4,9 +4,9 @@ use mathlib.Core.List.{List, _++_, append-assoc, append-nil}
 use Prim.Native.Nat.{ℕ, suc, _+_, _*_, _-_, _≤_, _<_}
 use native.Mathlib.Numerals.{add-one}
 use native.Mathlib.Omega.{arith}
-use lib.ListN.{length, take, drop, getD, set, length-drop, drop-of-length-le}
-use lib.Seq.{take-all, take-at, drop-drop, take-suc, drop-cons, set-at, length-take-le}
-use lib.Seq.{paste}
+use lib.ListN.{length, take, drop, getD, set, drop-of-length-le}
+use lib.Seq.{take-all, take-at, drop-drop, take-suc, drop-cons, set-at, length-take-le, paste}
+use Rattle.lists.proofs.Runs.{run-length}
 use Rattle.words.specs.Words.{words}
 use Rattle.words.proofs.Laws.{words-part, words-back}
 
@@ -21,7 +21,7 @@ part at k s = take (at + k - at) (drop at s)
 pub part-length : (at k : ℕ) (s : List ℕ) → at + k ≤ length s → length (part at k s) ≡ k
 part-length at k s h =
     let e : at + k - at ≡ k = omega arith in
-    rw e (length-take-le k (drop at s) (rw length-drop (omega arith)))
+    rw e (run-length at k s h)
 
 pub part-copied : (d src t : List ℕ) (at n : ℕ) → t ≡ part at n src
     → take at d ++ (t ++ drop (at + n - at) (drop at d)) ≡ paste d at (drop at src) n

@@ -5,6 +5,11 @@ ghost use lib.ListN.{length, drop};
 ghost use lib.Seq.{paste};
 ghost use Rattle.words.specs.Words.{words};
 
+// A block has at most so many words and bytes: a data block of the largest size fits.
+pub const BLOCK_WORDS: usize = 1024;
+
+pub const BLOCK_BYTES: usize = 8 * BLOCK_WORDS;
+
 // All of src goes to d, which is as long, a byte at a time.
 fn copy_each(d: &mut [u8], src: &[u8])
     requires { ⌜ length (now d) ≡ length (now src) ⌝ }
@@ -32,7 +37,7 @@ pub fn copy_block(d: &mut [u8], src: &[u8], at: usize, n: usize)
     requires { ⌜ (at + n ≤ length (now d)) × (at + n ≤ length (now src)) × (n ≤ 8192) ⌝ }
     ensures { λ _. ⌜ now (d .exit) ≡ paste (now (d .entry)) at (drop at (now (src .entry))) n ⌝ }
 {
-    let mut room = [0; 8192];
+    let mut room = [0; BLOCK_BYTES];
     copy_by(d, src, at, n, &mut room)
 }
 
@@ -53,6 +58,6 @@ pub fn move_block(s: &mut [u8], from: usize, to: usize, n: usize)
     requires { ⌜ (8 * (from + n) ≤ length (now s)) × (8 * (to + n) ≤ length (now s)) × (n ≤ 1024) ⌝ }
     ensures { λ _. ⌜ words (now (s .exit)) ≡ paste (words (now (s .entry))) to (drop from (words (now (s .entry)))) n ⌝ }
 {
-    let mut room = [0; 8192];
+    let mut room = [0; BLOCK_BYTES];
     move_by(s, from, to, n, &mut room)
 }

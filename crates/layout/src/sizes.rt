@@ -46,11 +46,11 @@ pub const TAKEN_AT: usize = 7;
 pub const AGREED_WORDS: usize = 8;
 
 // a proxy: the known view, items
+pub const KNOWN_AT: usize = 0;
+
 pub const ITEMS_AT: usize = 1;
 
 pub const PROXY_WORDS: usize = ITEMS_AT + (1 + constants::MAX_ITEMS * ENTRY_WORDS);
-
-pub const KNOWN_AT: usize = 0;
 
 pub const BAG_WORDS: usize = 1 + constants::MAX_RELAYS * RELAY_WORDS;
 
@@ -62,6 +62,8 @@ pub const BAG_AT: usize = PROXIES_AT + constants::PROXIES * PROXY_WORDS;
 pub const PLACES_AT: usize = BAG_AT + BAG_WORDS;
 
 // a place: id, flags, numbers, the append buffer, the copies, the log
+pub const ID_AT: usize = 0;
+
 pub const UP_AT: usize = 1;
 
 pub const MEMBER_AT: usize = 2;
@@ -77,8 +79,6 @@ pub const BUFFER_AT: usize = 6;
 pub const BUFFER_WORDS: usize = 1 + constants::MAX_WAITING * ENTRY_WORDS;
 
 pub const COPIES_AT: usize = BUFFER_AT + BUFFER_WORDS;
-
-pub const ID_AT: usize = 0;
 
 pub fn buckets(settings: Settings) -> usize
     ensures { λ r. ⌜ r ≡ buckets settings ⌝ }

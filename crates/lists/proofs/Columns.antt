@@ -20,11 +20,6 @@ pub upd-all {ℓ} : {A : Type ℓ} (P : ℕ → A → Type 0) (f : ℕ → A) (i
 unfolding upd
 upd-all P f i v h p j = by-eq j i (λ q r. rw (q, r) p) (λ q r. rw q (h j))
 
--- a change that a reader does not see
-pub upd-keep {ℓ κ} : {A : Type ℓ} {B : Type κ} (g : A → B) (f : ℕ → A) (i : ℕ) (v : A) → g v ≡ g (f i) → (j : ℕ) → g (upd f i v j) ≡ g (f j)
-unfolding upd
-upd-keep g f i v e j = by-eq j i (λ q r. cc) (λ q r. cc)
-
 -- a flag taken from one number
 pub unflag : (f : ℕ → Bool) (x j : ℕ) → upd f x false j ≡ true → (f j ≡ true) × (j ≡ x → ⊥)
 unfolding upd

@@ -5,7 +5,7 @@ use Prim.Native.Nat.{ℕ, zero, suc, _+_, _*_, _-_, _≤_, _<_}
 use native.Mathlib.Nat.{suc-mul, zero-mul, add-comm, le-of-suc-le-suc, not-suc-le-zero, mul-le-mul-right}
 use native.Mathlib.Numerals.{add-one}
 use native.Mathlib.Omega.{arith}
-use lib.ListN.{length, take, drop, getD, length-append, length-drop, length-map, take-append-drop}
+use lib.ListN.{length, take, drop, getD, length-drop, length-map}
 use lib.Seq.{drop-append-add, take-add, take-at, drop-at, drop-drop, drop-cons, drop-length, length-take-le}
 use Rattle.lists.specs.Runs.{part, enc-all, Sized, none, more}
 use Rattle.lists.specs.Rows.{table-words, rows, table-dec, table-enc, row}
@@ -121,18 +121,6 @@ module _ (w most : ℕ) (ws : List ℕ) (hl : length ws ≡ table-words w most) 
     unfolding table-dec
     dec-raw exact few = rows-raw w read write exact (getD ws 0 0) (drop 1 ws) (in-rows few)
 
-    -- a table's words are its rows written over them
-    pub table-clean : ((r : List ℕ) → length r ≡ w → write (read r) ≡ r) → getD ws 0 0 ≤ most → table-enc w write (table-dec w read ws) ws ≡ ws
-    unfolding table-enc table-dec
-    table-clean exact few =
-        rw (
-          length-rows w read (getD ws 0 0) (drop 1 ws),
-          enc-rows w read write exact (getD ws 0 0) (drop 1 ws) (in-rows few),
-          take-append-drop
-              (getD ws 0 0 * w) (drop 1 ws),
-        )
-        (sym (count-cons ws (omega arith)))
-
     -- rows written are read back
     pub table-back : ((a : A) → read (write a) ≡ a) → {l : List A} → Sized write w l → table-dec w read (table-enc w write l ws) ≡ l
     unfolding table-enc table-dec
@@ -150,9 +138,3 @@ module _ (w most : ℕ) (ws : List ℕ) (hl : length ws ≡ table-words w most) 
         (ap (λ (i : ℕ). drop i (enc-all write k ++ drop (length k * w) (drop 1 ws))) q
         ∙ drop-append-add (enc-all write k) (drop (length k * w) (drop 1 ws)) (length l * w - length k * w)
         ∙ drop-drop (length l * w - length k * w) (length k * w) (drop 1 ws) ∙ ap (λ (i : ℕ). drop i (drop 1 ws)) z)
-
-    pub table-keeps : {l : List A} → Sized write w l → length l ≤ most → length (table-enc w write l ws) ≡ length ws
-    unfolding table-enc
-    table-keeps {l} s h =
-        let m : length l * w ≤ most * w = mul-le-mul-right w h in
-        rw (length-append, length-enc-all write w s, length-drop, tail-length) (omega arith)

@@ -3,7 +3,7 @@ use mathlib.Core.Path.{_≡_, refl, sym, ap, _∙_}
 use mathlib.Core.List.{List, [], _∷_, _++_, append-assoc, map, List·Memᴰ, List·Memᴰ·head, List·Memᴰ·tail}
 use Prim.Native.Nat.{ℕ, zero, suc, _+_, _*_, _-_, _≤_, _<_}
 use native.Mathlib.Nat.{suc-mul, zero-mul, add-comm, zero-add, not-suc-le-zero, le-of-suc-le-suc, le-of-lt, mul-le-mul-right}
-use native.Mathlib.Numerals.{add-one, sub-one}
+use native.Mathlib.Numerals.{add-one}
 use native.Mathlib.Omega.{arith}
 use lib.ListN.{length, take, drop, getD, set, replicate, length-append, length-drop, take-append-drop, List·getD-append}
 use lib.Seq.{take-take, take-add, take-all, take-append-le, drop-append-le, drop-cons, drop-drop, take-at, drop-at, set-split}
@@ -18,11 +18,6 @@ use Rattle.lists.specs.Runs.{run, on-run, part, map-parts, enc-all, Size
 -- record i of n lies within n records: the one fact on products that offsets need
 pub fits-in : (size : ℕ) {i n : ℕ} → i < n → i * size + size ≤ n * size
 fits-in size {i} {n} h = rw suc-mul at (mul-le-mul-right size h)
-
--- the last record of n
-pub one-less : (n size : ℕ) → 0 < n → (n - 1) * size + size ≡ n * size
-one-less zero size h = absurd (not-suc-le-zero h)
-one-less (suc n) size h = rw (sub-one, suc-mul)
 
 -- ---- a run
 pub run-length : (a n : ℕ) (w : List ℕ) → a + n ≤ length w → length (run a n w) ≡ n
@@ -156,10 +151,6 @@ on-set a n i v w h p =
     let one : List ℕ → List ℕ = λ _. v ∷ [] in
     on-by a n (λ x. set x i v) (on-run i 1 one) w (set-is (run a n w) i v (omega arith)) ∙ on-within a n i 1 one w h (omega arith)
     ∙ sym (set-is w (a + i) v (omega arith))
-
--- a run is as it was where an element before it is set
-pub run-set-before : (a n i v : ℕ) (w : List ℕ) → i < a → a + n ≤ length w → run a n (set w i v) ≡ run a n w
-run-set-before a n i v w h g = ap (run a n) (set-is w i v (omega arith)) ∙ on-after i 1 (λ _. v ∷ []) a n w (omega arith) refl (omega arith)
 
 -- ---- arrays of records
 pub enc-all-append : {A : Type 0} (enc : A → List ℕ) (xs ys : List A) → enc-all enc (xs ++ ys) ≡ enc-all enc xs ++ enc-all enc ys

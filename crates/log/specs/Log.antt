@@ -9,7 +9,7 @@ use lib.Dec.{ltb, leb, eqb}
 use lib.ListN.{length, getD, take, drop, replicate}
 use Rattle.lists.specs.Tests.{_and_, all-below}
 use Rattle.lists.specs.Runs.{run, enc-all, Sized}
-use Rattle.lists.specs.Ascending.{Place}
+use Rattle.lists.specs.Ascending.{FirstNotBelow}
 use Rattle.words.specs.Words.{words, unwords}
 use Rattle.rules.specs.Chunks.{Chunk, chunk}
 use Rattle.codec.specs.Codec.{Codec}
@@ -149,7 +149,7 @@ IsLog chunks width ws len = LogWith 1 chunks width ws len
 
 -- r is the first place of the order whose key is not below k
 abbrev pub KeyPlace : ℕ → ℕ → List ℕ → ℕ → ℕ → Type 0
-KeyPlace chunks n ws k r = Place (key-by chunks ws) n k r
+KeyPlace chunks n ws k r = FirstNotBelow (key-by chunks ws) n k r
 
 -- chunks that a log's words can hold
 pub record Fits (chunks width : ℕ) (xs : List Stored) : Type 0 where

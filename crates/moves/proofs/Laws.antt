@@ -6,8 +6,7 @@ use native.Mathlib.Nat.{zero-add, add-assoc}
 use native.Mathlib.Numerals.{add-one}
 use native.Mathlib.Omega.{arith}
 use lib.ListN.{length, take, drop, getD, set, replicate, length-drop, length-replicate, getD-replicate}
-use lib.Seq.{drop-at, take-add, take-take, drop-drop, take-append-le, length-take-le}
-use lib.Seq.{paste, paste-suc, length-paste, take-paste, drop-paste}
+use lib.Seq.{drop-at, take-add, take-take, drop-drop, take-append-le, length-take-le, paste, paste-suc, length-paste, take-paste, drop-paste}
 
 -- the run made longer at its end, and at its front
 paste-more : (d : List ℕ) (at : ℕ) (s : List ℕ) (i k : ℕ) → at + i ≤ length d → i ≤ length s

@@ -11,9 +11,9 @@ pub fn move_up(s: &mut [u8], from: usize, to: usize, n: usize)
     ensures { λ _. ⌜ words (now (s .exit)) ≡ paste (words (now (s .entry))) to (drop from (words (now (s .entry)))) n ⌝ }
 {
     let mut left = n;
-    while 1024 < left {
-        left -= 1024;
-        blocks::move_block(s, from + left, to + left, 1024);
+    while blocks::BLOCK_WORDS < left {
+        left -= blocks::BLOCK_WORDS;
+        blocks::move_block(s, from + left, to + left, blocks::BLOCK_WORDS);
     }
     blocks::move_block(s, from, to, left)
 }
@@ -24,9 +24,9 @@ pub fn move_down(s: &mut [u8], from: usize, to: usize, n: usize)
     ensures { λ _. ⌜ words (now (s .exit)) ≡ paste (words (now (s .entry))) to (drop from (words (now (s .entry)))) n ⌝ }
 {
     let mut moved = 0;
-    while 1024 < n - moved {
-        blocks::move_block(s, from + moved, to + moved, 1024);
-        moved += 1024;
+    while blocks::BLOCK_WORDS < n - moved {
+        blocks::move_block(s, from + moved, to + moved, blocks::BLOCK_WORDS);
+        moved += blocks::BLOCK_WORDS;
     }
     blocks::move_block(s, from + moved, to + moved, n - moved)
 }
@@ -75,9 +75,9 @@ pub fn copy_bytes(d: &mut [u8], src: &[u8])
 {
     let n = src.len();
     let mut copied = 0;
-    while 8192 < n - copied {
-        blocks::copy_block(d, src, copied, 8192);
-        copied += 8192;
+    while blocks::BLOCK_BYTES < n - copied {
+        blocks::copy_block(d, src, copied, blocks::BLOCK_BYTES);
+        copied += blocks::BLOCK_BYTES;
     }
     blocks::copy_block(d, src, copied, n - copied)
 }

@@ -12,7 +12,7 @@ use Rattle.lists.specs.Rows.{table-words, table-dec, table-enc, row}
 use Rattle.tables.specs.Tables.{insert-at, remove-at}
 use Rattle.codec.specs.Codec.{Row}
 use Rattle.codec.proofs.Laws.{Exact, all-sized}
-use Rattle.lists.proofs.Rows.{length-rows, enc-raw, dec-raw, table-clean, table-back, table-over, table-keeps}
+use Rattle.lists.proofs.Rows.{length-rows, enc-raw, dec-raw, table-back, table-over}
 
 map-insert : {A B : Type 0} (f : A → B) (p : ℕ) (x : A) (l : List A) → map f (insert-at p x l) ≡ insert-at p (f x) (map f l)
 map-insert f zero x l = refl
@@ -51,13 +51,7 @@ module _ {A : Type 0} {r : Row A} (x : Exact r) (most : ℕ) (ws : List ℕ) (hl
       → table-enc (r .size) (r .write) l (table-enc (r .size) (r .write) k ws) ≡ table-enc (r .size) (r .write) l ws
   typed-over k l h = table-over (r .size) most ws hl (r .read) (r .write) (all-sized x k) l h
 
-  pub typed-keeps : (l : List A) → length l ≤ most → length (table-enc (r .size) (r .write) l ws) ≡ length ws
-  typed-keeps l h = table-keeps (r .size) most ws hl (r .read) (r .write) (all-sized x l) h
-
   module _ (few : getD ws 0 0 ≤ most) where
-    pub typed-clean : table-enc (r .size) (r .write) values ws ≡ ws
-    typed-clean = table-clean (r .size) most ws hl (r .read) (r .write) (x .exact) few
-
     pub typed-rows : raw ≡ map (r .write) values
     typed-rows = sym (dec-raw (r .size) most ws hl (r .read) (r .write) (x .exact) few)
 

@@ -7,7 +7,7 @@ use lib.Dec.{eqb}
 use lib.ListN.{getD, take, drop, set}
 use Rattle.lists.specs.Tests.{_and_, all-below, only}
 use Rattle.lists.specs.Runs.{run, on-run}
-use Rattle.lists.specs.Ascending.{Place}
+use Rattle.lists.specs.Ascending.{FirstNotBelow}
 use Rattle.lists.specs.Rows.{over-rows, table-words, table-dec, table-enc, row}
 
 -- a table's words with its rows changed
@@ -72,7 +72,7 @@ pub record Sorted (width most : ℕ) (ws : List ℕ) (len : ℕ) : Type 0 where
 
 -- r is the first place whose row does not begin below x
 abbrev pub RowPlace : ℕ → List ℕ → ℕ → ℕ → Type 0
-RowPlace width ws x r = Place (first-at width ws) (getD ws 0 0) x r
+RowPlace width ws x r = FirstNotBelow (first-at width ws) (getD ws 0 0) x r
 
 pub record HereAt (width : ℕ) (ws : List ℕ) (x p : ℕ) : Type 0 where
   pub in-use : p < getD ws 0 0
