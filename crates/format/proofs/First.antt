@@ -19,7 +19,7 @@ use Rattle.codec.specs.Codec.{Codec, _&_, enc-two, _then_, Row, table}
 use Rattle.codec.proofs.Laws.{Lawful}
 use Rattle.codec.proofs.Focus.{on-whole, many-same, slot-some}
 use Rattle.codec.proofs.Loops.{then-written, table-cleared}
-use Rattle.layout.specs.Disk.{Copies, Brick, Disk, entry-row, relay-row, blank-proxy, blank-copies, brick-reading, disk-reading}
+use Rattle.layout.specs.Disk.{Status, Copies, Brick, Disk, entry-row, relay-row, blank-proxy, blank-copies, brick-reading, disk-reading}
 use Rattle.layout.specs.Layout.{head-codec, agreed-codec, proxy-codec, status-codec, buffer-codec, copy-codec, copies-codec}
 use Rattle.layout.specs.Layout.{all-copies-codec, log-codec, brick-codec, place-codec, status-words, copy-words, copies-words, log-words, place-words}
 use Rattle.layout.specs.Layout.{buffer-at, all-copies-at, log-at}
@@ -27,7 +27,7 @@ use Rattle.layout.specs.Layout.{bag-codec, all-agreed-codec, all-proxies-codec,
 use Rattle.layout.specs.Layout.{proxies-at, bag-at, places-at}
 use Rattle.layout.specs.Store.{to-disk, render}
 use Rattle.layout.proofs.Codecs.{status-law, buffer-law, copy-law, all-copies-law, head-law, all-agreed-law, all-proxies-law, bag-law}
-use Rattle.format.specs.First.{first-head, agreed-in-turn, first-status, first-brick, first-place}
+use Rattle.format.specs.First.{first-head, agreed-in-turn, new-brick, first-place}
 use Rattle.format.proofs.Pairs.{format-agreed, format-place}
 
 -- ---- a count of 0 is all that an empty list writes
@@ -71,7 +71,7 @@ slot-first c i b (x ∷ w) o h =
     ∙ sym (on-right 0 (brick-codec c .size) (brick-codec c .enc b) 1 (i ∷ []) w refl
     ∙ ap (λ (v : List ℕ). i ∷ v) (on-whole (brick-codec c .size) (brick-codec c .enc b) w (omega arith)))
 
-module _ (c : Settings) (i : ℕ) (w : List ℕ) (o : 0 < i) (h : length w ≡ place-words c) where
+module _ (c : Settings) (i : ℕ) (status : Status) (w : List ℕ) (o : 0 < i) (h : length w ≡ place-words c) where
   abbrev empty : ℕ → Copies
   empty g = blank-copies
 
@@ -79,7 +79,7 @@ module _ (c : Settings) (i : ℕ) (w : List ℕ) (o : 0 < i) (h : length w ≡ p
   with-id = set w 0 i
 
   abbrev with-status : List ℕ
-  with-status = on-run 1 status-words (status-codec .enc first-status) with-id
+  with-status = on-run 1 status-words (status-codec .enc status) with-id
 
   abbrev with-buffer : List ℕ
   with-buffer = set with-status buffer-at 0
@@ -90,8 +90,8 @@ module _ (c : Settings) (i : ℕ) (w : List ℕ) (o : 0 < i) (h : length w ≡ p
   status-long : length with-status ≡ place-words c
   status-long =
       let l : length with-id ≡ length w = length-set w 0 i in
-      on-length 1 status-words (status-codec .enc first-status) with-id (omega arith)
-      (status-law .keeps first-status (run 1 status-words with-id) (run-length 1 status-words with-id (omega arith))) ∙ omega arith
+      on-length 1 status-words (status-codec .enc status) with-id (omega arith)
+      (status-law .keeps status (run 1 status-words with-id) (run-length 1 status-words with-id (omega arith))) ∙ omega arith
 
   buffer-long : length with-buffer ≡ place-words c
   buffer-long = length-set with-status buffer-at 0 ∙ status-long
@@ -103,7 +103,7 @@ module _ (c : Settings) (i : ℕ) (w : List ℕ) (o : 0 < i) (h : length w ≡ p
       on-length all-copies-at n (all-copies-codec c .enc empty) with-buffer (omega arith)
       (all-copies-law c .keeps empty (run all-copies-at n with-buffer) (run-length all-copies-at n with-buffer (omega arith))) ∙ l
 
-  place-written : set with-copies (log-at c) 0 ≡ place-codec c .enc (i & first-brick) w
+  place-written : set with-copies (log-at c) 0 ≡ place-codec c .enc (i & new-brick status) w
   place-written =
       let ls = status-long in
       let lb = buffer-long in
@@ -111,7 +111,7 @@ module _ (c : Settings) (i : ℕ) (w : List ℕ) (o : 0 < i) (h : length w ≡ p
       let li : length with-id ≡ length w = length-set w 0 i in
       let all : ℕ = all-copies-codec c .size in
       let log : ℕ = log-words c in
-      let one = then-written status-codec (buffer-codec then all-copies-codec c then log-codec c) status-law (brick-reading .from first-brick) 1 with-id
+      let one = then-written status-codec (buffer-codec then all-copies-codec c then log-codec c) status-law (brick-reading .from (new-brick status)) 1 with-id
       (omega arith) in
       let two = then-written buffer-codec (all-copies-codec c then log-codec c) buffer-law ([] & empty & []) buffer-at with-status (omega arith) in
       let buffer = table-run entry-row 32 buffer-at with-status (omega arith) in
@@ -120,14 +120,14 @@ module _ (c : Settings) (i : ℕ) (w : List ℕ) (o : 0 < i) (h : length w ≡ p
       (log-cleared c (run (log-at c) log with-copies) (run-length (log-at c) log with-copies (omega arith))) in
       sym cells ∙ sym three
       ∙ ap (on-run all-copies-at (all + log) (enc-two (all-copies-codec c) (log-codec c) (empty & []))) (sym buffer)
-      ∙ sym two ∙ sym one ∙ sym (slot-first c i first-brick w o h)
+      ∙ sym two ∙ sym one ∙ sym (slot-first c i (new-brick status) w o h)
 
 -- the writes of a place, one after the other
-pub place-steps : (c : Settings) (i log : ℕ) (w0 w1 w2 w3 w4 w5 : List ℕ) → 0 < i → length w0 ≡ place-words c
-    → w1 ≡ set w0 0 i → w2 ≡ on-run 1 status-words (status-codec .enc first-status) w1 → w3 ≡ set w2 buffer-at 0
+pub place-steps : (c : Settings) (i : ℕ) (status : Status) (log : ℕ) (w0 w1 w2 w3 w4 w5 : List ℕ) → 0 < i → length w0 ≡ place-words c
+    → w1 ≡ set w0 0 i → w2 ≡ on-run 1 status-words (status-codec .enc status) w1 → w3 ≡ set w2 buffer-at 0
     → w4 ≡ on-run all-copies-at (all-copies-codec c .size) (all-copies-codec c .enc (λ g. blank-copies)) w3 → log ≡ log-at c → w5 ≡ set w4 log 0
-    → w5 ≡ place-codec c .enc (i & first-brick) w0
-place-steps c i log w0 w1 w2 w3 w4 w5 o h e1 e2 e3 e4 el e5 = e5 ∙ rw (el, e4, e3, e2, e1) (place-written c i w0 o h)
+    → w5 ≡ place-codec c .enc (i & new-brick status) w0
+place-steps c i status log w0 w1 w2 w3 w4 w5 o h e1 e2 e3 e4 el e5 = e5 ∙ rw (el, e4, e3, e2, e1) (place-written c i status w0 o h)
 
 -- ---- the store
 module _ (c : Settings) (d : Disk) (w : List ℕ) (h : length w ≡ store-words c) where

@@ -21,8 +21,12 @@ agreed-in-turn n g = first-agreed (2 * g % n + 1) ((2 * g + 1) % n + 1)
 abbrev pub first-status : Status
 first-status = record { up = true; member = true; began = true; next = 0; ceiling = 0 }
 
+-- a brick that holds nothing yet
+abbrev pub new-brick : Status → Brick
+new-brick status = record { here = true; status = status; buffer = []; copies = λ g. blank-copies; log = [] }
+
 abbrev pub first-brick : Brick
-first-brick = record { here = true; status = first-status; buffer = []; copies = λ g. blank-copies; log = [] }
+first-brick = new-brick first-status
 
 -- place p holds brick p + 1
 abbrev pub first-place : ℕ → Place

@@ -11,8 +11,8 @@ ghost use Rattle.layout.specs.Disk.{blank-proxy, blank-copies};
 ghost use Rattle.layout.specs.Layout.{all-agreed-codec, proxy-codec, all-proxies-codec, copies-codec, all-copies-codec, place-codec, all-places-codec};
 ghost use Rattle.layout.specs.Layout.{agreed-words, proxy-words, copies-words, place-words};
 ghost use Rattle.layout.specs.Store.{render, store-bytes};
-ghost use Rattle.parts.specs.Parts.{agreed-of};
-ghost use Rattle.format.specs.First.{agreed-in-turn, first-brick, first-place};
+ghost use Rattle.parts.specs.Parts.{agreed-of, status-of};
+ghost use Rattle.format.specs.First.{agreed-in-turn, new-brick, first-place};
 use layout::sizes;
 use parts::agreed::Agreed;
 use parts::head::Head;
@@ -102,19 +102,12 @@ fn all_copies(s: &mut [u8], settings: Settings)
     }
 }
 
-// A place with its brick.
-fn place(s: &mut [u8], settings: Settings, id: u64)
+// A place with a brick that holds nothing yet.
+pub fn place(s: &mut [u8], settings: Settings, id: u64, status: Status)
     requires { ⌜ Limits settings × (0 < id) × (length (now s) ≡ 8 * place-words settings) ⌝ }
-    ensures { λ _. ⌜ words (now (s .exit)) ≡ place-codec settings .enc (id & first-brick) (words (now (s .entry))) ⌝ }
+    ensures { λ _. ⌜ words (now (s .exit)) ≡ place-codec settings .enc (id & new-brick (status-of status)) (words (now (s .entry))) ⌝ }
 {
     let log = sizes::log_at(settings);
-    let status = Status {
-        up: true,
-        member: true,
-        began: true,
-        next: 0,
-        ceiling: 0,
-    };
     words::write(s, sizes::ID_AT, id);
     parts::status::write(&mut s[8 * sizes::UP_AT..8 * sizes::BUFFER_AT], status);
     words::write(s, sizes::BUFFER_AT, 0);
@@ -132,7 +125,14 @@ fn places(s: &mut [u8], settings: Settings)
     let mut p = 0;
     while p < count {
         let at = 8 * words::offset(p, size, count);
-        place(&mut s[at..at + 8 * size], settings, p as u64 + 1);
+        let status = Status {
+            up: true,
+            member: true,
+            began: true,
+            next: 0,
+            ceiling: 0,
+        };
+        place(&mut s[at..at + 8 * size], settings, p as u64 + 1, status);
         p += 1;
     }
 }

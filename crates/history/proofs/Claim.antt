@@ -89,7 +89,7 @@ module _ (s : State) (h : History) (v : Aged s h) (z : Sound s) where
   stocked-on o w e u (refused c) f = w
   stocked-on o w e u (accepted y) f = stocked-kept s h o e v z w y (λ t. f t refl)
 
-settings-on : (s : State) (e : Event) (u : Outcome) → Stepped s e u → u .after .settings ≡ s .settings
+pub settings-on : (s : State) (e : Event) (u : Outcome) → Stepped s e u → u .after .settings ≡ s .settings
 settings-on s e u (refused c) = refl
 settings-on s e u (accepted y) = same-settings s e
 

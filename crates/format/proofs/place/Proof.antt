@@ -6,7 +6,7 @@ use Rattle.words.specs.Words.{words}
 use Rattle.words.proofs.Laws.{length-words, lent-run}
 use Rattle.layout.specs.Disk.{blank-copies}
 use Rattle.layout.specs.Layout.{status-codec, all-copies-codec, status-words, all-copies-at}
-use Rattle.format.specs.First.{first-status}
+use Rattle.parts.specs.Parts.{status-of}
 use Rattle.format.proofs.First.{place-steps}
 use borrow.Author.Needs.{needs}
 use Rattle.format.proofs.place.Statement.{statement}
@@ -77,11 +77,11 @@ returns c =
     let s3 = c3 .write3 .last .0 in
     let log = c1 .before .before .log-at in
     let copies : List ℕ → List ℕ = all-copies-codec t .enc (λ g. blank-copies) in
-    let e2 = lent-run s1 (c2 .write2 .last .0) 8 40 1 status-words (status-codec .enc first-status) refl refl (omega arith) (omega arith)
+    let e2 = lent-run s1 (c2 .write2 .last .0) 8 40 1 status-words (status-codec .enc (status-of (b .args .status))) refl refl (omega arith) (omega arith)
     (c2 .write2 .ensures) in
-    let e4 = lent-run s3 (c4 .all-copies .last .0) 568 (8 * log .result - 568) all-copies-at (all-copies-codec t .size) copies refl (omega arith) (omega arith)
-    (omega arith) (c4 .all-copies .ensures) in
-    place-steps t (b .args .id) (log .result) (words s0) (words s1) _ (words s3) _ _ (b .pre .1) (length-words s0 ∙ omega arith) (c1 .write .ensures) e2
+    let e4 = lent-run s3 (c4 .all-copies .last .0) 568 (8 * log .result - 568) all-copies-at (all-copies-codec t .size) copies refl (omega (arith, log .ensures, b .pre .2, c .before .before .before .before .before .before .before .before .before .s3 .given, c .before .before .before .before .before .before .before .before .before .before .before .before .before .s2 .given, c .before .before .before .before .before .before .before .before .before .before .before .before .before .before .before .before .before .s .given)) (omega (arith, log .ensures, b .pre .2, c .before .before .before .before .before .before .before .before .before .s3 .given, c .before .before .before .before .before .before .before .before .before .before .before .before .before .s2 .given, c .before .before .before .before .before .before .before .before .before .before .before .before .before .before .before .before .before .s .given))
+    (omega (arith, log .ensures, b .pre .2, c .before .before .before .before .before .before .before .before .before .s3 .given, c .before .before .before .before .before .before .before .before .before .before .before .before .before .s2 .given, c .before .before .before .before .before .before .before .before .before .before .before .before .before .before .before .before .before .s .given)) (c4 .all-copies .ensures) in
+    place-steps t (b .args .id) (status-of (b .args .status)) (log .result) (words s0) (words s1) _ (words s3) _ _ (b .pre .1) (length-words s0 ∙ omega arith) (c1 .write .ensures) e2
     (c3 .write3 .ensures) e4 (log .ensures) (c5 .write4 .ensures)
 
 pub place-spec : {M : Type 1} → statement M

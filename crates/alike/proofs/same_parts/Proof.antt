@@ -1,0 +1,54 @@
+use mathlib.Core.Path.{sym, _∙_}
+use borrow.Author.Tests.{not-true, not-false}
+use Rattle.lists.proofs.Tests.{no-first, no-second}
+use Rattle.alike.proofs.Differences.{other-view, other-members, same-else}
+use borrow.Author.Needs.{needs}
+use Rattle.alike.proofs.same_parts.Statement.{statement}
+use Rattle.alike.proofs.same_parts.Tie as tie
+
+view-requires : tie.Need-view-requires
+view-requires c κs = search needs
+
+view-requires-2 : tie.Need-view-requires-2
+view-requires-2 c κs = search needs
+
+returns : tie.Need-returns
+returns c =
+    let b = c .before .before .before .before .before in
+    sym (other-view (b .args .settings) (b .args .one .now) (b .args .other .now) (b .pre)
+    (λ e. c .if1 .taken (c .before .before .view .ensures ∙ e ∙ sym (c .before .view2 .ensures))))
+
+members-in-requires : tie.Need-members-in-requires
+members-in-requires c κs = search needs
+
+returns-2 : tie.Need-returns-2
+returns-2 c =
+    let b = c .before .before .before .before .before .before .before in
+    sym (other-members (b .args .settings) (b .args .one .now) (b .args .other .now) (b .pre)
+    (no-first _ _ (sym (c .before .members-in .ensures) ∙ not-true _ (c .if2 .taken))))
+
+members-in-requires-2 : tie.Need-members-in-requires-2
+members-in-requires-2 c κs = record { first = c .before .before .before .before .before .before .before .pre .second; second = c .before .before .before .before .before .before .before .pre .first }
+
+returns-3 : tie.Need-returns-3
+returns-3 c =
+    let b = c .before .before .before .before .before .before .before .before .before in
+    sym (other-members (b .args .settings) (b .args .one .now) (b .args .other .now) (b .pre)
+    (no-second _ _ (sym (c .before .members-in2 .ensures) ∙ not-true _ (c .if3 .taken))))
+
+same-memories-requires : tie.Need-same-memories-requires
+same-memories-requires c κs = search needs
+
+returns-4 : tie.Need-returns-4
+returns-4 c =
+    let b = c .before .before .before .before .before .before .before .before .before .before in
+    c .same-memories .ensures
+    ∙ same-else (b .args .settings) (b .args .one .now) (b .args .other .now) (b .pre)
+    (sym (c .before .before .before .before .before .before .before .view .ensures) ∙ c .before .before .before .before .before .if1 .left ∙ c .before .before .before .before .before .before .view2 .ensures)
+    (sym (c .before .before .before .before .members-in .ensures) ∙ not-false _ (c .before .before .before .if2 .left))
+    (sym (c .before .before .members-in2 .ensures) ∙ not-false _ (c .before .if3 .left))
+
+pub same-parts-spec : {M : Type 1} → statement M
+same-parts-spec =
+    tie.close
+    (tie.spec view-requires view-requires-2 returns members-in-requires returns-2 members-in-requires-2 returns-3 same-memories-requires returns-4)

@@ -1,0 +1,29 @@
+// A bucket: its share of the agreed record, and what its copies say of a block.
+ghost use mathlib.Core.Path.{_≡_};
+ghost use Prim.Native.Nat.{_<_};
+ghost use Rattle.words.specs.Words.{words};
+ghost use Rattle.rules.specs.Limits.{buckets};
+ghost use Rattle.rules.specs.Numbers.{bucket-of};
+ghost use Rattle.layout.specs.Store.{agreed-in, decode};
+ghost use Rattle.parts.specs.Parts.{agreed-of};
+ghost use Rattle.lent.specs.Stores.{StoreOf};
+use layout::sizes;
+use parts::agreed::Agreed;
+use rules::numbers::BlockNumber;
+use rules::settings::Settings;
+
+// The bucket of a block.
+pub fn number(settings: Settings, block: BlockNumber) -> usize
+    ensures { λ r. ⌜ (r ≡ bucket-of (buckets settings) (block .0)) × (r < buckets settings) ⌝ }
+{
+    block.bucket(settings) as usize
+}
+
+// Its share of the agreed record.
+pub fn agreed(store: &[u8], settings: Settings, bucket: usize) -> Agreed
+    requires { ⌜ StoreOf settings (now store) × (bucket < buckets settings) ⌝ }
+    ensures { λ r. ⌜ agreed-of r ≡ agreed-in (decode (words (now (store .entry))) .bucket bucket) ⌝ }
+{
+    let at = 8 * (sizes::HEAD_WORDS + bucket * sizes::AGREED_WORDS);
+    parts::agreed::read(&store[at..at + 8 * sizes::AGREED_WORDS])
+}

@@ -1,0 +1,37 @@
+// A store's header.
+ghost use mathlib.Core.Path.{_≡_};
+ghost use Prim.Native.Nat.{_<_};
+ghost use Rattle.words.specs.Words.{words};
+ghost use Rattle.layout.specs.Store.{decode};
+ghost use Rattle.lent.specs.Performs.{SoundStore};
+ghost use Rattle.lent.specs.Stores.{StoreOf};
+use layout::sizes;
+use rules::settings::Settings;
+
+// The settings that the store begins with: read once, and passed on.
+pub fn settings(store: &[u8]) -> Settings
+    requires { ⌜ SoundStore (now store) ⌝ }
+    ensures { λ r. ⌜ StoreOf r (now (store .entry)) ⌝ }
+{
+    Settings {
+        places: words::read(store, 0) as usize,
+        size: words::read(store, 1) as usize,
+        entries: words::read(store, 2) as usize,
+        chunks: words::read(store, 3) as usize,
+    }
+}
+
+pub fn view(store: &[u8], settings: Settings) -> u64
+    requires { ⌜ StoreOf settings (now store) ⌝ }
+    ensures { λ r. ⌜ r ≡ decode (words (now (store .entry))) .view ⌝ }
+{
+    words::read(store, sizes::VIEW_AT)
+}
+
+// The highest id given.
+pub fn given(store: &[u8], settings: Settings) -> u64
+    requires { ⌜ StoreOf settings (now store) ⌝ }
+    ensures { λ r. ⌜ r ≡ decode (words (now (store .entry))) .given ⌝ }
+{
+    words::read(store, sizes::GIVEN_AT)
+}

@@ -1,0 +1,58 @@
+use mathlib.Core.Path.{refl}
+use native.Mathlib.Omega.{arith}
+use Rattle.maps.proofs.ProxySteps.{cleared}
+use borrow.Author.Needs.{needs}
+use Rattle.maps.proofs.proxies.clear_proxy.Statement.{statement}
+use Rattle.maps.proofs.proxies.clear_proxy.Tie as tie
+
+mul-at : tie.Need-mul-at
+mul-at c = search needs
+
+add-at : tie.Need-add-at
+add-at c = search needs
+
+mul-at-2 : tie.Need-mul-at-2
+mul-at-2 c = search needs
+
+mul-clear : tie.Need-mul-clear
+mul-clear c = search needs
+
+add-clear : tie.Need-add-clear
+add-clear c = search needs
+
+sub-clear : tie.Need-sub-clear
+sub-clear c = search needs
+
+part-clear-start : tie.Need-part-clear-start
+part-clear-start c = search needs
+
+part-clear-end : tie.Need-part-clear-end
+part-clear-end c = search needs
+
+clear-requires : tie.Need-clear-requires
+clear-requires c κs = search needs
+
+same-length : tie.Need-same-length
+same-length c = search needs
+
+returns : tie.Need-returns
+returns c =
+    let b = c .before .before .before .before .before in
+    let clear = c .before .before .clear in
+    cleared (b .args .store .now) (b .pre .0) (b .args .proxy) (b .pre .1) (clear .last .0) _ _ refl refl (omega arith) (clear .ensures)
+
+pub clear-proxy-spec : {M : Type 1} → statement M
+clear-proxy-spec =
+    tie.close
+    (tie.spec
+    mul-at
+    add-at
+    mul-at-2
+    mul-clear
+    add-clear
+    sub-clear
+    part-clear-start
+    part-clear-end
+    clear-requires
+    same-length
+    returns)

@@ -1,0 +1,45 @@
+-- The keys that mend goes through, bucket by bucket, and how many chunks it adds.
+use mathlib.Core.List.{List}
+use mathlib.Core.Bool.{Bool, not}
+use Prim.Native.Nat.{ℕ, zero, suc, _+_}
+use lib.Dec.{ltb}
+use lib.ListN.{length, take}
+use Rattle.lists.specs.Tests.{_and_, _or_, some-below, count-below}
+use Rattle.rules.specs.Numbers.{home-of}
+use Rattle.rules.specs.Entries.{names}
+use Rattle.rules.specs.Chunks.{Chunk, held}
+use Rattle.rules.specs.State.{State}
+use Rattle.rules.specs.Parts.{circle, holder}
+use Rattle.rules.specs.Upkeep.{of-first-two, mend-keys, mend-buckets}
+use Rattle.entries.specs.Words.{entry-at}
+use Rattle.named.specs.Tables.{named}
+
+abbrev pub key-at : State → ℕ → ℕ → ℕ
+key-at s g i = entry-at (named s g) i .key
+
+-- the log after the first g buckets and i entries of the next one
+abbrev pub mended-to : State → ℕ → ℕ → ℕ → List Chunk
+mended-to s id g i = mend-keys s id (mend-buckets s id g) (take i (named s g))
+
+-- is the key named before entry i of bucket g?
+unfoldable pub before : State → ℕ → ℕ → ℕ → Bool
+before s g i key = some-below g (λ h. names (named s h) key) or names (take i (named s g)) key
+
+-- does the place get the key's chunk saved, and is that a chunk more?
+unfoldable pub wants : State → ℕ → ℕ → Bool
+wants s id key = of-first-two id (circle s (home-of key)) and ltb 0 (holder s key)
+
+unfoldable pub lacks : State → ℕ → ℕ → Bool
+lacks s id key = wants s id key and not (held (s .bricks .log id) key)
+
+-- a chunk is added where its key is named first
+unfoldable pub adds : State → ℕ → ℕ → ℕ → Bool
+adds s id g i = lacks s id (key-at s g i) and not (before s g i (key-at s g i))
+
+-- so many are added by the first i entries of a bucket, and by the first n buckets
+abbrev pub added-in : State → ℕ → ℕ → ℕ → ℕ
+added-in s id g i = count-below i (adds s id g)
+
+unfoldable pub added : State → ℕ → ℕ → ℕ
+added s id zero = 0
+added s id (suc g) = added-in s id g (length (named s g)) + added s id g

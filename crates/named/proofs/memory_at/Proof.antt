@@ -1,0 +1,63 @@
+use mathlib.Core.Path.{_≡_}
+use native.Mathlib.Omega.{arith}
+use Rattle.words.specs.Words.{words}
+use Rattle.layout.specs.Disk.{blank-brick}
+use Rattle.layout.specs.Layout.{place-at}
+use Rattle.layout.specs.Store.{brick-in, decode}
+use Rattle.layout.proofs.Bounds.{store-small}
+use Rattle.lent.specs.Places.{Stands}
+use Rattle.named.proofs.Copies.{memory-lies, memory-none}
+use borrow.Author.Needs.{needs}
+use Rattle.named.proofs.memory_at.Statement.{statement}
+use Rattle.named.proofs.memory_at.Tie as tie
+
+place-of-requires : tie.Need-place-of-requires
+place-of-requires c κs = search needs
+
+enum-known-place : tie.Need-enum-known-place
+enum-known-place c = search needs
+
+place-at-requires : tie.Need-place-at-requires
+place-at-requires c κs =
+    let s = c .before .before .before .before .before in
+    let h : Stands (s .args .settings) (decode (words (s .args .store .now))) (s .args .id) (c .before .place .given .0 .0) =
+    rw (c .before .place .given .1) at (c .before .before .before .place-of .ensures) in
+    (s .pre .0 .limits, h .inside)
+
+memory-at-requires : tie.Need-memory-at-requires
+memory-at-requires c κs = search needs
+
+add-result : tie.Need-add-result
+add-result c = omega (arith, store-small _ (c .before .before .before .before .before .before .before .pre .0 .limits))
+
+enum-told : tie.Need-enum-told
+enum-told c = search needs
+
+returns : tie.Need-returns
+returns c =
+    let m = c .before .before .before in
+    let s = m .before .before .before .before in
+    let a = s .args in
+    let h : Stands (a .settings) (decode (words (a .store .now))) (a .id) (m .place .given .0 .0) = rw (m .place .given .1) at (m .before .before .place-of .ensures) in
+    memory-lies (a .settings) (a .store .now) (s .pre .0) (a .bucket) (s .pre .1) (a .id) (m .place .given .0 .0) _ h
+    (omega (arith, c .before .place-at .ensures .0, c .memory-at .ensures .0))
+
+returns-2 : tie.Need-returns-2
+returns-2 c =
+    let s = c .before .before .before .before in
+    let a = s .args in
+    let h : brick-in (decode (words (a .store .now))) (a .id) ≡ blank-brick = rw (c .enum-told .given .1) at (c .before .before .place-of .ensures) in
+    memory-none (a .settings) (a .store .now) (s .pre .0) (a .bucket) (s .pre .1) (a .id) h
+
+pub memory-at-spec : {M : Type 1} → statement M
+memory-at-spec =
+    tie.close
+    (tie.spec
+    place-of-requires
+    enum-known-place
+    place-at-requires
+    memory-at-requires
+    add-result
+    enum-told
+    returns
+    returns-2)

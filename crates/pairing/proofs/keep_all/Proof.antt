@@ -1,0 +1,60 @@
+use mathlib.Core.Path.{_≡_}
+use Prim.Native.Nat.{_-_, _≤_}
+use native.Mathlib.Omega.{arith}
+use lib.ListN.{length}
+use borrow.Author.Needs.{needs}
+use Rattle.rules.specs.Pairs.{in-order, keep-at}
+use Rattle.pairing.proofs.Laws.{order-start, order-turn}
+use Rattle.pairing.proofs.keep_all.Statement.{statement}
+use Rattle.pairing.proofs.keep_all.Tie as tie
+
+abbrev Inv-loop : tie.InvT-loop
+Inv-loop members slots₀ count bucket₀ slots bucket = (bucket ≤ count) × (length slots ≡ length slots₀) × (slots ≡ in-order bucket (keep-at members) slots₀)
+
+abbrev μ-loop : tie.MeasureT-loop
+μ-loop members slots₀ count bucket₀ slots bucket = count - bucket
+
+loop-holds : tie.Need-loop-holds Inv-loop μ-loop
+loop-holds c = (search needs, search needs, order-start (keep-at (c .before .before .args .members .now)) (c .before .before .args .slots .now))
+
+keep-at-requires : tie.Need-keep-at-requires Inv-loop μ-loop
+keep-at-requires c κs = search needs
+
+add-bucket : tie.Need-add-bucket Inv-loop μ-loop
+add-bucket c = search needs
+
+loop-less : tie.Need-loop-less Inv-loop μ-loop
+loop-less c = search needs
+
+loop-again : tie.Need-loop-again Inv-loop μ-loop
+loop-again c =
+    let at-loop = c .before .before .before .before .before in
+    let s = at-loop .before .before .before in
+    let l = at-loop .loop in (
+      search needs,
+      search needs,
+      order-turn (keep-at (s .args .members .now)) (s .args .slots .now) (l .slots) (c .before .before .keep-at .last .1 .0)
+          (l .bucket) (l .inv .2) (c .before .before .keep-at .ensures),
+    )
+
+same-length : tie.Need-same-length Inv-loop μ-loop
+same-length c = search needs
+
+returns : tie.Need-returns Inv-loop μ-loop
+returns c =
+    let e : c .before .loop .bucket ≡ c .before .before .before .before .args .count = omega arith in
+    rw e at (c .before .loop .inv .2)
+
+pub keep-all-spec : {M : Type 1} → statement M
+keep-all-spec =
+    tie.close
+    (tie.spec
+    Inv-loop
+    μ-loop
+    loop-holds
+    keep-at-requires
+    add-bucket
+    loop-less
+    loop-again
+    same-length
+    returns)

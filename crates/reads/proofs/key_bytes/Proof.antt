@@ -1,0 +1,71 @@
+use mathlib.Core.Path.{_≡_, _∙_}
+use native.Mathlib.Omega.{arith}
+use Rattle.words.specs.Words.{words}
+use Rattle.rules.specs.Parts.{holder}
+use Rattle.layout.specs.Store.{decode}
+use Rattle.lent.specs.Places.{Stands}
+use Rattle.reads.proofs.Contents.{zero-bytes, held-bytes, no-bytes}
+use borrow.Author.Needs.{needs}
+use Rattle.reads.proofs.key_bytes.Statement.{statement}
+use Rattle.reads.proofs.key_bytes.Tie as tie
+
+returns : tie.Need-returns
+returns c =
+    let s = c .before .before .before .before in
+    s .pre .1 ∙ zero-bytes _ (s .args .store .now) (s .pre .0) (s .args .key .0) (c .if1 .taken)
+
+holder-requires : tie.Need-holder-requires
+holder-requires c κs = search needs
+
+enum-known-place : tie.Need-enum-known-place
+enum-known-place c = search needs
+
+chunk-requires : tie.Need-chunk-requires
+chunk-requires c κs =
+    let s = c .before .before .before .before .before .before .before .before in
+    let state = decode (words (s .args .store .now)) in
+    let h : Stands (s .args .settings) state (holder state (s .args .key .0)) (c .before .place .given .0 .0) =
+    rw (c .before .place .given .1) at (c .before .before .before .holder .ensures) in
+    (s .pre .0, h .inside, omega (arith, h .some, h .here))
+
+returns-2 : tie.Need-returns-2
+returns-2 c =
+    let s = c .before .before .before .before .before .before .before .before .before in
+    let state = decode (words (s .args .store .now)) in
+    let h : Stands (s .args .settings) state (holder state (s .args .key .0)) (c .before .before .place .given .0 .0) =
+    rw (c .before .before .place .given .1) at (c .before .before .before .before .holder .ensures) in
+    c .chunk .ensures ∙ held-bytes _ (s .args .store .now) (s .pre .0) (s .args .key .0) (c .before .before .before .before .before .if1 .left) _ (h .here)
+
+enum-told : tie.Need-enum-told
+enum-told c = search needs
+
+sub-result : tie.Need-sub-result
+sub-result c = search needs
+
+part-result-start : tie.Need-part-result-start
+part-result-start c = search needs
+
+part-result-end : tie.Need-part-result-end
+part-result-end c = search needs
+
+returns-3 : tie.Need-returns-3
+returns-3 c =
+    let s = c .before .before .before .before .before .before .before .before in
+    let state = decode (words (s .args .store .now)) in
+    let none : holder state (s .args .key .0) ≡ 0 = rw (c .before .enum-told .given .1) at (c .before .before .before .holder .ensures) in
+    no-bytes _ (s .args .store .now) (s .pre .0) (s .args .key .0) (c .before .before .before .before .if1 .left) none
+
+pub key-bytes-spec : {M : Type 1} → statement M
+key-bytes-spec =
+    tie.close
+    (tie.spec
+    returns
+    holder-requires
+    enum-known-place
+    chunk-requires
+    returns-2
+    enum-told
+    sub-result
+    part-result-start
+    part-result-end
+    returns-3)

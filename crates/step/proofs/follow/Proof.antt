@@ -1,0 +1,34 @@
+use native.Mathlib.Omega.{arith}
+use borrow.Author.Needs.{needs}
+use Rattle.rules.specs.Event.{kinds, kind-at, event-of}
+use Rattle.step.specs.Asked.{asked, asked-one}
+use Rattle.step.proofs.KindLaws.{at-kind}
+use Rattle.step.proofs.follow.Statement.{statement}
+use Rattle.step.proofs.follow.Tie as tie
+
+learn-requires : tie.Need-learn-requires
+learn-requires c κs = search needs
+
+reset-requires : tie.Need-reset-requires
+reset-requires c κs = search needs
+
+same-length : tie.Need-same-length
+same-length c = search needs
+
+returns : tie.Need-returns
+unfolding asked event-of kind-at kinds
+returns c =
+    let s = c .before .before .before .before .before .before in
+    at-kind {k = 12} (λ k. asked-one k (s .args .proxy)) (c .before .before .before .before .match .keys1) (c .before .before .learn .ensures)
+
+same-length-2 : tie.Need-same-length-2
+same-length-2 c = search needs
+
+returns-2 : tie.Need-returns-2
+unfolding asked event-of kind-at kinds
+returns-2 c =
+    let s = c .before .before .before .before .before .before in
+    at-kind {k = 13} {kind = s .args .kind} (λ k. asked-one k (s .args .proxy)) (omega arith) (c .before .before .reset .ensures)
+
+pub follow-spec : {M : Type 1} → statement M
+follow-spec = tie.close (tie.spec learn-requires reset-requires same-length returns same-length-2 returns-2)

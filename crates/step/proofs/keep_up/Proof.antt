@@ -1,0 +1,34 @@
+use native.Mathlib.Omega.{arith}
+use borrow.Author.Needs.{needs}
+use Rattle.rules.specs.Event.{kinds, kind-at, event-of}
+use Rattle.step.specs.Asked.{asked, asked-one}
+use Rattle.step.proofs.KindLaws.{at-kind}
+use Rattle.step.proofs.keep_up.Statement.{statement}
+use Rattle.step.proofs.keep_up.Tie as tie
+
+mend-requires : tie.Need-mend-requires
+mend-requires c κs = search needs
+
+collect-requires : tie.Need-collect-requires
+collect-requires c κs = search needs
+
+same-length : tie.Need-same-length
+same-length c = search needs
+
+returns : tie.Need-returns
+unfolding asked event-of kind-at kinds
+returns c =
+    let s = c .before .before .before .before .before .before in
+    at-kind {k = 21} (λ k. asked-one k (s .args .place)) (c .before .before .before .before .match .keys1) (c .before .before .mend .ensures)
+
+same-length-2 : tie.Need-same-length-2
+same-length-2 c = search needs
+
+returns-2 : tie.Need-returns-2
+unfolding asked event-of kind-at kinds
+returns-2 c =
+    let s = c .before .before .before .before .before .before in
+    at-kind {k = 22} {kind = s .args .kind} (λ k. asked-one k (s .args .place)) (omega arith) (c .before .before .collect .ensures)
+
+pub keep-up-spec : {M : Type 1} → statement M
+keep-up-spec = tie.close (tie.spec mend-requires collect-requires same-length returns same-length-2 returns-2)
