@@ -2,7 +2,8 @@
  *
  * Every area is lent for the time of the call: the library keeps no pointer and allocates nothing. A pointer is not null, also where its length is 0,
  * and an area that a call writes overlaps no other area of that call. No call has another condition: every input has the answer described here.
- * A code of 0 says yes; any other is the number of the question that says no, and then all other fields are 0 and no lent byte has changed. */
+ * A code of 0 says yes; any other is the number of the question that says no, and then all other fields are 0 and no lent byte has changed. Only the
+ * numbers of disk_length, a length, and of disk_alike are others. */
 #ifndef DISK_H
 #define DISK_H
 
@@ -11,6 +12,12 @@
 
 /* A line of text has at most so many bytes, its line feed counted. */
 #define DISK_LONGEST_LINE 16500
+
+/* What a step answers: its code, and a key. */
+typedef struct {
+    uint64_t code;
+    uint64_t key;
+} disk_step_answer;
 
 /* An event: its kind, 1 to 22, and its numbers in the order of its text; numbers that the kind does not have are 0. */
 typedef struct {
@@ -46,6 +53,55 @@ uint64_t disk_format(uint8_t *store, size_t store_length, uint64_t places, uint6
 /* Whether lent bytes are a sound store: settings within limits and the length theirs, everything in range and in its place.
  * 0: they are. 2: they are not. Its cost grows with what is in use. */
 uint64_t disk_check(const uint8_t *store, size_t store_length);
+
+/* An event on a store. The event is its kind and its fields a, b, c; fields that the kind does not have are not looked at:
+ *
+ *   kind           a       b       c       data              kind           a       b       c
+ *    1 put         proxy   place   block   S bytes           12 learn       proxy
+ *    2 copy        key                                       13 reset       proxy
+ *    3 savelog     place                                     14 crash       place
+ *    4 map         proxy   block                             15 lose        place
+ *    5 send        block                                     16 rise        place
+ *    6 deliver     index                                     17 join        place
+ *    7 drop        index                                     18 view
+ *    8 savemap     place                                     19 fetch       bucket
+ *    9 done        proxy   block                             20 ready       bucket
+ *   10 get         proxy   block                             21 mend        place
+ *   11 abandon     proxy   block                             22 collect     place
+ *
+ * S is the store's block size. Only put looks at data, only get at zero and answer: zero is S bytes of 0, answer an area of S bytes. For every other kind
+ * these may have any length, 0 too. The caller owns all four areas; the step writes the store, and an accepted get the answer area, and nothing else.
+ *
+ *  0: done. The key is the new chunk's (put), the block's or 0 where it has no mapping (get), 1 where the relay was taken and 0 where it was set aside
+ *     (deliver), else 0. After a get answer[0 .. S] is the block's data, zeros where it has no mapping.
+ *  1: never; it is the number of disk_format's question.
+ *  2: the bytes are no sound store, as disk_check says.
+ *  3: the kind is not 1 to 22, or a field is out of range (proxy 0 to 3; place below the settings' places; block below 2^51; the id in a key 1 to 255;
+ *     index below the number of relays in the bag; bucket 0 to 15), or a put's data is not S bytes, or a get's zero block is not S zeros or its answer
+ *     area not S bytes.
+ *  4: the block is not the proxy's.
+ *  5: the proxy does not know the present view (map, get, done).
+ *  6: the brick needed is no up member.
+ *  7: the bucket is not ready (get, send, done).
+ *  8: the block is pending, or waits in the buffer (map, get, done).
+ *  9: there is an item for the block (put), or there is none (map, done, abandon).
+ * 10: no room in items, log, bucket, buffer or bag.
+ * 11: the chunk is saved at no member (map), or not held at its home (copy), or at no up member (get).
+ * 12: no id, sequence number, order number or view number is left.
+ * 13: the brick is not up (crash), not down (rise), or there is none (lose) or one already (join) at the place; fewer than two bricks are up, or not more
+ *     than half of those that the view began with (view); the bucket is ready or has no source (fetch), or is not fetched in this view or ready already
+ *     (ready); the block is not mapped (send); a brick is down or no member, a bucket not ready, a block pending, or an item left (collect).
+ * 14: no room at the backup (deliver).
+ * 15: the primary's key is not the item's (done).
+ *
+ * Each call checks the whole store first, as disk_check does. */
+disk_step_answer disk_step(uint8_t *store, size_t store_length, uint64_t kind, uint64_t a, uint64_t b, uint64_t c, const uint8_t *data, size_t data_length,
+                           const uint8_t *zero, size_t zero_length, uint8_t *answer, size_t answer_length);
+
+/* Whether two stores are alike: same settings, view and members and, for each bucket, the same blocks and keys in the primary's memory. They may be the
+ * same bytes. The number is no question's but for 2; it is what cmp and diff answer.
+ * 0: they are alike. 1: they are not. 2: one of them is not a sound store. */
+uint64_t disk_alike(const uint8_t *store, size_t store_length, const uint8_t *other, size_t other_length);
 
 /* The event of a line of text, in a store of blocks of `size` bytes. The line's last byte, line[line_length - 1], is its line feed.
  * 0: the line is an event's; for a put, its data is in data[0 .. size]. For every other kind the data area is not looked at and may have any length.

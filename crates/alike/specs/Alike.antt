@@ -10,10 +10,17 @@ use Rattle.rules.specs.Sound.{same-entries}
 use Rattle.rules.specs.Alike.{alike}
 use Rattle.layout.specs.Store.{decode-bytes, sound-bytes}
 use Rattle.lent.specs.Stores.{StoreOf}
+use Rattle.alike.specs.declared.Compared.{Compared}
+use Rattle.alike.specs.declared.Compared.the-variants.{Alike, Different, Unsound}
 
--- 1 yes, 0 no, 2 where one of them is not sound
-unfoldable pub alike-answer : List ℕ → List ℕ → ℕ
-alike-answer one other = cond (sound-bytes one and sound-bytes other) (cond (alike (decode-bytes one) (decode-bytes other)) 1 0) 2
+unfoldable pub alike-answer : List ℕ → List ℕ → Compared
+alike-answer one other = cond (sound-bytes one and sound-bytes other) (cond (alike (decode-bytes one) (decode-bytes other)) Alike Different) Unsound
+
+-- the numbers: 0 says yes as in every call, 2 is question 2, and 1 is left for no; cmp and diff answer by the same three
+unfoldable pub alike-number : Compared → ℕ
+alike-number Alike = 0
+alike-number Different = 1
+alike-number Unsound = 2
 
 -- ---- its parts, as they are walked
 -- two sound stores of the same settings

@@ -8,7 +8,7 @@ ghost use Rattle.rules.specs.Limits.{buckets};
 ghost use Rattle.rules.specs.Sound.{same-entries};
 ghost use Rattle.rules.specs.Alike.{same-settings, alike};
 ghost use Rattle.layout.specs.Store.{decode};
-ghost use Rattle.lent.specs.Performs.{SoundStore};
+ghost use Rattle.lent.specs.Stores.{SoundStore};
 ghost use Rattle.lent.specs.Stores.{StoreOf};
 ghost use Rattle.lent.specs.Places.{PlaceOf};
 ghost use Rattle.alike.specs.Alike.{member-in, same-primary, Two, alike-answer};
@@ -19,6 +19,13 @@ use lent::bucket;
 use lent::place;
 use lent::store;
 use rules::settings::Settings;
+
+// A yes or no over two sound stores, or one of them is not sound.
+pub enum Compared {
+    Alike,
+    Different,
+    Unsound,
+}
 
 fn same_settings(one: Settings, other: Settings) -> bool
     ensures { λ r. ⌜ r ≡ same-settings one other ⌝ }
@@ -102,8 +109,9 @@ fn same_memories(one: &[u8], other: &[u8], settings: Settings) -> bool
     requires { ⌜ Two settings (now one) (now other) ⌝ }
     ensures { λ r. ⌜ r ≡ all-below (buckets settings) (same-primary (decode (words (now (one .entry)))) (decode (words (now (other .entry))))) ⌝ }
 {
+    let count = sizes::buckets(settings);
     let mut g = 0;
-    while g < sizes::BUCKETS {
+    while g < count {
         if !same_memory(one, other, settings, g) {
             return false;
         }
@@ -143,18 +151,18 @@ fn are_alike(one: &[u8], other: &[u8]) -> bool
     false
 }
 
-// 1 where two lent stores are alike, 0 where they are not, 2 where one of them is not sound.
-pub fn alike(one: &[u8], other: &[u8]) -> u64
+// Are two lent stores alike?
+pub fn alike(one: &[u8], other: &[u8]) -> Compared
     ensures { λ r. ⌜ r ≡ alike-answer (now (one .entry)) (now (other .entry)) ⌝ }
 {
     if !sound::is_sound(one) {
-        return 2;
+        return Compared::Unsound;
     }
     if !sound::is_sound(other) {
-        return 2;
+        return Compared::Unsound;
     }
     if are_alike(one, other) {
-        return 1;
+        return Compared::Alike;
     }
-    0
+    Compared::Different
 }

@@ -1,17 +1,18 @@
--- Rows of a table, one after the other: what is left to test after some of them.
-use mathlib.Core.Path.{_≡_, refl, sym, ap, _∙_}
+-- Rows of a table, one after the other: code goes from the last to the first, the test from the first to the last.
+use mathlib.Core.Path.{_≡_, refl, sym, ap, subst, _∙_}
 use mathlib.Core.List.{List, _∷_}
 use mathlib.Core.Bool.{Bool, true, false}
-use Prim.Native.Nat.{ℕ, _+_, _*_, _≤_, _<_}
+use Prim.Native.Nat.{ℕ, zero, suc, _+_, _*_, _≤_, _<_}
+use native.Mathlib.Numerals.{add-one}
 use native.Mathlib.Omega.{arith}
-use lib.Dec.{leb}
+use lib.Dec.{ltb, leb}
 use lib.ListN.{length, drop, getD}
 use lib.Seq.{getD-drop}
-use borrow.Author.Tests.{lt-leb, le-leb, ltb-true, leb-true}
+use borrow.Author.Tests.{lt-leb, le-leb, le-ltb, lt-ltb, ltb-true, leb-true}
 use Rattle.lists.specs.Tests.{_and_}
 use Rattle.lists.specs.Runs.{part}
 use Rattle.lists.specs.Rows.{table-dec}
-use Rattle.lists.proofs.Tests.{and-l, and-r, both, no-first, no-second, yes-first}
+use Rattle.lists.proofs.Tests.{by-eq, and-l, and-r, both, same-test, no-first, no-second, yes-first}
 use Rattle.lists.proofs.Runs.{run-at}
 use Rattle.lists.proofs.Rows.{length-rows, rows-from, rows-past}
 use Rattle.rules.specs.declared.settings.Settings.{Settings}
@@ -20,7 +21,8 @@ use Rattle.rules.specs.Entries.{Entry, entry}
 use Rattle.layout.specs.Disk.{entry-row}
 use Rattle.layout.specs.Layout.{entries-codec}
 use Rattle.checks.specs.declared.rows.Whose.{Whose}
-use Rattle.checks.specs.Rows.{key-below, floor-after, entry-good, rows-good, first-entries, table-good}
+use Rattle.checks.specs.declared.rows.Whose.the-variants.{Bucket, Proxy, Anyone}
+use Rattle.checks.specs.Rows.{key-below, floor-after, ceiling-below, entry-fits, entry-good, rows-good, first-entries, table-good}
 
 -- key 0 stands nowhere: no brick has id 0
 pub zero-not-below : (limits : List ℕ) → getD limits 0 0 ≡ 0 → key-below limits 0 ≡ false
@@ -36,39 +38,131 @@ entry-at ws i =
     run-at (i * 2) 2 1 (drop 1 ws) (omega arith) ∙ getD-drop 1 ws (i * 2 + 1) 0 ∙ ap (λ (k : ℕ). getD ws k 0) (omega arith) in
     rw (one, two)
 
--- an entry that passes has a block in range
-pub entry-small : (c : Settings) (good : ℕ → Bool) (whose : Whose) (b k : ℕ) → entry-good c good whose (entry b k) ≡ true → b < blocks
-unfolding entry-good
-entry-small c good whose b k y = ltb-true b blocks (and-r _ _ (and-l _ _ y))
+-- ---- a block, and the one after it in its table
+module _ (b n : ℕ) where
+  below-ceiling : (whose : Whose) → floor-after whose b ≤ n → b < blocks → b < ceiling-below whose n
+  unfolding floor-after ceiling-below
+  below-ceiling (Bucket g) l h = omega arith
+  below-ceiling (Proxy p) l h = omega arith
+  below-ceiling Anyone l h = h
 
-module _ (c : Settings) (good : ℕ → Bool) (whose : Whose) (n : ℕ) (ws : List ℕ) where
-  -- what is left to test from row i on
-  unfoldable pub rows-left : ℕ → ℕ → Bool
-  rows-left floor i = rows-good c good whose floor (drop i (first-entries n ws))
+  above-floor : (whose : Whose) → b < ceiling-below whose n → floor-after whose b ≤ n
+  unfolding floor-after ceiling-below
+  above-floor (Bucket g) h = omega arith
+  above-floor (Proxy p) h = omega arith
+  above-floor Anyone h = omega arith
 
-  pub rows-begin : rows-good c good whose 0 (first-entries n ws) ≡ rows-left 0 0
-  unfolding rows-left
-  rows-begin = refl
+  ceiling-range : (whose : Whose) → b < blocks → ceiling-below whose b ≤ blocks
+  unfolding ceiling-below
+  ceiling-range (Bucket g) h = omega arith
+  ceiling-range (Proxy p) h = omega arith
+  ceiling-range Anyone h = omega arith
 
-  pub rows-end : (floor i : ℕ) → i ≤ n → n ≤ i → rows-left floor i ≡ true
-  unfolding rows-left rows-good
-  rows-end floor i l m = let e : i ≡ n = omega arith in rw (e, rows-past 2 (entry-row .read) n (drop 1 ws))
+module _ (c : Settings) (good : ℕ → Bool) (whose : Whose) (ws : List ℕ) where
+  -- row i
+  abbrev row-at : ℕ → Entry
+  row-at i = entry (getD ws (1 + 2 * i) 0) (getD ws (2 + 2 * i) 0)
 
-  module _ (floor i block key : ℕ) (h : i < n) (eb : block ≡ getD ws (1 + 2 * i) 0) (ek : key ≡ getD ws (2 + 2 * i) 0) where
-    turn : rows-left floor i ≡ (leb floor block and entry-good c good whose (entry block key) and rows-left (floor-after whose block) (i + 1))
+  -- the first i rows, from the last to the first
+  unfoldable pub rows-under : ℕ → ℕ → Bool
+  rows-under ceiling zero = true
+  rows-under ceiling (suc i) =
+      ltb (row-at i .block) ceiling and entry-fits c good whose (row-at i) and rows-under (ceiling-below whose (row-at i .block)) i
+
+  pub under-none : (ceiling : ℕ) → rows-under ceiling 0 ≡ true
+  unfolding rows-under
+  under-none ceiling = refl
+
+  module _ (ceiling i block key : ℕ) (eb : block ≡ getD ws (1 + 2 * i) 0) (ek : key ≡ getD ws (2 + 2 * i) 0) where
+    pub under-high : ceiling ≤ block → rows-under ceiling (suc i) ≡ false
+    unfolding rows-under
+    under-high l = no-first _ _ (no-first _ _ (rw (← eb) (le-ltb block ceiling l)))
+
+    pub under-bad : entry-fits c good whose (entry block key) ≡ false → rows-under ceiling (suc i) ≡ false
+    unfolding rows-under
+    under-bad n = no-first _ _ (no-second _ _ (rw (← eb, ← ek) n))
+
+    pub under-next : block < ceiling → entry-fits c good whose (entry block key) ≡ true → rows-under ceiling (suc i) ≡ rows-under (ceiling-below whose block) i
+    unfolding rows-under
+    under-next l y = rw (← eb, ← ek) (yes-first _ _ (both _ _ (lt-ltb block ceiling l) y))
+
+  -- the least block that row i may have
+  abbrev floor-at : ℕ → ℕ
+  floor-at zero = 0
+  floor-at (suc i) = floor-after whose (row-at i .block)
+
+  abbrev Each : ℕ → Type 0
+  Each i = (floor-at i ≤ row-at i .block) × (entry-good c good whose (row-at i) ≡ true)
+
+  in-range : (i : ℕ) → Each i → row-at i .block < blocks
+  unfolding entry-good
+  in-range i e = ltb-true _ _ (and-r _ _ (and-l _ _ (e .1)))
+
+  fits : (i : ℕ) → Each i → entry-fits c good whose (row-at i) ≡ true
+  unfolding entry-good entry-fits
+  fits i e = both _ _ (and-l _ _ (and-l _ _ (e .1))) (and-r _ _ (e .1))
+
+  good-if : (i : ℕ) → row-at i .block < blocks → entry-fits c good whose (row-at i) ≡ true → entry-good c good whose (row-at i) ≡ true
+  unfolding entry-good entry-fits
+  good-if i l y = both _ _ (both _ _ (and-l _ _ y) (lt-ltb _ _ l)) (and-r _ _ y)
+
+  under-of : (i ceiling : ℕ) → ((j : ℕ) → j < i → Each j) → ((j : ℕ) → suc j ≡ i → row-at j .block < ceiling) → rows-under ceiling i ≡ true
+  unfolding rows-under
+  under-of zero ceiling e h = refl
+  under-of (suc i) ceiling e h =
+      both _ _ (both _ _ (lt-ltb _ _ (h i refl)) (fits i (e i (omega arith))))
+      (under-of i (ceiling-below whose (row-at i .block)) (λ j l. e j (omega arith))
+      (λ j q. below-ceiling (row-at j .block) (row-at i .block) whose (subst (λ (k : ℕ). floor-at k ≤ row-at i .block) (sym q) (e i (omega arith) .0))
+      (in-range j (e j (omega arith)))))
+
+  floor-of : (i n : ℕ) → rows-under (ceiling-below whose n) i ≡ true → floor-at i ≤ n
+  unfolding rows-under
+  floor-of zero n y = omega arith
+  floor-of (suc i) n y = above-floor _ n whose (ltb-true _ _ (and-l _ _ (and-l _ _ y)))
+
+  of-under : (i ceiling : ℕ) → ceiling ≤ blocks → rows-under ceiling i ≡ true → (j : ℕ) → j < i → Each j
+  unfolding rows-under
+  of-under zero ceiling h y j l = absurd (omega arith)
+  of-under (suc i) ceiling h y j l =
+      let low : row-at i .block < ceiling = ltb-true _ _ (and-l _ _ (and-l _ _ y)) in
+      let range : row-at i .block < blocks = omega arith in
+      by-eq j i (λ _ e. rw e (floor-of i _ (and-r _ _ y), good-if i range (and-r _ _ (and-l _ _ y))))
+      (λ _ e. of-under i _ (ceiling-range _ 0 whose range) (and-r _ _ y) j (omega arith))
+
+  module _ (n : ℕ) where
+    -- what is left to test from row i on, from the first to the last
+    unfoldable rows-left : ℕ → ℕ → Bool
+    rows-left floor i = rows-good c good whose floor (drop i (first-entries n ws))
+
+    turn : (floor i : ℕ) → i < n
+        → rows-left floor i ≡ (leb floor (row-at i .block) and entry-good c good whose (row-at i) and rows-left (floor-after whose (row-at i .block)) (i + 1))
     unfolding rows-left rows-good
-    turn =
+    turn floor i h =
         ap (rows-good c good whose floor) (rows-from 2 (entry-row .read) n i (drop 1 ws) h)
-        ∙ ap (λ (e : Entry). rows-good c good whose floor (e ∷ drop (i + 1) (first-entries n ws))) (entry-at ws i) ∙ rw (eb, ek)
+        ∙ ap (λ (e : Entry). rows-good c good whose floor (e ∷ drop (i + 1) (first-entries n ws))) (entry-at ws i)
 
-    pub rows-low : block < floor → rows-left floor i ≡ false
-    rows-low l = turn ∙ no-first _ _ (no-first _ _ (lt-leb floor block l))
+    forth : rows-good c good whose 0 (first-entries n ws) ≡ true → (i : ℕ) → i ≤ n → rows-left (floor-at i) i ≡ true
+    unfolding rows-left
+    forth y zero h = y
+    forth y (suc i) h = rw (add-one i) at (and-r _ _ (sym (turn (floor-at i) i (omega arith)) ∙ forth y i (omega arith)))
 
-    pub rows-bad : entry-good c good whose (entry block key) ≡ false → rows-left floor i ≡ false
-    rows-bad e = turn ∙ no-first _ _ (no-second _ _ e)
+    each-of : rows-good c good whose 0 (first-entries n ws) ≡ true → (i : ℕ) → i < n → Each i
+    each-of y i h =
+        let z = and-l _ _ (sym (turn (floor-at i) i h) ∙ forth y i (omega arith)) in
+        (leb-true _ _ (and-l _ _ z), and-r _ _ z)
 
-    pub rows-next : floor ≤ block → entry-good c good whose (entry block key) ≡ true → rows-left floor i ≡ rows-left (floor-after whose block) (i + 1)
-    rows-next l e = turn ∙ yes-first _ _ (both _ _ (le-leb floor block l) e)
+    back : ((j : ℕ) → j < n → Each j) → (d i : ℕ) → i + d ≡ n → rows-left (floor-at i) i ≡ true
+    unfolding rows-left rows-good
+    back e zero i q = let z : i ≡ n = omega arith in rw (z, rows-past 2 (entry-row .read) n (drop 1 ws))
+    back e (suc d) i q =
+        let h : i < n = omega arith in
+        turn (floor-at i) i h ∙ both _ _ (both _ _ (le-leb _ _ (e i h .0)) (e i h .1)) (rw (add-one i) (back e d (suc i) (omega arith)))
+
+    pub rows-are : rows-under blocks n ≡ rows-good c good whose 0 (first-entries n ws)
+    unfolding rows-left
+    rows-are =
+        same-test _ _ (λ y. back (of-under n blocks (omega arith) y) n 0 (omega arith))
+        (λ y. under-of n blocks (each-of y) (λ j q. in-range j (each-of y j (omega arith))))
 
 -- ---- a whole table
 module _ (c : Settings) (good : ℕ → Bool) (whose : Whose) (most : ℕ) (ws : List ℕ) (n : ℕ) (e : n ≡ getD ws 0 0) where

@@ -34,6 +34,16 @@ floor-after (Bucket g) b = suc b
 floor-after (Proxy p) b = suc b
 floor-after Anyone b = 0
 
+-- the block before a block is below this
+unfoldable pub ceiling-below : Whose → ℕ → ℕ
+ceiling-below (Bucket g) b = b
+ceiling-below (Proxy p) b = b
+ceiling-below Anyone b = blocks
+
+-- an entry whose block is in range
+unfoldable pub entry-fits : Settings → (ℕ → Bool) → Whose → Entry → Bool
+entry-fits c good whose e = belongs c whose (e .block) and good (e .key)
+
 unfoldable pub entry-good : Settings → (ℕ → Bool) → Whose → Entry → Bool
 entry-good c good whose e = belongs c whose (e .block) and ltb (e .block) blocks and good (e .key)
 

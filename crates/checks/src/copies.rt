@@ -4,13 +4,44 @@ ghost use lib.ListN.{length};
 ghost use Rattle.lists.specs.Tests.{all-below};
 ghost use Rattle.words.specs.Words.{words};
 ghost use Rattle.rules.specs.Limits.{buckets};
-ghost use Rattle.layout.specs.Layout.{copies-codec};
+ghost use Rattle.layout.specs.Layout.{copy-codec, copies-codec};
 ghost use Rattle.checks.specs.Rows.{key-below};
-ghost use Rattle.checks.specs.Copies.{copies-good, copies-at-good, CopiesFit, AllCopiesFit};
+ghost use Rattle.checks.specs.Copies.{disk-good, copies-good, copies-at-good, DiskFit, CopiesFit, AllCopiesFit};
 use crate::rows;
 use crate::rows::Whose;
 use layout::sizes;
 use rules::settings::Settings;
+
+// The copy on disk, beside one in memory that passes. They nearly always have the same entries, and then the test of one is the test of both.
+fn disk_good(
+    settings: Settings,
+    limits: &[u64],
+    bucket: u64,
+    up: bool,
+    memory: &[u8],
+    disk: &[u8],
+) -> bool
+    requires { ⌜ DiskFit settings (now limits) bucket (now memory) (length (now disk)) ⌝ }
+    ensures { λ r. ⌜ r ≡ disk-good settings (key-below (now (limits .entry))) bucket up (copy-codec settings .dec (words (now (memory .entry))))
+        (copy-codec settings .dec (words (now (disk .entry)))) ⌝ }
+{
+    if (settings.entries as u64) < words::read(disk, 0) {
+        return false;
+    }
+    if entries::same(memory, disk, settings.entries) {
+        return true;
+    }
+    if !up {
+        return false;
+    }
+    rows::table_good(
+        settings,
+        limits,
+        Whose::Bucket(bucket),
+        disk,
+        settings.entries,
+    )
+}
 
 // The copies of one bucket, in memory and on disk.
 fn copies_good(settings: Settings, limits: &[u64], bucket: u64, up: bool, copies: &[u8]) -> bool
@@ -29,19 +60,7 @@ fn copies_good(settings: Settings, limits: &[u64], bucket: u64, up: bool, copies
         return false;
     }
     let disk = &copies[half..half + half];
-    if !rows::table_good(
-        settings,
-        limits,
-        Whose::Bucket(bucket),
-        disk,
-        settings.entries,
-    ) {
-        return false;
-    }
-    if up {
-        return true;
-    }
-    entries::same(memory, disk, settings.entries)
+    disk_good(settings, limits, bucket, up, memory, disk)
 }
 
 // The copies of all buckets.

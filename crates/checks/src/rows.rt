@@ -1,12 +1,10 @@
 // Keys, entries, and tables of entries: bucket copies, items, append buffers.
 ghost use mathlib.Core.Path.{_≡_};
-ghost use Prim.Native.Nat.{_<_};
 ghost use lib.ListN.{length};
 ghost use Rattle.words.specs.Words.{words};
-ghost use Rattle.rules.specs.Numbers.{blocks};
 ghost use Rattle.rules.specs.Entries.{entry};
 ghost use Rattle.layout.specs.Layout.{entries-codec};
-ghost use Rattle.checks.specs.Rows.{ids, key-below, belongs, floor-after, entry-good, rows-good, first-entries, table-good, RowsFit, TableFit};
+ghost use Rattle.checks.specs.Rows.{ids, key-below, belongs, ceiling-below, entry-fits, rows-good, first-entries, table-good, RowsFit, TableFit};
 use rules::constants;
 use rules::numbers::BlockNumber;
 use rules::numbers::ChunkKey;
@@ -37,49 +35,46 @@ fn belongs(settings: Settings, whose: Whose, block: u64) -> bool
     }
 }
 
-// The next block of an ascending table is above this one.
-fn floor_after(whose: Whose, block: u64) -> u64
-    requires { ⌜ block < blocks ⌝ }
-    ensures { λ r. ⌜ r ≡ floor-after whose block ⌝ }
+// The block before this one is below it in an ascending table, and below the number of blocks in any.
+fn ceiling_below(whose: Whose, block: u64) -> u64
+    ensures { λ r. ⌜ r ≡ ceiling-below whose block ⌝ }
 {
     match whose {
-        Whose::Bucket(_) => block + 1,
-        Whose::Proxy(_) => block + 1,
-        Whose::Anyone => 0,
+        Whose::Bucket(_) => block,
+        Whose::Proxy(_) => block,
+        Whose::Anyone => constants::BLOCKS,
     }
 }
 
-fn entry_good(settings: Settings, limits: &[u64], whose: Whose, block: u64, key: u64) -> bool
+// An entry whose block is in range.
+fn entry_fits(settings: Settings, limits: &[u64], whose: Whose, block: u64, key: u64) -> bool
     requires { ⌜ length (now limits) ≡ ids ⌝ }
-    ensures { λ r. ⌜ r ≡ entry-good settings (key-below (now (limits .entry))) whose (entry block key) ⌝ }
+    ensures { λ r. ⌜ r ≡ entry-fits settings (key-below (now (limits .entry))) whose (entry block key) ⌝ }
 {
     if !belongs(settings, whose, block) {
-        return false;
-    }
-    if constants::BLOCKS <= block {
         return false;
     }
     key_below(limits, key)
 }
 
-// The first n rows of a table.
+// The first n rows of a table, from the last to the first: one comparison tells that a block is in range and below the next.
 fn rows_good(settings: Settings, limits: &[u64], whose: Whose, table: &[u8], n: usize) -> bool
     requires { ⌜ RowsFit (length (now limits)) (length (now table)) n ⌝ }
     ensures { λ r. ⌜ r ≡ rows-good settings (key-below (now (limits .entry))) whose 0 (first-entries n (words (now (table .entry)))) ⌝ }
 {
-    let mut floor = 0;
-    let mut i = 0;
-    while i < n {
+    let mut ceiling = constants::BLOCKS;
+    let mut i = n;
+    while 0 < i {
+        i -= 1;
         let block = words::read(table, 1 + 2 * i);
-        if block < floor {
+        if ceiling <= block {
             return false;
         }
         let key = words::read(table, 2 + 2 * i);
-        if !entry_good(settings, limits, whose, block, key) {
+        if !entry_fits(settings, limits, whose, block, key) {
             return false;
         }
-        floor = floor_after(whose, block);
-        i += 1;
+        ceiling = ceiling_below(whose, block);
     }
     true
 }

@@ -37,6 +37,11 @@ module _ {A : Type 0} (c : Codec A) (law : Lawful c) (n : ℕ) (f : ℕ → A) (
     front : length (enc-many c i f (take (i * c .size) w)) ≡ i * c .size
     front = many-keeps c law i f (take (i * c .size) w) (length-take-le (i * c .size) w (omega (arith, inside)))
 
+    -- value i is still as it was
+    pub loop-next : part (c .size) i (written c i f w) ≡ part (c .size) i w
+    unfolding written
+    loop-next = ap (take (c .size)) (drop-at (enc-many c i f (take (i * c .size) w)) (drop (i * c .size) w) (i * c .size) front)
+
     pub loop-turn : (g : List ℕ → List ℕ) (v : List ℕ) → v ≡ written c i f w → g (part (c .size) i w) ≡ c .enc (f i) (part (c .size) i w)
         → on-run (i * c .size) (c .size) g v ≡ written c (suc i) f w
     unfolding written

@@ -33,7 +33,7 @@ use Rattle.named.proofs.Logs.{log-from, log-inside, log-bytes, log-run, log-len
 use Rattle.collect.specs.Marked.{marks, named-first, LogIn, TableIn, TablesIn, sweeps}
 use Rattle.collect.specs.Collect.{Collects}
 use Rattle.collect.proofs.SameCopies.{Tables, calm-names}
-use Rattle.collect.proofs.Marking.{keeps, some-same}
+use Rattle.collect.proofs.Marking.{keeps, some-same, marks-log}
 
 -- tests that agree leave the same chunks
 only-same : (f g : ℕ → Bool) → ((k : ℕ) → f k ≡ g k) → (l : List Chunk) → only-named f l ≡ only-named g l
@@ -69,8 +69,16 @@ module _ (c : Settings) (bs : List ℕ) (v : StoreOf c bs) where
       apart = rw e (beside-log c g q from p l (a .lies z));
     }
 
-module _ (c : Settings) (bs : List ℕ) (p : ℕ) (h : Collects c bs p) (tables : List ℕ) (many : length tables ≡ buckets c)
-    (a : AllNamed c (words bs) (decode (words bs)) tables) where
+-- ---- what is known where the log begins at word `at`, and the named entries at those of the array
+pub record Lies (c : Settings) (bs : List ℕ) (p : ℕ) (tables : List ℕ) (at : ℕ) : Type 0 where
+  pub there : Collects c bs p
+  pub known : AllNamed c bs tables
+  pub begins : at ≡ log-from c p
+
+module _ (c : Settings) (bs : List ℕ) (p : ℕ) (tables : List ℕ) (at : ℕ) (o : Lies c bs p tables at) where
+  h : Collects c bs p
+  h = o .there
+
   each-calm : (g : ℕ) → g < buckets c → calm (decode (words bs) .bucket g) ≡ true
   each-calm = all-at (buckets c) _ (h .calm)
 
@@ -78,10 +86,13 @@ module _ (c : Settings) (bs : List ℕ) (p : ℕ) (h : Collects c bs p) (tables 
   unfolding named-first is-named
   all-names k =
       rw (settings-are c bs (h .store))
-      (some-same (buckets c) _ _ (λ g q. calm-name c bs (h .store) g (getD tables g 0) q (a g q) k (each-calm g q)))
+      (some-same (buckets c) _ _ (λ g q. calm-name c bs (h .store) g (getD tables g 0) q (o .known .lie g q) k (each-calm g q)))
 
-  pub tables-in : (at : ℕ) → at ≡ log-from c p → TablesIn c at tables (words bs) (length bs)
-  tables-in at e = record { many = many; each = λ g q z. table-in c bs (h .store) g (getD tables g 0) q (a g q) at p (h .inside) e z }
+  pub tables-in : TablesIn c at tables (words bs) (length bs)
+  tables-in = record {
+    many = o .known .many;
+    each = λ g q z. table-in c bs (h .store) g (getD tables g 0) q (o .known .lie g q) at p (h .inside) (o .begins) z;
+  }
 
   abbrev log : List ℕ
   log = run (log-from c p) (log-words c) (words bs)
@@ -89,13 +100,23 @@ module _ (c : Settings) (bs : List ℕ) (p : ℕ) (h : Collects c bs p) (tables 
   is-a-log : IsLog (c .chunks) (c .size / word-bytes) (words (log-bytes c p bs)) (length (log-bytes c p bs))
   is-a-log = log-lies c bs (h .store) p (h .inside) (h .some) .log
 
-  pub log-in : (at : ℕ) → at ≡ log-from c p → LogIn c at (words bs) (length bs)
-  log-in at e = rw e (record {
+  log-here : LogIn c (log-from c p) (words bs) (length bs)
+  log-here = record {
     small = h .store .limits;
     inside = omega (arith, log-inside c p (h .inside), h .store .size);
     log = looser (omega arith)
         (rw (log-run c bs (h .store) p (h .inside), log-length c bs (h .store) p (h .inside)) at is-a-log);
-  })
+  }
+
+  pub log-in : LogIn c at (words bs) (length bs)
+  log-in = rw (o .begins) log-here
+
+  fits : log-from c p + log-words c ≤ length (words bs)
+  fits = room bs (log-from c p + log-words c) (log-here .inside)
+
+  -- marks leave the log one
+  pub log-still : (vs : List ℕ) (len : ℕ) (f : ℕ → Bool) → vs ≡ marks c at f (words bs) → len ≡ length bs → LogIn c at vs len
+  log-still vs len f e n = rw (e, n) (marks-log c at (words bs) (length bs) (room bs (at + log-words c) (log-in .inside)) log-in f)
 
   module _ (b : Below 256 bs) where
     left : (f : ℕ → Bool) → swept (c .chunks) (c .size / word-bytes) (marked (c .chunks) (c .size / word-bytes) (λ x. f (x .key)) log)
@@ -107,18 +128,17 @@ module _ (c : Settings) (bs : List ℕ) (p : ℕ) (h : Collects c bs p) (tables 
         ∙ ap (λ (l : List Chunk). log-codec c .enc (only-named f l) (words (log-bytes c p bs)))
         (log-lies c bs (h .store) p (h .inside) (h .some) .same))
 
-    pub collected : (vs us : List ℕ) (at : ℕ) → at ≡ log-from c p
-        → vs ≡ marks c at (named-first (words bs) tables (buckets c)) (words bs) → us ≡ sweeps c at vs
+    pub collected : (vs us : List ℕ) → vs ≡ marks c at (named-first (words bs) tables (buckets c)) (words bs) → us ≡ sweeps c at vs
         → us ≡ render (collect-effect (decode (words bs)) (decode (words bs) .ids p)) (words bs)
     unfolding marks sweeps collect-effect
-    collected vs us at e ev eu =
+    collected vs us ev eu =
         let f : ℕ → Bool = named-first (words bs) tables (buckets c) in
         let n : ℕ = log-words c in
-        let fits : log-from c p + log-words c ≤ length (words bs) = room bs (log-from c p + log-words c) (log-in (log-from c p) refl .inside) in
         let mark : List ℕ → List ℕ = marked (c .chunks) (c .size / word-bytes) (λ x. f (x .key)) in
         let old : List Chunk = decode (words bs) .bricks .log (decode (words bs) .ids p) in
         eu ∙ ap (on-run at n (swept (c .chunks) (c .size / word-bytes))) ev
-        ∙ rw e (sym (on-twice (log-from c p) n mark (swept (c .chunks) (c .size / word-bytes)) (words bs) fits (keeps c (log-from c p) (words bs) (length bs) fits (log-in (log-from c p) refl) f))
+        ∙ rw (o .begins) (sym (on-twice (log-from c p) n mark (swept (c .chunks) (c .size / word-bytes)) (words bs) fits
+        (keeps c (log-from c p) (words bs) (length bs) fits log-here f))
         ∙ on-by (log-from c p) n _ (log-codec c .enc (only-named f old)) (words bs) (left f)
         ∙ ap (λ (l : List Chunk). on-run (log-from c p) n (log-codec c .enc l) (words bs)) (only-same f (is-named (decode (words bs))) all-names old)
         ∙ sym (log-changed c bs (h .store) p (h .inside) (h .some) (only-named (is-named (decode (words bs))) old)))

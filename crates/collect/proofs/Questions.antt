@@ -1,5 +1,5 @@
 -- The questions of collect, as the code answers them.
-use mathlib.Core.Path.{_≡_, refl, ap, _∙_}
+use mathlib.Core.Path.{_≡_, refl, sym, ap, _∙_}
 use mathlib.Core.Bool.{Bool}
 use mathlib.Core.List.{List, [], _∷_}
 use Prim.Native.Nat.{ℕ, _+_, _*_, _<_}
@@ -12,10 +12,10 @@ use Rattle.lists.specs.Runs.{run}
 use Rattle.lists.proofs.Runs.{run-at}
 use Rattle.words.specs.Words.{words}
 use Rattle.rules.specs.declared.settings.Settings.{Settings}
-use Rattle.rules.specs.Limits.{buckets, proxies, max-items}
+use Rattle.rules.specs.Limits.{proxies, max-items}
 use Rattle.rules.specs.Entries.{Entry}
 use Rattle.rules.specs.Sound.{same-entries}
-use Rattle.layout.specs.Layout.{items-codec, settings-of, proxy-at}
+use Rattle.layout.specs.Layout.{items-codec, settings-of, proxies-at, proxy-at}
 use Rattle.layout.specs.Store.{decode}
 use Rattle.layout.proofs.Sound.{SoundWords}
 use Rattle.layout.proofs.Foci.{items-focus}
@@ -47,6 +47,8 @@ items-words ws sd p l =
     ∙ count-is max-items (run at (items-codec .size) ws) ∙ run-at at (items-codec .size) 0 ws (omega arith)
     ∙ ap (λ (k : ℕ). getD ws k 0) (add-zero at)
 
-pub items-count : (c : Settings) (bs : List ℕ) → StoreOf c bs → (p : ℕ) → p < proxies → length (decode (words bs) .items p) ≡ getD (words bs) (135 + p * 66 + 1) 0
-unfolding buckets
-items-count c bs v p l = items-words (words bs) (v .sound) p l
+pub items-count : (c : Settings) (bs : List ℕ) → StoreOf c bs → (p : ℕ) → p < proxies → (at : ℕ) → at ≡ proxies-at c + 1
+    → length (decode (words bs) .items p) ≡ getD (words bs) (at + p * 66) 0
+items-count c bs v p l at e =
+    let same : proxy-at (settings-of (words bs)) p + 1 ≡ at + p * 66 = rw (sym (v .same), e) (omega arith) in
+    items-words (words bs) (v .sound) p l ∙ ap (λ (k : ℕ). getD (words bs) k 0) same

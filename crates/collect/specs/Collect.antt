@@ -1,13 +1,17 @@
--- What the effect of collect asks for: a place that holds a brick, in a store whose buckets are all calm.
+-- collect: its last questions, and what its effect asks for: a place that holds a brick, in a store whose buckets are all calm.
 use mathlib.Core.Path.{_≡_}
 use mathlib.Core.Bool.{true}
-use mathlib.Core.List.{List}
+use mathlib.Core.List.{List, [], _∷_}
 use Prim.Native.Nat.{ℕ, _<_}
-use Rattle.lists.specs.Tests.{all-below}
+use lib.Dec.{eqb}
+use lib.ListN.{length}
+use Rattle.lists.specs.Tests.{_or_, all-below}
 use Rattle.words.specs.Words.{words}
 use Rattle.rules.specs.declared.settings.Settings.{Settings}
-use Rattle.rules.specs.Limits.{buckets}
-use Rattle.rules.specs.Parts.{calm}
+use Rattle.rules.specs.Limits.{buckets, proxies}
+use Rattle.rules.specs.State.{State}
+use Rattle.rules.specs.Parts.{is-empty, up-member, calm}
+use Rattle.rules.specs.Question.{Question, _asks_}
 use Rattle.layout.specs.Store.{decode}
 use Rattle.lent.specs.Stores.{StoreOf}
 
@@ -16,3 +20,11 @@ pub record Collects (c : Settings) (bs : List ℕ) (place : ℕ) : Type 0 where
   pub inside : place < c .places
   pub some : 0 < decode (words bs) .ids place
   pub calm : all-below (buckets c) (λ g. calm (decode (words bs) .bucket g)) ≡ true
+
+-- question 13: no place down, all up bricks members; all ready, nothing pending; no items
+abbrev pub idle-asks : State → List Question
+idle-asks s =
+    (13 asks all-below (s .settings .places) (λ p. is-empty s p or up-member s (s .ids p)))
+    ∷ (13 asks all-below (buckets (s .settings)) (λ g. calm (s .bucket g)))
+    ∷ (13 asks all-below proxies (λ p. eqb (length (s .items p)) 0))
+    ∷ []

@@ -8,11 +8,12 @@ ghost use Rattle.words.specs.Words.{words};
 ghost use Rattle.rules.specs.Limits.{buckets, proxies};
 ghost use Rattle.rules.specs.Event.{Event};
 ghost use Rattle.rules.specs.Parts.{is-empty, up-member, calm};
-ghost use Rattle.rules.specs.Upkeep.{collect-effect};
+ghost use Rattle.rules.specs.Question.{first-no};
+ghost use Rattle.rules.specs.Upkeep.{collect-asks, collect-effect};
 ghost use Rattle.layout.specs.Store.{decode, render};
-ghost use Rattle.lent.specs.Performs.{SoundStore, Performs};
+ghost use Rattle.lent.specs.Performs.{Performs};
 ghost use Rattle.lent.specs.Stores.{StoreOf};
-ghost use Rattle.collect.specs.Collect.{Collects};
+ghost use Rattle.collect.specs.Collect.{Collects, idle-asks};
 use layout::sizes;
 use lent::Answer;
 use lent::place;
@@ -21,8 +22,6 @@ use rules::settings::Settings;
 
 pub mod calm;
 pub mod marks;
-
-const BUCKETS: usize = sizes::BUCKETS;
 
 // ---- question 13
 
@@ -57,8 +56,9 @@ fn all_calm(store: &[u8], settings: Settings) -> bool
     requires { ⌜ StoreOf settings (now store) ⌝ }
     ensures { λ r. ⌜ r ≡ all-below (buckets settings) (λ g. calm (decode (words (now (store .entry))) .bucket g)) ⌝ }
 {
+    let count = sizes::buckets(settings);
     let mut bucket = 0;
-    while bucket < BUCKETS {
+    while bucket < count {
         if !calm::calm(store, settings, bucket) {
             return false;
         }
@@ -72,14 +72,10 @@ fn no_items(store: &[u8], settings: Settings) -> bool
     requires { ⌜ StoreOf settings (now store) ⌝ }
     ensures { λ r. ⌜ r ≡ all-below proxies (λ p. eqb (length (decode (words (now (store .entry))) .items p)) 0) ⌝ }
 {
+    let at = sizes::proxies_at(settings) + sizes::ITEMS_AT;
     let mut proxy = 0;
     while proxy < constants::PROXIES {
-        if words::read(
-            store,
-            sizes::PROXIES_AT + proxy * sizes::PROXY_WORDS + sizes::ITEMS_AT,
-        )
-            != 0
-        {
+        if words::read(store, at + proxy * sizes::PROXY_WORDS) != 0 {
             return false;
         }
         proxy += 1;
@@ -87,42 +83,67 @@ fn no_items(store: &[u8], settings: Settings) -> bool
     true
 }
 
+// All of them: 13 where one is answered no, else 0.
+fn idle_asks(store: &[u8], settings: Settings) -> u64
+    requires { ⌜ StoreOf settings (now store) ⌝ }
+    ensures { λ r. ⌜ r ≡ first-no (idle-asks (decode (words (now (store .entry))))) ⌝ }
+{
+    if !all_up(store, settings) {
+        return 13;
+    }
+    if !all_calm(store, settings) {
+        return 13;
+    }
+    if no_items(store, settings) {
+        return 0;
+    }
+    13
+}
+
+// The number of the first question that is answered no, or 0.
+fn asks(store: &[u8], settings: Settings, place: u64) -> u64
+    requires { ⌜ StoreOf settings (now store) ⌝ }
+    ensures { λ r. ⌜ r ≡ first-no (collect-asks (decode (words (now (store .entry)))) place) ⌝ }
+{
+    let no = place::asks(store, settings, place);
+    if no != 0 {
+        return no;
+    }
+    idle_asks(store, settings)
+}
+
 // ---- the effect
 
-// All buckets are calm, so the four copies of each pair name what the primary's memory names.
+// All buckets are calm, so the four copies of each pair name what the primary's memory names. There is room for where they lie.
+fn collect_in(store: &mut [u8], settings: Settings, place: usize, tables: &mut [usize])
+    requires { ⌜ Collects settings (now store) place × (length (now tables) ≡ buckets settings) ⌝ }
+    ensures { λ _. ⌜ words (now (store .exit))
+        ≡ render (collect-effect (decode (words (now (store .entry)))) (decode (words (now (store .entry))) .ids place)) (words (now (store .entry))) ⌝ }
+{
+    named::all_named(store, settings, tables);
+    let at = sizes::place_at(settings, place) + sizes::log_at(settings);
+    marks::mark_tables(store, settings, at, tables);
+    marks::sweep_log(store, settings, at);
+}
+
 fn collect_log(store: &mut [u8], settings: Settings, place: usize)
     requires { ⌜ Collects settings (now store) place ⌝ }
     ensures { λ _. ⌜ words (now (store .exit))
         ≡ render (collect-effect (decode (words (now (store .entry)))) (decode (words (now (store .entry))) .ids place)) (words (now (store .entry))) ⌝ }
 {
-    let mut tables = [0usize; BUCKETS];
-    named::all_named(store, settings, &mut tables);
-    let at = sizes::place_at(settings, place) + sizes::log_at(settings);
-    marks::mark_tables(store, settings, at, &tables);
-    marks::sweep_log(store, settings, at);
+    let count = sizes::buckets(settings);
+    let mut tables = [0usize; named::MAX_BUCKETS];
+    collect_in(store, settings, place, &mut tables[0..count]);
 }
 
-pub fn collect(store: &mut [u8], place: u64) -> Answer
-    requires { ⌜ SoundStore (now store) ⌝ }
+pub fn collect(store: &mut [u8], settings: Settings, place: u64) -> Answer
+    requires { ⌜ StoreOf settings (now store) ⌝ }
     ensures { λ r. ⌜ Performs (Event.collect place) (words (now (store .entry))) r (words (now (store .exit))) ⌝ }
 {
-    let settings = lent::store::settings(store);
-    if settings.places as u64 <= place {
-        return Answer::No(3);
+    let no = asks(store, settings, place);
+    if no != 0 {
+        return Answer::No(no);
     }
-    let p = place as usize;
-    if !place::up_member(store, settings, p) {
-        return Answer::No(6);
-    }
-    if !all_up(store, settings) {
-        return Answer::No(13);
-    }
-    if !all_calm(store, settings) {
-        return Answer::No(13);
-    }
-    if !no_items(store, settings) {
-        return Answer::No(13);
-    }
-    collect_log(store, settings, p);
+    collect_log(store, settings, place as usize);
     Answer::Yes(0)
 }

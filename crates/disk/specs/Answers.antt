@@ -1,14 +1,21 @@
 -- The number and the values of each answer, as the calls for C give them: a no answers with its number and nothing else.
+use mathlib.Core.List.{List}
 use Prim.Native.Nat.{ℕ}
+use Rattle.calls.specs.Outcome.{Outcome}
 use Rattle.parse.specs.declared.Parsed.{Parsed}
 use Rattle.parse.specs.declared.Parsed.the-variants.{Is, Refused}
 use Rattle.parse.specs.declared.SettingsLine.{SettingsLine}
 use Rattle.parse.specs.declared.SettingsLine.the-variants.{Are, Refused as Malformed}
 use Rattle.print.specs.declared.Printed.{Printed}
 use Rattle.print.specs.declared.Printed.the-variants.{Length, Refused as Unprinted}
+use Rattle.disk.specs.declared.StepAnswer.{StepAnswer}
 use Rattle.disk.specs.declared.EventAnswer.{EventAnswer}
 use Rattle.disk.specs.declared.LineAnswer.{LineAnswer}
 use Rattle.disk.specs.declared.SettingsAnswer.{SettingsAnswer}
+
+-- a step's number and key, beside each byte of the answer area and of the store
+abbrev pub step-outcome : StepAnswer → List ℕ → List ℕ → Outcome
+step-outcome r area store = record { code = r .code; key = r .key; area = area; store = store }
 
 -- question 3: text well formed, data of S bytes?
 abbrev pub malformed : ℕ

@@ -4,12 +4,23 @@ ghost use lib.ListN.{length};
 ghost use Rattle.text.specs.Lines.{read-settings};
 ghost use Rattle.area.specs.Area.{onto};
 ghost use Rattle.parse.specs.Answers.{parsed, answer-to, bytes-read, settings-answer};
-ghost use Rattle.print.specs.Answers.{parts-from, printed, line-after};
+ghost use Rattle.rules.specs.Event.{parts-from};
+ghost use Rattle.print.specs.Answers.{printed, line-after};
 ghost use Rattle.store.specs.Calls.{settings, length-answer, Formatted, check-answer};
-ghost use Rattle.disk.specs.Answers.{event-answer, line-answer, four-answer};
+ghost use Rattle.calls.specs.Outcome.{call-with, outcome};
+ghost use Rattle.alike.specs.Alike.{alike-answer, alike-number};
+ghost use Rattle.disk.specs.Answers.{step-outcome, event-answer, line-answer, four-answer};
+use alike::Compared;
+use lent::Answer;
 use parse::Parsed;
 use parse::SettingsLine;
 use print::Printed;
+
+#[repr(C)]
+pub struct StepAnswer {
+    pub code: u64,
+    pub key: u64,
+}
 
 #[repr(C)]
 pub struct EventAnswer {
@@ -63,6 +74,41 @@ pub extern "C" fn disk_check(store: &[u8]) -> u64
     ensures { λ r. ⌜ r ≡ check-answer (now (store .entry)) ⌝ }
 {
     store::check(store)
+}
+
+// An event of any kind on a lent store.
+#[no_mangle]
+pub extern "C" fn disk_step(
+    store: &mut [u8],
+    kind: u64,
+    a: u64,
+    b: u64,
+    c: u64,
+    data: &[u8],
+    blank: &[u8],
+    area: &mut [u8],
+) -> StepAnswer
+    ensures { λ r. ⌜ step-outcome r (now (area .exit)) (now (store .exit))
+        ≡ outcome (now (store .entry)) (call-with kind a b c (now («data» .entry)) (now (blank .entry)) (now (area .entry))) ⌝ }
+{
+    let answer = step::step(store, kind, a, b, c, data, blank, area);
+    match answer {
+        Answer::Yes(key) => StepAnswer { code: 0, key },
+        Answer::No(code) => StepAnswer { code, key: 0 },
+    }
+}
+
+// Are two lent stores alike?
+#[no_mangle]
+pub extern "C" fn disk_alike(store: &[u8], other: &[u8]) -> u64
+    ensures { λ r. ⌜ r ≡ alike-number (alike-answer (now (store .entry)) (now (other .entry))) ⌝ }
+{
+    let answer = alike::alike(store, other);
+    match answer {
+        Compared::Alike => 0,
+        Compared::Different => 1,
+        Compared::Unsound => 2,
+    }
 }
 
 // The event of a line of text.

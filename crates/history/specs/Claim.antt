@@ -89,7 +89,7 @@ meaning Event.unknown = nothing
 abbrev pub hears : History → Meaning → Answer → History
 hears h (writes b d) a = record { writes = upd (h .writes) b (record { key = a .key; bytes = d } ∷ h .writes b); mark = h .mark }
 hears h (confirms b) a = record { writes = h .writes; mark = upd (h .mark) b (length (h .writes b)) }
-hears h (shows b) a = record { writes = h .writes; mark = upd (h .mark) b (number (h .writes b) (a .key)) }
+hears h (shows b) a = record { writes = h .writes; mark = upd (h .mark) b (cond (eqb (a .key) 0) 0 (number (h .writes b) (a .key))) }
 hears h views a = h
 hears h (readies g) a = h
 hears h nothing a = h

@@ -7,7 +7,7 @@ use native.Mathlib.Numerals.{add-one}
 use native.Mathlib.Omega.{arith}
 use lib.Dec.{leb, ltb, eqb}
 use borrow.Author.Tests.{eq-eqb, ne-eqb, le-leb, lt-leb}
-use Rattle.lists.specs.Tests.{_and_, _or_, only}
+use Rattle.lists.specs.Tests.{_and_, _or_, only, within}
 use Rattle.lists.proofs.Tests.{by, by-eq, by-lt, or-l, no-first}
 use Rattle.words.specs.Words.{words}
 use Rattle.rules.specs.declared.settings.Settings.{Settings}
@@ -22,7 +22,7 @@ use Rattle.lent.specs.declared.brick.Found.the-variants.{At, Nowhere}
 use Rattle.lent.specs.Stores.{StoreOf}
 use Rattle.lent.specs.Places.{Stands}
 use Rattle.lent.proofs.Stores.{facts}
-use Rattle.holders.specs.Members.{ids, within, between, NextAt, NextIn, Chosen, round, begins-with}
+use Rattle.holders.specs.Members.{ids, between, NextAt, NextIn, Chosen, round, begins-with}
 use Rattle.holders.proofs.Members.{circle-is}
 
 -- ---- the head of a list, and the first two: code has read the head as `first`

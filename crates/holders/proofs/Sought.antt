@@ -5,7 +5,7 @@ use mathlib.Core.Bool.{true, false}
 use Prim.Native.Nat.{ℕ, suc, _+_, _≤_, _<_}
 use native.Mathlib.Numerals.{add-one}
 use native.Mathlib.Omega.{arith}
-use Rattle.lists.specs.Tests.{_and_}
+use Rattle.lists.specs.Tests.{_and_, within}
 use Rattle.lists.proofs.Tests.{by, either, clash, both, no-second, only-in}
 use Rattle.words.specs.Words.{words}
 use Rattle.rules.specs.declared.settings.Settings.{Settings}
@@ -18,8 +18,9 @@ use Rattle.layout.specs.Store.{decode}
 use Rattle.lent.specs.Stores.{StoreOf}
 use Rattle.lent.specs.Places.{Stands}
 use Rattle.lent.proofs.Stores.{facts}
-use Rattle.holders.specs.Members.{ids, within, between, NextAt}
-use Rattle.holders.proofs.Members.{none-between, circle-is}
+use Rattle.holders.specs.Members.{ids, between, NextAt}
+use Rattle.rules.proofs.Ids.{none-between}
+use Rattle.holders.proofs.Members.{circle-is}
 
 -- ---- along a list of bricks
 module _ (b : Bricks) (k : ℕ) where

@@ -3,8 +3,8 @@ use mathlib.Core.Path.{_≡_}
 use mathlib.Core.List.{List, [], _∷_, _++_}
 use mathlib.Core.Bool.{Bool, true, false}
 use Prim.Native.Nat.{ℕ, suc, _≤_, _<_}
-use lib.Dec.{leb, ltb, eqb}
-use Rattle.lists.specs.Tests.{_and_, only}
+use lib.Dec.{eqb}
+use Rattle.lists.specs.Tests.{_and_, only, within}
 use Rattle.rules.specs.declared.settings.Settings.{Settings}
 use Rattle.rules.specs.Limits.{max-id}
 use Rattle.rules.specs.Chunks.{saved-in}
@@ -17,9 +17,6 @@ use Rattle.lent.specs.Places.{Stands}
 -- ids are below this
 abbrev pub ids : ℕ
 ids = suc max-id
-
-abbrev pub within : ℕ → ℕ → ℕ → Bool
-within from to id = leb from id and ltb id to
 
 -- the members with ids from one number to below another, ascending
 abbrev pub between : State → ℕ → ℕ → List ℕ

@@ -5,7 +5,7 @@ ghost use lib.Dec.{ltb};
 ghost use lib.ListN.{length};
 ghost use Rattle.words.specs.Words.{words};
 ghost use Rattle.rules.specs.Numbers.{home-of};
-ghost use Rattle.rules.specs.Chunks.{held, saved-in};
+ghost use Rattle.rules.specs.Chunks.{held, saved-in, bytes-in};
 ghost use Rattle.rules.specs.Parts.{circle, seek, holder, saved-at};
 ghost use Rattle.rules.specs.Upkeep.{of-first-two};
 ghost use Rattle.rules.specs.Writes.{target};
@@ -80,6 +80,22 @@ pub fn saved_at(store: &[u8], settings: Settings, place: usize, key: ChunkKey) -
         settings.size / sizes::WORD_BYTES,
         key,
     )
+}
+
+// Its bytes in the log of the brick at the place: a part of the store, empty where there is no such chunk.
+pub fn chunk<'a>(store: &'a [u8], settings: Settings, place: usize, key: ChunkKey) -> &'a [u8]
+    requires { ⌜ StoreOf settings (now store) × (place < settings .places) × (0 < decode (words (now store)) .ids place) ⌝ }
+    ensures { λ r. ⌜ now r ≡ bytes-in (decode (words (now (store .entry))) .bricks .log (decode (words (now (store .entry))) .ids place)) (key .0) ⌝ }
+{
+    let log = place::log(store, settings, place);
+    match log::find(log, settings.chunks, settings.size / sizes::WORD_BYTES, key) {
+        log::Found::At(row) => {
+            return log::bytes_at(log, settings.chunks, settings.size / sizes::WORD_BYTES, row);
+        }
+        log::Found::Nothing => {
+            return &log[0..0];
+        }
+    }
 }
 
 // The place of the first member between two ids that holds the chunk.

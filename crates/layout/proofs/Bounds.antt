@@ -7,6 +7,11 @@ use Rattle.rules.specs.Limits.{buckets}
 use Rattle.rules.proofs.Limits.{Limits}
 use Rattle.layout.specs.Layout.{place-words, store-words}
 
+-- the number of buckets, in any settings
+pub few-buckets : (c : Settings) → buckets c ≤ 16
+unfolding buckets
+few-buckets c = omega arith
+
 module _ (c : Settings) (l : Limits c) where
   -- the words of a log's cells
   pub cells-small : c .chunks * (c .size / 8) ≤ 2 ^ 26

@@ -10,6 +10,7 @@ use Rattle.rules.specs.declared.settings.Settings.{Settings}
 use Rattle.rules.specs.State.{State}
 use Rattle.codec.specs.Codec.{Codec, Clean, _&_, word}
 use Rattle.codec.proofs.Focus.{Focus, _through_, on-const, part-length, clean-part, read-word, write-word}
+use Rattle.codec.proofs.Changes.{part-stays, part-written}
 use Rattle.layout.specs.Places.{Apart}
 use Rattle.layout.specs.Disk.{Brick, Place}
 use Rattle.layout.specs.Layout.{place-codec, disk-codec, settings-of, place-words, place-at}
@@ -21,7 +22,7 @@ use Rattle.layout.proofs.Sound.{SoundWords, words-apart, by-place, soun
 
 module _ (ws : List ℕ) (sd : SoundWords ws) where
   -- a state of the same settings is written by the same codec
-  rendered : (t : State) → t .settings ≡ decode ws .settings → render t ws ≡ disk-codec (settings-of ws) .enc (to-disk t) ws
+  pub rendered : (t : State) → t .settings ≡ decode ws .settings → render t ws ≡ disk-codec (settings-of ws) .enc (to-disk t) ws
   unfolding render
   rendered t e = ap (λ (c : Settings). disk-codec c .enc (to-disk t) ws) (e ∙ settings-read ws)
 
@@ -47,9 +48,9 @@ module _ (ws : List ℕ) (sd : SoundWords ws) where
         rendered u b ∙ φ .write (to-disk t) (to-disk u) ws (sd .size) e
         ∙ ap (on-run (φ .off) (d .size) (λ _. d .enc (φ .see (to-disk u)) words-of)) (sym (rendered t a))
 
-    pub change : (t : State) → t .settings ≡ decode ws .settings → φ .Else (to-disk (decode ws)) (to-disk t)
+    pub part-set : (t : State) → t .settings ≡ decode ws .settings → φ .Else (to-disk (decode ws)) (to-disk t)
         → render t ws ≡ on-run (φ .off) (d .size) (λ _. d .enc (φ .see (to-disk t)) words-of) ws
-    change t a e = again (decode ws) t refl a e ∙ ap (on-run (φ .off) (d .size) (λ _. d .enc (φ .see (to-disk t)) words-of)) (sd .still)
+    part-set t a e = again (decode ws) t refl a e ∙ ap (on-run (φ .off) (d .size) (λ _. d .enc (φ .see (to-disk t)) words-of)) (sd .still)
 
   module _ (φ : Focus (disk-codec (settings-of ws)) word) where
     pub seen-word : φ .Else (to-disk (decode ws)) (to-disk (decode ws)) → φ .see (to-disk (decode ws)) ≡ getD ws (φ .off) 0
@@ -63,6 +64,29 @@ module _ (ws : List ℕ) (sd : SoundWords ws) where
     pub change-word : (t : State) → t .settings ≡ decode ws .settings → φ .Else (to-disk (decode ws)) (to-disk t)
         → render t ws ≡ set ws (φ .off) (φ .see (to-disk t))
     change-word t a e = again-word (decode ws) t refl a e ∙ ap (λ (v : List ℕ). set v (φ .off) (φ .see (to-disk t))) (sd .still)
+
+-- ---- one change after the other, each of a part that no earlier one has changed: t before it, u after it
+module _ (ws : List ℕ) (sd : SoundWords ws) {B : Type 0} {d : Codec B} (φ : Focus (disk-codec (settings-of ws)) d)
+    (here : φ .Else (to-disk (decode ws)) (to-disk (decode ws))) where
+  in-words : φ .Else (disk-codec (settings-of ws) .dec ws) (disk-codec (settings-of ws) .dec ws)
+  in-words = rw (by-place ws sd) at here
+
+  module _ (t : State) (a : t .settings ≡ decode ws .settings) (q : φ .see (to-disk t) ≡ φ .see (to-disk (decode ws))) where
+    as-read : φ .see (to-disk t) ≡ φ .see (disk-codec (settings-of ws) .dec ws)
+    as-read = q ∙ ap (φ .see) (by-place ws sd)
+
+    -- a part that a state leaves as it was has the words that it had
+    pub still-there : φ .Else (to-disk t) (to-disk t) → run (φ .off) (d .size) (render t ws) ≡ run (φ .off) (d .size) ws
+    still-there s =
+        ap (run (φ .off) (d .size)) (rendered ws sd t a) ∙ part-stays φ ws (sd .size) (sound-clean ws sd) in-words (to-disk t) s as-read
+
+    module _ (u : State) (b : u .settings ≡ decode ws .settings) (s : φ .Else (to-disk t) (to-disk u)) where
+      -- written by any function that makes the new words of the old ones
+      pub part-rendered : (g : List ℕ → List ℕ) → g (run (φ .off) (d .size) ws) ≡ d .enc (φ .see (to-disk u)) (run (φ .off) (d .size) ws)
+          → on-run (φ .off) (d .size) g (render t ws) ≡ render u ws
+      part-rendered g r =
+          ap (on-run (φ .off) (d .size) g) (rendered ws sd t a)
+          ∙ part-written φ ws (sd .size) (sound-clean ws sd) in-words (to-disk t) (to-disk u) s as-read g r ∙ sym (rendered ws sd u b)
 
 -- ---- two states that differ in one brick alone
 pub record OneBrick (s t : State) (x : ℕ) : Type 0 where
@@ -98,7 +122,7 @@ module _ (ws : List ℕ) (sd : SoundWords ws) (t : State) (same : t .settings �
   pub place-changed : render t ws
       ≡ on-run (place-at (settings-of ws) p) (place-words (settings-of ws)) (place-codec (settings-of ws) .enc (to-disk t .place p)) ws
   place-changed =
-      change ws sd (place-focus (settings-of ws) p h) t same one-place
+      part-set ws sd (place-focus (settings-of ws) p h) t same one-place
       ∙ on-const (place-at (settings-of ws) p) (place-words (settings-of ws)) (place-codec (settings-of ws) .enc (to-disk t .place p)) ws
 
   pub part-changed : {B : Type 0} {d : Codec B} (φ : Focus (place-codec (settings-of ws)) d) → φ .Else (to-disk (decode ws) .place p) (to-disk t .place p)
@@ -108,7 +132,7 @@ module _ (ws : List ℕ) (sd : SoundWords ws) (t : State) (same : t .settings �
       let place = place-focus (settings-of ws) p h in
       let whole = place .inside in
       let size = sd .size in
-      change ws sd (place through φ) t same (one-place, e)
+      part-set ws sd (place through φ) t same (one-place, e)
       ∙ on-const (place-at (settings-of ws) p + φ .off) (d .size) (d .enc (φ .see (to-disk t .place p))) ws
       ∙ sym (on-within (place-at (settings-of ws) p) (place-words (settings-of ws)) (φ .off) (d .size) (d .enc (φ .see (to-disk t .place p))) ws
       (omega arith) (φ .inside))

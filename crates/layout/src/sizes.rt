@@ -1,9 +1,10 @@
 // Sizes and offsets of the parts, in words.
 ghost use mathlib.Core.Path.{_≡_};
 ghost use Prim.Native.Nat.{_+_, _≤_, _<_};
-ghost use Rattle.rules.specs.Limits.{buckets};
+ghost use Rattle.rules.specs.Limits.{buckets, proxies};
 ghost use Rattle.rules.proofs.Limits.{Limits};
-ghost use Rattle.layout.specs.Layout.{copy-words, copies-words, log-words, log-at, place-words, proxies-at, bag-at, places-at, place-at, store-words};
+ghost use Rattle.layout.specs.Layout.{agreed-words, proxy-words, copy-words, copies-words, log-words, log-at, place-words};
+ghost use Rattle.layout.specs.Layout.{agreed-at, proxies-at, proxy-at, bag-at, places-at, place-at, store-words};
 ghost use Rattle.layout.specs.Store.{store-bytes};
 use rules::constants;
 use rules::settings::Settings;
@@ -50,7 +51,9 @@ pub const KNOWN_AT: usize = 0;
 
 pub const ITEMS_AT: usize = 1;
 
-pub const PROXY_WORDS: usize = ITEMS_AT + (1 + constants::MAX_ITEMS * ENTRY_WORDS);
+pub const ITEMS_WORDS: usize = 1 + constants::MAX_ITEMS * ENTRY_WORDS;
+
+pub const PROXY_WORDS: usize = ITEMS_AT + ITEMS_WORDS;
 
 pub const BAG_WORDS: usize = 1 + constants::MAX_RELAYS * RELAY_WORDS;
 
@@ -140,6 +143,21 @@ pub fn places_at(settings: Settings) -> usize
     ensures { λ r. ⌜ r ≡ places-at settings ⌝ }
 {
     bag_at(settings) + BAG_WORDS
+}
+
+// Where a bucket's record begins, and a proxy.
+pub fn agreed_at(settings: Settings, bucket: usize) -> usize
+    requires { ⌜ bucket < buckets settings ⌝ }
+    ensures { λ r. ⌜ (r ≡ agreed-at bucket) × (r + agreed-words ≤ proxies-at settings) ⌝ }
+{
+    HEAD_WORDS + bucket * AGREED_WORDS
+}
+
+pub fn proxy_at(settings: Settings, proxy: usize) -> usize
+    requires { ⌜ proxy < proxies ⌝ }
+    ensures { λ r. ⌜ (r ≡ proxy-at settings proxy) × (r + proxy-words ≤ bag-at settings) ⌝ }
+{
+    proxies_at(settings) + proxy * PROXY_WORDS
 }
 
 // Where place p begins.

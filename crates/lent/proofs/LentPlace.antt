@@ -1,43 +1,59 @@
--- A place's part, lent: what is read from it, and what a change of it leaves of the store.
-use mathlib.Core.Path.{_≡_, ap, _∙_}
+-- A place's part, lent to be written: what is read from it, and what a change of it leaves of the store.
+use mathlib.Core.Path.{_≡_, sym, ap, _∙_}
 use mathlib.Core.List.{List, _++_}
-use mathlib.Core.Bool.{true, false}
 use Prim.Native.Nat.{ℕ, _*_, _-_, _≤_, _<_}
 use native.Mathlib.Omega.{arith}
 use lib.ListN.{length, take, drop}
-use borrow.Author.Tests.{lt-ltb, le-ltb}
 use Rattle.lists.proofs.Runs.{run-length}
 use Rattle.words.specs.Words.{words}
-use Rattle.words.proofs.Laws.{lent-run}
 use Rattle.rules.specs.declared.settings.Settings.{Settings}
 use Rattle.rules.specs.State.{State}
-use Rattle.rules.specs.Parts.{is-up}
-use Rattle.rules.specs.Question.{is-place}
 use Rattle.codec.specs.Codec.{change}
+use Rattle.layout.specs.Places.{Apart}
 use Rattle.layout.specs.Disk.{Place}
 use Rattle.layout.specs.Layout.{place-codec, place-words, place-at, place-part}
 use Rattle.layout.specs.Store.{to-disk, decode, render}
+use Rattle.layout.proofs.Foci.{place-focus}
 use Rattle.layout.proofs.Sound.{sound-apart}
 use Rattle.layout.proofs.Lent.{lent, lent-length}
+use Rattle.layout.proofs.Changes.{OneBrick, only-brick}
 use Rattle.lent.specs.Stores.{StoreOf}
-use Rattle.lent.proofs.Stores.{settings-are, facts}
-use Rattle.lent.specs.PlaceParts.{SpanOf, HoldsBrick}
-use Rattle.lent.proofs.PlaceChange.{ChangesPlace, Stands, read-place, held-brick, rendered}
+use Rattle.lent.specs.Places.{PlacePart, SpanOf, HoldsBrick}
+use Rattle.lent.proofs.Stores.{settings-are}
+use Rattle.lent.proofs.Effects.{seen-in, written-part}
+use Rattle.lent.proofs.Places.{place-is}
+use Rattle.lent.proofs.Parts.{holds-brick}
 
--- ---- question 3, by the settings that were read
-module _ {bs : List ℕ} {c : Settings} (so : StoreOf c bs) where
-  pub places-are : decode (words bs) .settings .places ≡ c .places
-  places-are = ap (λ (d : Settings). d .places) (settings-are c bs so)
+-- ---- state t is state s with place p changed, whose words are then those of f
+pub record ChangesPlace (s t : State) (p : ℕ) (f : Place → Place) : Type 0 where
+  pub settings : t .settings ≡ s .settings
+  pub head : to-disk s .head ≡ to-disk t .head
+  pub agreed : to-disk s .agreed ≡ to-disk t .agreed
+  pub proxy : to-disk s .proxy ≡ to-disk t .proxy
+  pub bag : s .bag ≡ t .bag
+  pub others : (q : ℕ) → q < s .settings .places → (q ≡ p → ⊥) → to-disk s .place q ≡ to-disk t .place q
+  pub place : (c : Settings) (w : List ℕ) → place-codec c .enc (to-disk t .place p) w ≡ place-codec c .enc (f (to-disk s .place p)) w
 
-  pub no-place : (p : ℕ) → c .places ≤ p → is-place (decode (words bs)) p ≡ false
-  no-place p h = le-ltb p (decode (words bs) .settings .places) (rw places-are h)
+-- a brick stands at place p, and its id at no other
+pub record Filled (s : State) (p : ℕ) : Type 0 where
+  pub inside : p < s .settings .places
+  pub filled : 0 < s .ids p
+  pub apart : Apart (s .settings .places) (s .ids)
 
-  pub is-place-yes : (p : ℕ) → p < c .places → is-place (decode (words bs)) p ≡ true
-  is-place-yes p h = lt-ltb p (decode (words bs) .settings .places) (rw places-are h)
-
-  -- a brick that is up is there
-  pub up-filled : (p : ℕ) → is-up (decode (words bs)) p ≡ true → 0 < decode (words bs) .ids p
-  up-filled p y = facts c bs so .bricks .first (decode (words bs) .ids p) (facts c bs so .bricks .up-here (decode (words bs) .ids p) y)
+-- a change of that brick
+pub brick-changes : (s t : State) (p : ℕ) (f : Place → Place) → Filled s p
+    → t .settings ≡ s .settings → OneBrick s t (s .ids p) → to-disk t .place p ≡ f (to-disk s .place p) → ChangesPlace s t p f
+brick-changes s t p f at same one e =
+    let else = only-brick (s .settings) s t p (at .inside) (at .apart) (at .filled) one in
+    record {
+      settings = same;
+      head = one .head;
+      agreed = one .agreed;
+      proxy = one .proxy;
+      bag = one .bag;
+      others = else .0 .1;
+      place = λ c w. ap (λ (v : Place). place-codec c .enc v w) e;
+    }
 
 -- ---- the bytes from `from` to `to` of a sound store are place p
 pub record LentPlace (bs : List ℕ) (c : Settings) (p from to : ℕ) : Type 0 where
@@ -59,23 +75,26 @@ module _ {bs : List ℕ} {c : Settings} {p from to : ℕ} (l : LentPlace bs c p 
   pub part-length : length part ≡ 8 * place-words c
   part-length = run-length from (to - from) bs (omega (arith, part-inside, l .span .size)) ∙ omega (arith, l .span .size)
 
-  part-words : words part ≡ place-part c p (words bs)
-  part-words = lent bs from to (place-at c p) (place-words c) (l .span .start) (l .span .size) (omega (arith, part-inside, l .span .size, l .span .start))
+  place-lent : PlacePart c p bs part
+  place-lent = record {
+    size = part-length;
+    same = lent bs from to (place-at c p) (place-words c) (l .span .start) (l .span .size) (omega (arith, part-inside, l .span .size, l .span .start));
+  }
 
   -- what the part says
   pub part-read : place-codec c .dec (words part) ≡ to-disk (decode (words bs)) .place p
-  part-read = ap (place-codec c .dec) part-words ∙ read-place (words bs) (l .store .sound) p c (l .store .same) (l .inside)
+  part-read = sym (place-is c bs part (l .store) p (l .inside) place-lent)
 
   module _ (o : 0 < decode (words bs) .ids p) where
-    pub part-stands : Stands (decode (words bs)) p
-    part-stands = record {
-      inside = rw (places-are (l .store)) (l .inside);
+    pub part-filled : Filled (decode (words bs)) p
+    part-filled = record {
+      inside = rw (settings-are c bs (l .store)) (l .inside);
       filled = o;
       apart = sound-apart (decode (words bs)) (l .store .sound .state);
     }
 
     pub part-brick : HoldsBrick c (words part) (length part)
-    part-brick = rw part-words (held-brick (words bs) (l .store .sound) p c (l .store .same) (l .inside) o (length part) part-length)
+    part-brick = holds-brick c bs part (l .store) p (l .inside) place-lent o
 
   -- new bytes come back: as many, and with the place changed by f
   pub back-length : (new : List ℕ) → length new ≡ length part → length (take from bs ++ (new ++ drop (to - from) (drop from bs))) ≡ length bs
@@ -86,6 +105,10 @@ module _ {bs : List ℕ} {c : Settings} {p from to : ℕ} (l : LentPlace bs c p 
       → length new ≡ length part → words new ≡ change (place-codec c) f (words part)
       → words (take from bs ++ (new ++ drop (to - from) (drop from bs))) ≡ render t (words bs)
   part-changed {t} {f} new k same w =
-      lent-run bs new from (to - from) (place-at c p) (place-words c) (change (place-codec c) f) (l .span .start) (omega (arith, l .span .size))
-      (omega (arith, part-inside, l .span .size, l .span .start)) (same ∙ part-length) w
-      ∙ rendered (words bs) (l .store .sound) p c (l .store .same) (l .inside) t f k
+      let φ = place-focus c p (l .inside) in
+      let old = place-part c p (words bs) in
+      let else : φ .Else (to-disk (decode (words bs))) (to-disk t) =
+      ((((k .head, k .agreed), k .proxy), k .bag), λ q h x. k .others q (rw (settings-are c bs (l .store)) h) x) in
+      written-part c bs (l .store) φ t (k .settings) else new from to (l .span .start) (l .span .size) (same ∙ part-length) (change (place-codec c) f)
+      (ap (λ (v : Place). place-codec c .enc (f v) old) (sym (seen-in c bs (l .store) φ (φ .same (to-disk (decode (words bs))) (to-disk t) else)))
+      ∙ sym (k .place c old)) w

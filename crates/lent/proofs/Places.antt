@@ -1,15 +1,21 @@
 -- What stands at a place, read from the bytes of the place; and what stands under an id.
-use mathlib.Core.Path.{_≡_, sym, ap, subst, _∙_}
+use mathlib.Core.Path.{_≡_, refl, sym, ap, subst, _∙_}
 use mathlib.Core.List.{List}
-use Prim.Native.Nat.{ℕ, _<_}
+use Prim.Native.Nat.{ℕ, _≤_, _<_}
 use native.Mathlib.Omega.{arith}
 use lib.ListN.{length}
+use mathlib.Core.Bool.{true, false}
+use borrow.Author.Tests.{lt-ltb, le-ltb, ltb-true}
 use Rattle.lists.specs.Runs.{run}
-use Rattle.lists.proofs.Tests.{by, both, no-second}
+use Rattle.lists.specs.Tests.{_and_}
+use Rattle.lists.proofs.Tests.{by, both, no-second, and-l}
 use Rattle.words.specs.Words.{words}
 use Rattle.words.proofs.Laws.{length-words}
 use Rattle.rules.specs.declared.settings.Settings.{Settings}
-use Rattle.rules.specs.Parts.{up-member}
+use Rattle.rules.specs.Parts.{up-member, is-up}
+use Rattle.rules.specs.Question.{first-no, is-place}
+use Rattle.rules.specs.State.{State}
+use Rattle.rules.proofs.Questions.{all-yes}
 use Rattle.codec.specs.Codec.{Codec}
 use Rattle.codec.proofs.Focus.{Focus}
 use Rattle.layout.specs.Disk.{Place, Disk, blank-brick}
@@ -18,9 +24,16 @@ use Rattle.layout.specs.Store.{brick-at, brick-in, to-disk, decode}
 use Rattle.layout.proofs.Parts.{place-read}
 use Rattle.layout.proofs.Sound.{words-apart}
 use Rattle.layout.proofs.Places.{of-none}
+use Rattle.lent.specs.Asks.{place-asks}
 use Rattle.lent.specs.Stores.{StoreOf}
 use Rattle.lent.specs.Places.{PlacePart}
-use Rattle.lent.proofs.Stores.{facts}
+use Rattle.lent.proofs.Stores.{settings-are, facts}
+
+-- an up member stands at the place
+pub record UpPlace (c : Settings) (s : State) (p : ℕ) : Type 0 where
+  pub inside : p < c .places
+  pub up : up-member s (s .ids p) ≡ true
+  pub filled : 0 < s .ids p
 
 -- ---- a place
 module _ (c : Settings) (bs part : List ℕ) (v : StoreOf c bs) (p : ℕ) (l : p < c .places) (h : PlacePart c p bs part) where
@@ -61,3 +74,27 @@ module _ (c : Settings) (bs : List ℕ) (v : StoreOf c bs) where
   pub member-up : (i : ℕ) → decode (words bs) .bricks .member i ≡ up-member (decode (words bs)) i
   member-up i =
       by (decode (words bs) .bricks .member i) (λ y. y ∙ sym (both _ _ (facts c bs v .bricks .member-up i y) y)) (λ n. n ∙ sym (no-second _ _ n))
+
+  -- ---- questions 3 and 6 of a place, by the settings that were read
+  places-are : decode (words bs) .settings .places ≡ c .places
+  places-are = ap (λ (d : Settings). d .places) (settings-are c bs v)
+
+  pub no-place : (p : ℕ) → c .places ≤ p → is-place (decode (words bs)) p ≡ false
+  no-place p h = le-ltb p (decode (words bs) .settings .places) (rw places-are h)
+
+  pub is-place-yes : (p : ℕ) → p < c .places → is-place (decode (words bs)) p ≡ true
+  is-place-yes p h = lt-ltb p (decode (words bs) .settings .places) (rw places-are h)
+
+  pub place-inside : (p : ℕ) → is-place (decode (words bs)) p ≡ true → p < c .places
+  place-inside p y = rw places-are at (ltb-true p (decode (words bs) .settings .places) y)
+
+  -- a brick that is up is there
+  pub up-filled : (p : ℕ) → is-up (decode (words bs)) p ≡ true → 0 < decode (words bs) .ids p
+  up-filled p y = let id = decode (words bs) .ids p in facts c bs v .bricks .first id (facts c bs v .bricks .up-here id y)
+
+  -- all of them answered yes
+  pub place-yes : (p : ℕ) → first-no (place-asks (decode (words bs)) p) ≡ 0 → UpPlace c (decode (words bs)) p
+  unfolding _and_
+  place-yes p e =
+      let y = all-yes (place-asks (decode (words bs)) p) refl e in
+      record { inside = place-inside p (y .0); up = y .1 .0; filled = up-filled p (and-l _ _ (y .1 .0)) }

@@ -1,6 +1,5 @@
 pub mod Performs
-pub mod Asks
 pub mod Stores
+pub mod Asks
 pub mod Places
 pub mod Parts
-pub mod PlaceParts

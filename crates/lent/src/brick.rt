@@ -5,7 +5,7 @@ ghost use Rattle.words.specs.Words.{words};
 ghost use Rattle.rules.specs.Parts.{up-member};
 ghost use Rattle.layout.specs.Store.{decode};
 ghost use Rattle.lent.specs.Stores.{StoreOf};
-ghost use Rattle.lent.specs.Places.{PlaceOf};
+ghost use Rattle.lent.specs.Places.{PlaceOf, MemberOf};
 use crate::place;
 use rules::settings::Settings;
 
@@ -41,5 +41,21 @@ pub fn up_member(store: &[u8], settings: Settings, id: u64) -> bool
     match place_of(store, settings, id) {
         Found::At(place) => place::up_member(store, settings, place),
         Found::Nowhere => false,
+    }
+}
+
+// The place of the brick, if it is an up member.
+pub fn find_member(store: &[u8], settings: Settings, id: u64) -> Found
+    requires { ⌜ StoreOf settings (now store) ⌝ }
+    ensures { λ r. ⌜ MemberOf settings (decode (words (now (store .entry)))) id r ⌝ }
+{
+    match place_of(store, settings, id) {
+        Found::At(place) => {
+            if place::up_member(store, settings, place) {
+                return Found::At(place);
+            }
+            Found::Nowhere
+        }
+        Found::Nowhere => Found::Nowhere,
     }
 }

@@ -1,10 +1,13 @@
-// A bucket: its share of the agreed record, and what its copies say of a block.
+// A bucket: its number, and its share of the agreed record.
 ghost use mathlib.Core.Path.{_≡_};
 ghost use Prim.Native.Nat.{_<_};
+ghost use lib.ListN.{length};
+ghost use Rattle.lists.specs.Runs.{on-run};
 ghost use Rattle.words.specs.Words.{words};
 ghost use Rattle.rules.specs.Limits.{buckets};
 ghost use Rattle.rules.specs.Numbers.{bucket-of};
-ghost use Rattle.layout.specs.Store.{agreed-in, decode};
+ghost use Rattle.layout.specs.Layout.{agreed-codec, agreed-words, agreed-at};
+ghost use Rattle.layout.specs.Store.{agreed-in, decode, store-bytes};
 ghost use Rattle.parts.specs.Parts.{agreed-of};
 ghost use Rattle.lent.specs.Stores.{StoreOf};
 use layout::sizes;
@@ -24,6 +27,15 @@ pub fn agreed(store: &[u8], settings: Settings, bucket: usize) -> Agreed
     requires { ⌜ StoreOf settings (now store) × (bucket < buckets settings) ⌝ }
     ensures { λ r. ⌜ agreed-of r ≡ agreed-in (decode (words (now (store .entry))) .bucket bucket) ⌝ }
 {
-    let at = 8 * (sizes::HEAD_WORDS + bucket * sizes::AGREED_WORDS);
+    let at = 8 * sizes::agreed_at(settings, bucket);
     parts::agreed::read(&store[at..at + 8 * sizes::AGREED_WORDS])
+}
+
+// It is written.
+pub fn write(store: &mut [u8], settings: Settings, bucket: usize, agreed: Agreed)
+    requires { ⌜ (length (now store) ≡ store-bytes settings) × (bucket < buckets settings) ⌝ }
+    ensures { λ _. ⌜ words (now (store .exit)) ≡ on-run (agreed-at bucket) agreed-words (agreed-codec .enc (agreed-of agreed)) (words (now (store .entry))) ⌝ }
+{
+    let at = 8 * sizes::agreed_at(settings, bucket);
+    parts::agreed::write(&mut store[at..at + 8 * sizes::AGREED_WORDS], agreed);
 }

@@ -3,13 +3,16 @@ ghost use mathlib.Core.Path.{_≡_};
 ghost use Prim.Native.Nat.{_+_, _≤_, _<_};
 ghost use Rattle.words.specs.Words.{words};
 ghost use Rattle.rules.specs.Limits.{buckets};
+ghost use lib.ListN.{length};
 ghost use Rattle.rules.specs.Parts.{up-member, is-up};
+ghost use Rattle.rules.specs.Question.{first-no};
 ghost use Rattle.rules.proofs.Limits.{Limits};
 ghost use Rattle.layout.specs.Layout.{copy-words, copies-words, copies-at, log-at};
 ghost use Rattle.layout.specs.Store.{brick-in, decode};
 ghost use Rattle.parts.specs.Parts.{status-of};
 ghost use Rattle.lent.specs.Stores.{StoreOf};
-ghost use Rattle.lent.specs.Places.{PlacePart};
+ghost use Rattle.lent.specs.Asks.{place-asks};
+ghost use Rattle.lent.specs.Places.{PlacePart, SpanOf};
 ghost use Rattle.lent.specs.Parts.{CopyPart, BufferPart, LogPart};
 use layout::sizes;
 use parts::status::Status;
@@ -23,6 +26,23 @@ pub fn part<'a>(store: &'a [u8], settings: Settings, place: usize) -> &'a [u8]
     let at = 8 * sizes::place_at(settings, place);
     let end = at + 8 * sizes::place_words(settings);
     &store[at..end]
+}
+
+// From which byte of the store to which they lie: for a step that is lent that part to write.
+pub struct Span {
+    pub from: usize,
+    pub to: usize,
+}
+
+pub fn span_of(settings: Settings, place: usize) -> Span
+    requires { ⌜ Limits settings × (place < settings .places) ⌝ }
+    ensures { λ r. ⌜ SpanOf settings place (r .from) (r .to) ⌝ }
+{
+    let from = 8 * sizes::place_at(settings, place);
+    Span {
+        from,
+        to: from + 8 * sizes::place_words(settings),
+    }
 }
 
 // The id of the brick at a place, 0 where it is empty.
@@ -72,6 +92,20 @@ pub fn up_member(store: &[u8], settings: Settings, place: usize) -> bool
     is_member(store, settings, place)
 }
 
+// Is there such a place, and does it hold an up member? The number of the first no, or 0.
+pub fn asks(store: &[u8], settings: Settings, place: u64) -> u64
+    requires { ⌜ StoreOf settings (now store) ⌝ }
+    ensures { λ r. ⌜ r ≡ first-no (place-asks (decode (words (now (store .entry)))) place) ⌝ }
+{
+    if settings.places as u64 <= place {
+        return 3;
+    }
+    if up_member(store, settings, place as usize) {
+        return 0;
+    }
+    6
+}
+
 // ---- the parts of a place that holds a brick
 
 // Where a bucket's copy in memory begins, and its copy on disk.
@@ -79,7 +113,12 @@ pub fn memory_at(settings: Settings, bucket: usize) -> usize
     requires { ⌜ Limits settings × (bucket < buckets settings) ⌝ }
     ensures { λ r. ⌜ (r ≡ copies-at settings bucket) × (r + copies-words settings ≤ log-at settings) ⌝ }
 {
-    sizes::COPIES_AT + words::offset(bucket, sizes::copies_words(settings), sizes::BUCKETS)
+    sizes::COPIES_AT
+        + words::offset(
+            bucket,
+            sizes::copies_words(settings),
+            sizes::buckets(settings),
+        )
 }
 
 pub fn disk_at(settings: Settings, bucket: usize) -> usize
@@ -132,4 +171,12 @@ pub fn log<'a>(store: &'a [u8], settings: Settings, place: usize) -> &'a [u8]
     let at = 8 * sizes::log_at(settings);
     let end = at + 8 * sizes::log_words(settings);
     &whole[at..end]
+}
+
+// How many chunks its log has.
+pub fn chunk_count(store: &[u8], settings: Settings, place: usize) -> u64
+    requires { ⌜ StoreOf settings (now store) × (place < settings .places) × (0 < decode (words (now store)) .ids place) ⌝ }
+    ensures { λ r. ⌜ r ≡ length (decode (words (now (store .entry))) .bricks .log (decode (words (now (store .entry))) .ids place)) ⌝ }
+{
+    words::read(log(store, settings, place), 0)
 }

@@ -1,10 +1,10 @@
-// A store's header.
+// A store's header, and its bag.
 ghost use mathlib.Core.Path.{_≡_};
 ghost use Prim.Native.Nat.{_<_};
+ghost use lib.ListN.{length};
 ghost use Rattle.words.specs.Words.{words};
 ghost use Rattle.layout.specs.Store.{decode};
-ghost use Rattle.lent.specs.Performs.{SoundStore};
-ghost use Rattle.lent.specs.Stores.{StoreOf};
+ghost use Rattle.lent.specs.Stores.{SoundStore, StoreOf};
 use layout::sizes;
 use rules::settings::Settings;
 
@@ -34,4 +34,20 @@ pub fn given(store: &[u8], settings: Settings) -> u64
     ensures { λ r. ⌜ r ≡ decode (words (now (store .entry))) .given ⌝ }
 {
     words::read(store, sizes::GIVEN_AT)
+}
+
+// With how many bricks the present view began.
+pub fn started(store: &[u8], settings: Settings) -> u64
+    requires { ⌜ StoreOf settings (now store) ⌝ }
+    ensures { λ r. ⌜ r ≡ decode (words (now (store .entry))) .started ⌝ }
+{
+    words::read(store, sizes::STARTED_AT)
+}
+
+// How many relays are in the bag.
+pub fn relay_count(store: &[u8], settings: Settings) -> u64
+    requires { ⌜ StoreOf settings (now store) ⌝ }
+    ensures { λ r. ⌜ r ≡ length (decode (words (now (store .entry))) .bag) ⌝ }
+{
+    words::read(store, sizes::bag_at(settings))
 }

@@ -20,6 +20,11 @@ pub upd-all {ℓ} : {A : Type ℓ} (P : ℕ → A → Type 0) (f : ℕ → A) (i
 unfolding upd
 upd-all P f i v h p j = by-eq j i (λ q r. rw (q, r) p) (λ q r. rw q (h j))
 
+-- a second change at one number
+pub upd-again : {A : Type 0} (f : ℕ → A) (i : ℕ) (v w : A) → upd (upd f i v) i w ≡ upd f i w
+unfolding upd
+upd-again f i v w = fun-ext (λ j. by-eq j i (λ q _. rw q) (λ q _. rw q))
+
 -- a flag taken from one number
 pub unflag : (f : ℕ → Bool) (x j : ℕ) → upd f x false j ≡ true → (f j ≡ true) × (j ≡ x → ⊥)
 unfolding upd

@@ -1,7 +1,7 @@
 -- Laws of lists: elements by their place, and what a map and a test do together.
 use mathlib.Core.Path.{_≡_, refl, ap}
-use mathlib.Core.Bool.{Bool, cond}
-use mathlib.Core.List.{List, [], _∷_, _++_, map, append-nil}
+use mathlib.Core.Bool.{Bool, true, cond}
+use mathlib.Core.List.{List, [], _∷_, _++_, map, append-nil, List·Memᴰ, List·Memᴰ·head, List·Memᴰ·tail}
 use Prim.Native.Nat.{ℕ, zero, suc, _<_}
 use native.Mathlib.Nat.{not-suc-le-zero, le-of-suc-le-suc}
 use lib.ListN.{length, getD, take}
@@ -30,6 +30,20 @@ pub only-append : {A : Type 0} (p : A → Bool) (k l : List A) → only p (k ++ 
 unfolding only
 only-append p [] l = refl
 only-append {A} p (x ∷ k) l = by (p x) (λ q. rw (q, only-append p k l)) (λ q. rw (q, only-append p k l))
+
+-- tests that agree on a list keep the same of it
+pub only-same : {A : Type 0} (p q : A → Bool) (l : List A) → ((x : A) → List·Memᴰ x l → p x ≡ q x) → only p l ≡ only q l
+unfolding only
+only-same p q [] e = refl
+only-same {A} p q (x ∷ l) e =
+    let rest = only-same p q l (λ y m. e y (List·Memᴰ·tail m)) in
+    by (q x) (λ t. rw (e x (List·Memᴰ·head refl), t) (ap (λ (r : List A). x ∷ r) rest)) (λ t. rw (e x (List·Memᴰ·head refl), t) rest)
+
+-- a test that holds of all keeps all
+pub only-all : {A : Type 0} (p : A → Bool) (l : List A) → ((x : A) → List·Memᴰ x l → p x ≡ true) → only p l ≡ l
+unfolding only
+only-all p [] e = refl
+only-all {A} p (x ∷ l) e = rw (e x (List·Memᴰ·head refl)) (ap (λ (r : List A). x ∷ r) (only-all p l (λ y m. e y (List·Memᴰ·tail m))))
 
 -- the elements that a test keeps of one more
 pub only-more : {A : Type 0} (p : A → Bool) (l : List A) (i : ℕ) (d : A) → i < length l

@@ -2,6 +2,7 @@
 use mathlib.Core.List.{List, [], _∷_}
 use mathlib.Core.Bool.{Bool, true, false, cond, _&&_, _||_}
 use Prim.Native.Nat.{ℕ, zero, suc, _+_}
+use lib.Dec.{leb, ltb}
 
 -- the library's connectives, shut, so that a law finds its arguments in a test
 infixl 35 _and_
@@ -11,6 +12,10 @@ a and b = a && b
 
 unfoldable pub _or_ : Bool → Bool → Bool
 a or b = a || b
+
+-- a number from one to below another
+abbrev pub within : ℕ → ℕ → ℕ → Bool
+within from to i = leb from i and ltb i to
 
 -- the test holds of 0, 1, .., n - 1
 unfoldable pub all-below : ℕ → (ℕ → Bool) → Bool

@@ -1,129 +1,67 @@
--- map: what it asks, what it does, and what it answers.
+-- map: what it asks, and what it does.
 use mathlib.Core.Path.{_≡_, refl, sym, ap, _∙_}
-use mathlib.Core.List.{List, [], _∷_, _++_}
-use mathlib.Core.Bool.{Bool, true, false, cond}
+use mathlib.Core.List.{[], _∷_}
+use mathlib.Core.Bool.{Bool, true, false, not, cond}
 use Prim.Native.Nat.{ℕ, _<_}
 use native.Mathlib.Omega.{arith}
 use lib.Dec.{ltb}
 use lib.ListN.{length}
 use borrow.Author.Tests.{ltb-true}
-use Rattle.lists.proofs.Tests.{clash, and-l}
-use Rattle.words.specs.Words.{words}
+use Rattle.lists.specs.Tests.{_and_, _or_}
 use Rattle.rules.specs.Limits.{proxies, max-waiting}
 use Rattle.rules.specs.Entries.{takes}
-use Rattle.rules.specs.Event.{Event}
 use Rattle.rules.specs.State.{State}
 use Rattle.rules.specs.Maps.{map-asks, map-effect}
-use Rattle.rules.specs.Parts.{saved-at, bucket-no, bucket-at, item}
-use Rattle.rules.specs.Question.{Question, _asks_, first-no, has-item}
-use Rattle.rules.specs.Step.{rule}
-use Rattle.layout.specs.Disk.{Agreed, Brick, blank-brick}
-use Rattle.layout.specs.Store.{brick-in, agreed-in, decode, render}
-use Rattle.lent.specs.declared.Answer.the-variants.{Yes, No}
-use Rattle.lent.specs.Performs.{SoundStore, Performs}
-use Rattle.lent.proofs.Questions.{Numbered, first-yes, first-stop, none-asked, all-yes, first-more, first-enough, refused, accepted}
-use Rattle.maps.specs.Asks.{access-asks, settled-asks, room-asks, Mappable}
-use Rattle.maps.specs.Copies.{with-entry, with-waiting}
-use Rattle.maps.proofs.Asking.{first-part, access-numbered, settled-numbered, room-numbered, access-proxy, access-primary, room-ready, room-waiting}
+use Rattle.rules.specs.Parts.{up-member, bucket-no, bucket-at, item}
+use Rattle.rules.specs.Question.{_asks_, first-no}
+use Rattle.rules.proofs.Questions.{first-yes, none-asked, all-yes, front-none}
+use Rattle.layout.specs.Disk.{Agreed, blank-brick}
+use Rattle.layout.specs.Store.{brick-in}
+use Rattle.mappings.specs.Asks.{access-asks}
+use Rattle.mappings.specs.Copies.{with-entry, with-waiting}
+use Rattle.mappings.proofs.Asking.{access-yes}
+use Rattle.mappings.proofs.Buckets.{InBucket, takes-is, member-stands}
+use Rattle.maps.specs.Asks.{room-asks, Mappable}
 
-module _ (s : State) (p b : ℕ) where
-  abbrev after-room : List Question
-  after-room = (11 asks ltb 0 (length (saved-at s (item s p b)))) ∷ []
+-- ---- where every answer is yes
+module _ (s : State) (p b : ℕ) (y : first-no (map-asks s p b) ≡ 0) where
+  asked : first-no (access-asks s p b) ≡ 0
+  asked = front-none (access-asks s p b) _ y
 
-  abbrev after-item : List Question
-  after-item = room-asks s b ++ after-room
+  pub map-proxy : p < proxies
+  map-proxy = access-yes s p b asked .block .proxy
 
-  abbrev after-settled : List Question
-  after-settled = (9 asks has-item s p b) ∷ after-item
+  pub mappable : Mappable s b
+  unfolding _and_
+  mappable =
+      let q = all-yes (map-asks s p b) refl y .1 .1 .1 .1 .1 .1 .1 .1 in
+      record { up = access-yes s p b asked .primary; room = first-yes 10 _ (q .0) ∙ first-yes 10 [] (q .1 .0) ∙ none-asked }
 
-  abbrev after-access : List Question
-  after-access = settled-asks s b ++ after-settled
+-- ---- room: of the primary's copy where the bucket is ready, else of its append buffer
+ready-room : (r t w : Bool) → r ≡ true → first-no ((10 asks not r or t) ∷ (10 asks r or w) ∷ []) ≡ cond t 0 10
+unfolding first-no _or_
+ready-room true true w e = refl
+ready-room true false w e = refl
+ready-room false t w e = absurd (let z : _≡_ {A = ℕ} 0 1 = cc in omega arith)
 
-  pub no-access : (n : ℕ) → n ≡ first-no (access-asks s p b) → (n ≡ 0 → ⊥) → n ≡ first-no (map-asks s p b)
-  no-access n e k = e ∙ sym (first-enough (access-asks s p b) after-access (λ z. k (e ∙ z)))
+waiting-room : (r t w : Bool) → r ≡ false → first-no ((10 asks not r or t) ∷ (10 asks r or w) ∷ []) ≡ cond w 0 10
+unfolding first-no _or_
+waiting-room false t true e = refl
+waiting-room false t false e = refl
+waiting-room true t w e = absurd (let z : _≡_ {A = ℕ} 0 1 = cc in omega arith)
 
-  module _ (y : first-no (access-asks s p b) ≡ 0) where
-    asked-access : first-no (map-asks s p b) ≡ first-no after-access
-    asked-access = first-more (access-asks s p b) after-access (access-numbered s p b) y
+module _ (s : State) (most b g : ℕ) (a : Agreed) (k : InBucket s most b g a) where
+  ready-is : {x : Bool} → a .ready ≡ x → bucket-at s b .ready ≡ x
+  ready-is r = sym (ap (λ (i : Agreed). i .ready) (k .agreed)) ∙ r
 
-    pub unsettled : (n : ℕ) → n ≡ first-no (settled-asks s b) → (n ≡ 0 → ⊥) → n ≡ first-no (map-asks s p b)
-    unsettled n q k = q ∙ sym (asked-access ∙ first-enough (settled-asks s b) after-settled (λ z. k (q ∙ z)))
+  pub room-ready : a .ready ≡ true → (x : Bool) → x ≡ takes most (s .bucket g .memory (a .primary)) b → first-no (room-asks s b) ≡ cond x 0 10
+  room-ready r x q = ready-room (bucket-at s b .ready) _ _ (ready-is r) ∙ ap (λ (t : Bool). cond t 0 10) (sym (q ∙ takes-is s most b g a k (λ x. x .primary)))
 
-    module _ (t : first-no (settled-asks s b) ≡ 0) where
-      asked-settled : first-no (map-asks s p b) ≡ first-no after-settled
-      asked-settled = asked-access ∙ first-more (settled-asks s b) after-settled (settled-numbered s b) t
-
-      pub no-item : has-item s p b ≡ false → 9 ≡ first-no (map-asks s p b)
-      no-item n = sym (asked-settled ∙ first-stop 9 _ n)
-
-      module _ (i : has-item s p b ≡ true) where
-        asked-item : first-no (map-asks s p b) ≡ first-no after-item
-        asked-item = asked-settled ∙ first-yes 9 _ i
-
-        pub no-room : (n : ℕ) → n ≡ first-no (room-asks s b) → (n ≡ 0 → ⊥) → n ≡ first-no (map-asks s p b)
-        no-room n q k = q ∙ sym (asked-item ∙ first-enough (room-asks s b) after-room (λ z. k (q ∙ z)))
-
-        module _ (r : first-no (room-asks s b) ≡ 0) (k : ℕ) (ek : k ≡ item s p b) where
-          asked-room : first-no (map-asks s p b) ≡ first-no after-room
-          asked-room = asked-item ∙ first-more (room-asks s b) after-room (room-numbered s b) r
-
-          saved-is : (x : Bool) → ltb 0 (length (saved-at s k)) ≡ x → ltb 0 (length (saved-at s (item s p b))) ≡ x
-          saved-is x q = ap (λ (j : ℕ). ltb 0 (length (saved-at s j))) (sym ek) ∙ q
-
-          pub may-map : ltb 0 (length (saved-at s k)) ≡ true → 0 ≡ first-no (map-asks s p b)
-          may-map q = sym (asked-room ∙ first-yes 11 [] (saved-is true q) ∙ none-asked)
-
-          pub not-saved : ltb 0 (length (saved-at s k)) ≡ false → 11 ≡ first-no (map-asks s p b)
-          not-saved q = sym (asked-room ∙ first-stop 11 [] (saved-is false q))
-
-  -- ---- where every answer is yes
-  map-numbered : Numbered (map-asks s p b)
-  map-numbered = (
-    omega arith,
-    (
-      omega arith,
-      (
-        omega arith,
-        (
-          omega arith,
-          (
-            omega arith,
-            (
-              omega arith,
-              (
-                omega arith,
-                (
-                  omega arith,
-                  (
-                    omega arith,
-                    (
-                      omega arith,
-                      (
-                        omega arith,
-                        tt,
-                      ),
-                    ),
-                  ),
-                ),
-              ),
-            ),
-          ),
-        ),
-      ),
-    ),
-  )
-
-  module _ (y : first-no (map-asks s p b) ≡ 0) where
-    asked : first-no (access-asks s p b) ≡ 0
-    asked = first-part (access-asks s p b) after-access y
-
-    pub map-proxy : p < proxies
-    map-proxy = access-proxy s p b asked
-
-    pub mappable : Mappable s b
-    mappable =
-        let q = all-yes (map-asks s p b) map-numbered y .1 .1 .1 .1 .1 .1 .1 .1 in
-        record { up = access-primary s p b asked; room = first-yes 10 _ (q .0) ∙ first-yes 10 [] (q .1 .0) ∙ none-asked }
+  pub room-waiting : a .ready ≡ false → (x : Bool) → x ≡ ltb (length (s .bricks .buffer (a .primary))) max-waiting
+      → first-no (room-asks s b) ≡ cond x 0 10
+  room-waiting r x q =
+      waiting-room (bucket-at s b .ready) _ _ (ready-is r)
+      ∙ ap (λ (t : Bool). cond t 0 10) (sym (q ∙ ap (λ (i : Agreed). ltb (length (s .bricks .buffer (i .primary))) max-waiting) (k .agreed)))
 
 -- ---- the effect, by whether the bucket is ready
 abbrev either-effect : State → ℕ → ℕ → Bool → State
@@ -138,57 +76,33 @@ zero-or-ten : (x : Bool) → _≡_ {A = ℕ} 0 (cond x 0 10) → x ≡ true
 zero-or-ten true q = refl
 zero-or-ten false q = absurd (omega arith)
 
--- ---- the primary: g is the number of the block's bucket, a its record, and a place holds the primary
-module _ (s : State) (b : ℕ) (m : Mappable s b) (a : Agreed) (e : a ≡ agreed-in (bucket-at s b)) where
-  -- it stands somewhere
+module _ (s : State) (b : ℕ) (m : Mappable s b) (most g : ℕ) (a : Agreed) (k : InBucket s most b g a) where
+  -- the primary stands somewhere
   pub primary-stands : brick-in s (a .primary) ≡ blank-brick → ⊥
-  primary-stands n =
-      let up : s .bricks .up (a .primary) ≡ true = ap (λ (i : Agreed). s .bricks .up (i .primary)) e ∙ and-l _ _ (m .up) in
-      let z : _≡_ {A = ℕ} 0 1 = clash (ap (λ (k : Brick). k .status .up) n) up in
-      omega arith
+  primary-stands = member-stands s (a .primary) (ap (λ (i : Agreed). up-member s (i .primary)) (k .agreed) ∙ m .up)
 
-  module _ (most g : ℕ) (em : most ≡ s .settings .entries) (n : g ≡ bucket-no s b) (id : ℕ) (ei : id ≡ a .primary) where
+  module _ (id : ℕ) (ei : id ≡ a .primary) where
+    primary-is : id ≡ bucket-at s b .primary
+    primary-is = ei ∙ ap (λ (i : Agreed). i .primary) (k .agreed)
+
     pub copy-takes : a .ready ≡ true → takes most (s .bucket g .memory id) b ≡ true
     copy-takes r =
-        ap (λ (i : ℕ). takes most (s .bucket g .memory i) b) ei
-        ∙ zero-or-ten _ (sym (m .room) ∙ room-ready s most b g em n a e r _ refl)
+        ap (λ (i : ℕ). takes most (s .bucket g .memory i) b) ei ∙ zero-or-ten _ (sym (m .room) ∙ room-ready s most b g a k r _ refl)
 
     pub buffer-takes : a .ready ≡ false → length (s .bricks .buffer id) < max-waiting
     buffer-takes r =
         ltb-true _ max-waiting (ap (λ (i : ℕ). ltb (length (s .bricks .buffer i)) max-waiting) ei
-        ∙ zero-or-ten _ (sym (m .room) ∙ room-waiting s most b g em n a e r _ refl))
+        ∙ zero-or-ten _ (sym (m .room) ∙ room-waiting s most b g a k r _ refl))
 
-    module _ (p k : ℕ) (ek : k ≡ item s p b) where
-      pub mapped-entry : a .ready ≡ true → with-entry s g id b k ≡ map-effect s p b
+    module _ (p key : ℕ) (ek : key ≡ item s p b) where
+      decided : {x : Bool} → a .ready ≡ x → either-effect s p b x ≡ map-effect s p b
+      decided r = sym (effect-is s p b ∙ ap (either-effect s p b) (ready-is s most b g a k r))
+
+      pub mapped-entry : a .ready ≡ true → with-entry s g id b key ≡ map-effect s p b
       mapped-entry r =
-          ap (λ (i : ℕ). with-entry s i id b k) n ∙ ap (λ (i : ℕ). with-entry s (bucket-no s b) i b k) primary-is
-          ∙ ap (with-entry s (bucket-no s b) (bucket-at s b .primary) b) ek ∙ sym (effect-is s p b ∙ ap (either-effect s p b) (sym (ready-is r)))
-        where
-          ready-is : {x : Bool} → a .ready ≡ x → x ≡ bucket-at s b .ready
-          ready-is q = sym q ∙ ap (λ (i : Agreed). i .ready) e
+          ap (λ (i : ℕ). with-entry s i id b key) (k .number) ∙ ap (λ (i : ℕ). with-entry s (bucket-no s b) i b key) primary-is
+          ∙ ap (with-entry s (bucket-no s b) (bucket-at s b .primary) b) ek ∙ decided r
 
-          primary-is : id ≡ bucket-at s b .primary
-          primary-is = ei ∙ ap (λ (i : Agreed). i .primary) e
-
-      pub mapped-waiting : a .ready ≡ false → with-waiting s id b k ≡ map-effect s p b
+      pub mapped-waiting : a .ready ≡ false → with-waiting s id b key ≡ map-effect s p b
       mapped-waiting r =
-          ap (λ (i : ℕ). with-waiting s i b k) primary-is ∙ ap (with-waiting s (bucket-at s b .primary) b) ek
-          ∙ sym (effect-is s p b ∙ ap (either-effect s p b) (sym (ready-is r)))
-        where
-          ready-is : {x : Bool} → a .ready ≡ x → x ≡ bucket-at s b .ready
-          ready-is q = sym q ∙ ap (λ (i : Agreed). i .ready) e
-
-          primary-is : id ≡ bucket-at s b .primary
-          primary-is = ei ∙ ap (λ (i : Agreed). i .primary) e
-
--- ---- the event
-module _ (bs : List ℕ) (p b : ℕ) where
-  pub map-yes : first-no (map-asks (decode (words bs)) p b) ≡ 0 → (after : List ℕ) → after ≡ render (map-effect (decode (words bs)) p b) (words bs)
-      → Performs (Event.map p b) (words bs) (Yes 0) after
-  unfolding rule
-  map-yes y after e = accepted (Event.map p b) (words bs) after (map-numbered (decode (words bs)) p b) y e
-
-  pub map-no : SoundStore bs → (n : ℕ) → n ≡ first-no (map-asks (decode (words bs)) p b) → (n ≡ 0 → ⊥)
-      → Performs (Event.map p b) (words bs) (No n) (words bs)
-  unfolding rule
-  map-no sd n e k = refused (Event.map p b) (words bs) (sd .sound) n e k
+          ap (λ (i : ℕ). with-waiting s i b key) primary-is ∙ ap (with-waiting s (bucket-at s b .primary) b) ek ∙ decided r

@@ -5,11 +5,12 @@ ghost use Rattle.rules.specs.Event.{Event};
 ghost use Rattle.rules.specs.Maps.{done-asks};
 ghost use Rattle.rules.specs.Question.{first-no};
 ghost use Rattle.layout.specs.Store.{decode};
-ghost use Rattle.lent.specs.Performs.{SoundStore, Performs};
+ghost use Rattle.lent.specs.Performs.{Performs};
 ghost use Rattle.lent.specs.Stores.{StoreOf};
-use crate::access;
 use lent::Answer;
-use lent::bucket;
+use lent::proxy;
+use mappings::asks;
+use mappings::block;
 use rules::numbers::BlockNumber;
 use rules::settings::Settings;
 
@@ -18,39 +19,29 @@ fn asks(store: &[u8], settings: Settings, proxy: u64, block: u64) -> u64
     requires { ⌜ StoreOf settings (now store) ⌝ }
     ensures { λ r. ⌜ r ≡ first-no (done-asks (decode (words (now (store .entry)))) proxy block) ⌝ }
 {
-    let no = access::access_asks(store, settings, proxy, block);
+    let no = asks::served_asks(store, settings, proxy, block);
     if no != 0 {
         return no;
     }
     let number = BlockNumber(block);
-    let bucket = bucket::number(settings, number);
-    if !bucket::agreed(store, settings, bucket).ready {
-        return 7;
-    }
-    let unsettled = access::settled_asks(store, settings, number);
-    if unsettled != 0 {
-        return unsettled;
-    }
-    if !lent::proxy::has_item(store, proxy as usize, number) {
+    if !proxy::has_item(store, settings, proxy as usize, number) {
         return 9;
     }
-    if mappings::mapped(store, settings, number).0
-        == lent::proxy::item(store, proxy as usize, number).0
-    {
+    let key = proxy::item(store, settings, proxy as usize, number).0;
+    if block::mapped(store, settings, number).0 == key {
         return 0;
     }
     15
 }
 
-pub fn done(store: &mut [u8], proxy: u64, block: u64) -> Answer
-    requires { ⌜ SoundStore (now store) ⌝ }
+pub fn done(store: &mut [u8], settings: Settings, proxy: u64, block: u64) -> Answer
+    requires { ⌜ StoreOf settings (now store) ⌝ }
     ensures { λ r. ⌜ Performs (Event.done proxy block) (words (now (store .entry))) r (words (now (store .exit))) ⌝ }
 {
-    let settings = lent::store::settings(store);
     let no = asks(store, settings, proxy, block);
-    if no == 0 {
-        lent::proxy::remove_item(store, proxy as usize, BlockNumber(block));
-        return Answer::Yes(0);
+    if no != 0 {
+        return Answer::No(no);
     }
-    Answer::No(no)
+    proxy::remove_item(store, settings, proxy as usize, BlockNumber(block));
+    Answer::Yes(0)
 }

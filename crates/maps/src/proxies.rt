@@ -5,39 +5,46 @@ ghost use lib.ListN.{length};
 ghost use Rattle.words.specs.Words.{words};
 ghost use Rattle.rules.specs.Limits.{proxies};
 ghost use Rattle.rules.specs.Event.{Event};
-ghost use Rattle.rules.specs.Maps.{learn-effect, reset-effect};
+ghost use Rattle.rules.specs.Maps.{abandon-asks, learn-effect, reset-effect};
+ghost use Rattle.rules.specs.Question.{first-no};
 ghost use Rattle.layout.specs.Disk.{blank-proxy};
 ghost use Rattle.layout.specs.Layout.{proxy-codec, proxy-words};
 ghost use Rattle.layout.specs.Store.{decode, render};
-ghost use Rattle.lent.specs.Performs.{SoundStore, Performs};
+ghost use Rattle.lent.specs.Performs.{Performs};
+ghost use Rattle.lent.specs.Stores.{StoreOf};
 use layout::sizes;
 use lent::Answer;
 use lent::proxy;
+use lent::store;
 use rules::constants;
 use rules::numbers::BlockNumber;
 use rules::numbers::ViewNumber;
+use rules::settings::Settings;
 
 // ---- learn
 
 // The proxy takes the view number.
-fn take_view(store: &mut [u8], proxy: usize)
-    requires { ⌜ SoundStore (now store) × (proxy < proxies) ⌝ }
+fn take_view(store: &mut [u8], settings: Settings, proxy: usize)
+    requires { ⌜ StoreOf settings (now store) × (proxy < proxies) ⌝ }
     ensures { λ _. ⌜ words (now (store .exit)) ≡ render (learn-effect (decode (words (now (store .entry)))) proxy) (words (now (store .entry))) ⌝ }
 {
-    let view = ViewNumber(words::read(store, sizes::VIEW_AT));
-    let at = 8 * (sizes::PROXIES_AT + proxy * sizes::PROXY_WORDS);
-    parts::proxy::set_known(&mut store[at..at + 8 * sizes::PROXY_WORDS], view);
+    let view = store::view(store, settings);
+    let at = 8 * sizes::proxy_at(settings, proxy);
+    parts::proxy::set_known(
+        &mut store[at..at + 8 * sizes::PROXY_WORDS],
+        ViewNumber(view),
+    );
 }
 
-pub fn learn(store: &mut [u8], proxy: u64) -> Answer
-    requires { ⌜ SoundStore (now store) ⌝ }
+pub fn learn(store: &mut [u8], settings: Settings, proxy: u64) -> Answer
+    requires { ⌜ StoreOf settings (now store) ⌝ }
     ensures { λ r. ⌜ Performs (Event.learn proxy) (words (now (store .entry))) r (words (now (store .exit))) ⌝ }
 {
-    if proxy < constants::PROXIES as u64 {
-        take_view(store, proxy as usize);
-        return Answer::Yes(0);
+    if constants::PROXIES as u64 <= proxy {
+        return Answer::No(3);
     }
-    Answer::No(3)
+    take_view(store, settings, proxy as usize);
+    Answer::Yes(0)
 }
 
 // ---- reset
@@ -51,38 +58,50 @@ fn clear(part: &mut [u8])
     words::write(part, sizes::ITEMS_AT, 0);
 }
 
-fn clear_proxy(store: &mut [u8], proxy: usize)
-    requires { ⌜ SoundStore (now store) × (proxy < proxies) ⌝ }
+fn clear_proxy(store: &mut [u8], settings: Settings, proxy: usize)
+    requires { ⌜ StoreOf settings (now store) × (proxy < proxies) ⌝ }
     ensures { λ _. ⌜ words (now (store .exit)) ≡ render (reset-effect (decode (words (now (store .entry)))) proxy) (words (now (store .entry))) ⌝ }
 {
-    let at = 8 * (sizes::PROXIES_AT + proxy * sizes::PROXY_WORDS);
+    let at = 8 * sizes::proxy_at(settings, proxy);
     clear(&mut store[at..at + 8 * sizes::PROXY_WORDS]);
 }
 
-pub fn reset(store: &mut [u8], proxy: u64) -> Answer
-    requires { ⌜ SoundStore (now store) ⌝ }
+pub fn reset(store: &mut [u8], settings: Settings, proxy: u64) -> Answer
+    requires { ⌜ StoreOf settings (now store) ⌝ }
     ensures { λ r. ⌜ Performs (Event.reset proxy) (words (now (store .entry))) r (words (now (store .exit))) ⌝ }
 {
-    if proxy < constants::PROXIES as u64 {
-        clear_proxy(store, proxy as usize);
-        return Answer::Yes(0);
+    if constants::PROXIES as u64 <= proxy {
+        return Answer::No(3);
     }
-    Answer::No(3)
+    clear_proxy(store, settings, proxy as usize);
+    Answer::Yes(0)
 }
 
 // ---- abandon
 
-pub fn abandon(store: &mut [u8], proxy: u64, block: u64) -> Answer
-    requires { ⌜ SoundStore (now store) ⌝ }
-    ensures { λ r. ⌜ Performs (Event.abandon proxy block) (words (now (store .entry))) r (words (now (store .exit))) ⌝ }
+// The number of the first question that is answered no, or 0.
+fn asks(store: &[u8], settings: Settings, proxy: u64, block: u64) -> u64
+    requires { ⌜ StoreOf settings (now store) ⌝ }
+    ensures { λ r. ⌜ r ≡ first-no (abandon-asks (decode (words (now (store .entry)))) proxy block) ⌝ }
 {
     let no = proxy::block_asks(proxy, block);
     if no != 0 {
+        return no;
+    }
+    if proxy::has_item(store, settings, proxy as usize, BlockNumber(block)) {
+        return 0;
+    }
+    9
+}
+
+pub fn abandon(store: &mut [u8], settings: Settings, proxy: u64, block: u64) -> Answer
+    requires { ⌜ StoreOf settings (now store) ⌝ }
+    ensures { λ r. ⌜ Performs (Event.abandon proxy block) (words (now (store .entry))) r (words (now (store .exit))) ⌝ }
+{
+    let no = asks(store, settings, proxy, block);
+    if no != 0 {
         return Answer::No(no);
     }
-    if proxy::has_item(store, proxy as usize, BlockNumber(block)) {
-        proxy::remove_item(store, proxy as usize, BlockNumber(block));
-        return Answer::Yes(0);
-    }
-    Answer::No(9)
+    proxy::remove_item(store, settings, proxy as usize, BlockNumber(block));
+    Answer::Yes(0)
 }

@@ -21,7 +21,7 @@ use Rattle.layout.proofs.Sound.{SoundWords}
 use Rattle.layout.proofs.Changes.{again-word}
 use Rattle.parts.specs.Parts.{with-id}
 use Rattle.format.specs.First.{new-brick}
-use Rattle.lent.proofs.PlaceChange.{ChangesPlace, Stands, brick-changes}
+use Rattle.lent.proofs.LentPlace.{ChangesPlace, Filled, brick-changes}
 use Rattle.membership.specs.Places.{risen, crashed, joined-status}
 
 -- ---- an empty place's words are those past its id, whatever stood there
@@ -55,7 +55,7 @@ blank-places s p new id there q x n =
     ap (λ (b : Brick). s .ids q & b) (sym (blank-others s id there (s .ids q) n))
     ∙ ap (λ (i : ℕ). i & brick-in (blanked s id there) i) (sym (upd-other (s .ids) p q new x))
 
-module _ (s : State) (p : ℕ) (at : Stands s p) where
+module _ (s : State) (p : ℕ) (at : Filled s p) where
   abbrev id : ℕ
   id = s .ids p
 

@@ -1,65 +1,51 @@
 -- The count of added chunks, read from the store.
 use mathlib.Core.Path.{_≡_, refl, sym, ap, _∙_}
-use mathlib.Core.Bool.{Bool, true, false, not, cond}
+use mathlib.Core.Bool.{Bool, true, false, cond}
 use mathlib.Core.List.{List}
 use Prim.Native.Nat.{ℕ, zero, suc, _+_, _*_, _/_, _≤_, _<_}
 use native.Mathlib.Numerals.{add-one}
+use native.Mathlib.Nat.{le-refl}
 use native.Mathlib.Omega.{arith}
 use lib.Dec.{leb}
-use lib.ListN.{length, take, getD}
-use borrow.Author.Tests.{eq-eqb, ne-eqb, le-leb}
-use Rattle.lists.specs.Tests.{_and_, _or_, some-below, count-below}
-use Rattle.lists.proofs.Tests.{by-eq, both, some-at, no-first, no-second, yes-first, or-l, or-no, count-at-most}
+use lib.ListN.{length, getD}
+use borrow.Author.Tests.{le-leb}
+use Rattle.lists.specs.Tests.{count-below}
+use Rattle.lists.proofs.Tests.{by-eq, count-at-most}
 use Rattle.words.specs.Words.{words}
 use Rattle.words.proofs.Laws.{length-words}
 use Rattle.rules.specs.declared.settings.Settings.{Settings}
 use Rattle.rules.specs.Limits.{buckets}
-use Rattle.rules.specs.Numbers.{home-of}
-use Rattle.rules.specs.Entries.{Entry, names}
+use Rattle.rules.specs.Entries.{Entry}
 use Rattle.rules.specs.Chunks.{Chunk, held}
 use Rattle.rules.specs.State.{State}
-use Rattle.rules.specs.Parts.{circle, holder}
-use Rattle.rules.specs.Upkeep.{of-first-two, mend-buckets, mended}
+use Rattle.rules.specs.Upkeep.{mend-buckets, mended}
 use Rattle.log.proofs.Codec.{dec-length}
 use Rattle.layout.specs.Store.{decode}
 use Rattle.lent.specs.Stores.{StoreOf}
 use Rattle.lent.specs.Parts.{LogPart}
-use Rattle.named.specs.Tables.{EntriesAt, named, key-in, names-first, names-at}
-use Rattle.named.proofs.Names.{names-first as names-first-is}
+use Rattle.named.specs.Tables.{EntriesAt, named, AllNamed}
 use Rattle.named.proofs.Copies.{inside-store, entries-inside, table-length, table-key}
-use Rattle.mending.specs.Keys.{key-at, before, lacks, adds, added-in, added}
-use Rattle.mending.proofs.Mending.{buckets-length}
-use Rattle.mending.proofs.Decided.{wants-not, wants-none, wants-some}
-use Rattle.mend.specs.Counts.{TableFit, CountAt, named-below}
-
--- ---- a test of each index that fails
-pub some-none : (n : ℕ) (test : ℕ → Bool) → ((k : ℕ) → k < n → test k ≡ false) → some-below n test ≡ false
-unfolding some-below
-some-none zero test e = refl
-some-none (suc n) test e = or-no _ _ (some-none n test (λ k p. e k (omega arith))) ∙ e n (omega arith)
-
--- ---- the rows of a table
-pub row-found : (ws : List ℕ) (from n k i : ℕ) → i < n → k ≡ key-in ws from i → names-first ws from n k ≡ true
-unfolding names-first
-row-found ws from n k i p e = some-at n _ i p (eq-eqb k (key-in ws from i) e)
-
-pub row-none : (ws : List ℕ) (from n k : ℕ) → ((i : ℕ) → i < n → k ≡ key-in ws from i → ⊥) → names-first ws from n k ≡ false
-unfolding names-first
-row-none ws from n k u = some-none n _ (λ i p. ne-eqb k (key-in ws from i) (u i p))
-
-pub none-at : (ws : List ℕ) (from k : ℕ) → from ≡ 0 → names-at ws from k ≡ false
-unfolding names-at
-none-at ws from k e = rw (eq-eqb from 0 e)
-
-pub some-names : (ws : List ℕ) (from n k : ℕ) → (from ≡ 0 → ⊥) → n ≡ getD ws from 0 → names-first ws from n k ≡ names-at ws from k
-unfolding names-at
-some-names ws from n k u e = rw (ne-eqb from 0 u, e)
+use Rattle.layout.proofs.Bounds.{few-buckets}
+use Rattle.mend.specs.Keys.{key-at, before, adds, added-in, added}
+use Rattle.mend.proofs.Flagged.{met-by}
+use Rattle.mend.proofs.Mending.{before-more, before-bucket, buckets-length}
+use Rattle.mend.specs.Flags.{Met, Meets}
+use Rattle.mend.specs.Counts.{TableFit, Counts, CountAt, named-below}
 
 -- ---- the tables of the buckets
-module _ (c : Settings) (bs : List ℕ) (v : StoreOf c bs) (g from : ℕ) (p : g < buckets c) (a : EntriesAt c (words bs) g (named (decode (words bs)) g) from)
+module _ (c : Settings) (bs tables : List ℕ) (o : AllNamed c bs tables) (g : ℕ) (p : g < buckets c)
   where
     abbrev es : List Entry
     es = named (decode (words bs)) g
+
+    abbrev from : ℕ
+    from = getD tables g 0
+
+    a : EntriesAt c (words bs) g (named (decode (words bs)) g) (getD tables g 0)
+    a = o .lie g p
+
+    v : StoreOf c bs
+    v = o .store
 
     pub table-fit : 0 < from → TableFit c from (words bs) (length bs)
     table-fit z = record { inside = omega (arith, inside-store c g from p (a .lies z), v .size); few = a .table z .few }
@@ -83,49 +69,9 @@ module _ (c : Settings) (bs : List ℕ) (v : StoreOf c bs) (g from : ℕ) (p : g
     pub named-few : length es ≤ c .entries
     named-few = by-eq from 0 (λ _ e. omega (arith, ap length (a .none e))) (λ _ e. let z : 0 < from = omega arith in omega (arith, count-is z, a .table z .few))
 
-    pub first-is : (i k : ℕ) → i ≤ length es → 0 < from → names-first (words bs) from i k ≡ names (take i es) k
-    unfolding names-first
-    first-is i k q z =
-        sym (names-first-is es (key-in (words bs) from) (table-key c (words bs) es from (a .table z) (entries-inside c bs v g from p a z)) k i q)
-
--- ---- one entry
-module _ (s : State) (id g i k : ℕ) (e : k ≡ key-at s g i) where
-  abbrev earlier : Bool
-  earlier = some-below g (λ h. names (named s h) k)
-
-  adds-by : adds s id g i ≡ (lacks s id k and not (earlier or names (take i (named s g)) k))
-  unfolding adds before
-  adds-by = ap (λ (q : ℕ). lacks s id q and not (some-below g (λ h. names (named s h) q) or names (take i (named s g)) q)) (sym e)
-
-  pub not-lacking : lacks s id k ≡ false → adds s id g i ≡ false
-  not-lacking n = adds-by ∙ no-first _ _ n
-
-  pub earlier-bucket : earlier ≡ true → adds s id g i ≡ false
-  earlier-bucket y = adds-by ∙ no-second _ _ (ap not (or-l _ _ y))
-
-  pub last-test : lacks s id k ≡ true → earlier ≡ false → adds s id g i ≡ not (names (take i (named s g)) k)
-  last-test y n = adds-by ∙ yes-first _ _ y ∙ ap not (or-no _ _ n)
-
--- ---- lacking, as the code decides it
-module _ (s : State) (p id k : ℕ) (e : id ≡ s .ids p) where
-  here : (b : Bool) → of-first-two id (circle s (home-of k)) ≡ b → of-first-two (s .ids p) (circle s (home-of k)) ≡ b
-  here b y = ap (λ (i : ℕ). of-first-two i (circle s (home-of k))) (sym e) ∙ y
-
-  pub lacks-first : of-first-two id (circle s (home-of k)) ≡ false → lacks s (s .ids p) k ≡ false
-  unfolding lacks
-  lacks-first n = no-first _ _ (wants-not s (s .ids p) k (here false n))
-
-  pub lacks-held : held (s .bricks .log (s .ids p)) k ≡ true → lacks s (s .ids p) k ≡ false
-  unfolding lacks
-  lacks-held y = no-second _ _ (ap not y)
-
-  pub lacks-none : holder s k ≡ 0 → lacks s (s .ids p) k ≡ false
-  unfolding lacks
-  lacks-none z = no-first _ _ (wants-none s (s .ids p) k z)
-
-  pub lacks-it : of-first-two id (circle s (home-of k)) ≡ true → held (s .bricks .log (s .ids p)) k ≡ false → 0 < holder s k → lacks s (s .ids p) k ≡ true
-  unfolding lacks
-  lacks-it y n h = both _ _ (wants-some s (s .ids p) k (here true y) h) (ap not n)
+    pub bucket-count : (r : ℕ) → CountAt from (words bs) r → r ≡ length es
+    bucket-count r h =
+        by-eq from 0 (λ _ e. h .none e ∙ sym (ap length (a .none e))) (λ _ e. let z : 0 < from = omega arith in h .some z ∙ sym (count-is z))
 
 -- ---- the sums
 count-next : (n : ℕ) (test : ℕ → Bool) → count-below (n + 1) test ≡ cond (test n) 1 0 + count-below n test
@@ -135,11 +81,21 @@ pub count-start : (s : State) (id g : ℕ) → added-in s id g 0 ≡ 0
 unfolding count-below
 count-start s id g = refl
 
-pub count-more : (s : State) (id g i : ℕ) (r : Bool) (more count : ℕ) → r ≡ adds s id g i → more ≡ cond r 1 0 → count ≡ added-in s id g i
-    → count + more ≡ added-in s id g (i + 1)
-count-more s id g i r more count e m n =
-    let z = m ∙ ap (λ (b : Bool). cond b 1 0) e in
-    omega (arith, count-next i (adds s id g))
+-- one entry more: what it adds, and the flags after it
+pub entry-turn : (c : Settings) (s : State) (id g i key : ℕ) (flags after : List ℕ) (r : Bool) (count more : ℕ) → i < length (named s g) → key ≡ key-at s g i
+    → Meets c s id key flags after r → Met c s id (before s g i) flags → count ≡ added-in s id g i → more ≡ cond r 1 0
+    → (count + more ≡ added-in s id g (i + 1)) × Met c s id (before s g (i + 1)) after
+entry-turn c s id g i key flags after r count more p e h m q z =
+    let new : r ≡ adds s id g i = unfold adds in rw (sym e) (h .new (before s g i) m) in
+    let one = z ∙ ap (λ (b : Bool). cond b 1 0) new in (
+      omega (arith, count-next i (adds s id g)),
+      met-by c s id _ _ after (λ k. rw e (sym (before-more s g i k p)) ∙ ap (λ (n : ℕ). before s g n k) (sym (add-one i))) (h .met (before s g i) m),
+    )
+
+pub bucket-done : (c : Settings) (s : State) (id g n : ℕ) (flags : List ℕ) → n ≡ length (named s g) → Met c s id (before s g n) flags
+    → Met c s id (before s (g + 1) 0) flags
+bucket-done c s id g n flags e m =
+    met-by c s id _ _ flags (λ k. ap (λ (i : ℕ). before s g i k) e ∙ sym (before-bucket s g k) ∙ ap (λ (h : ℕ). before s h 0 k) (sym (add-one g))) m
 
 pub count-few : (s : State) (id g i : ℕ) → added-in s id g i ≤ i
 count-few s id g i = count-at-most i (adds s id g)
@@ -168,16 +124,31 @@ names-start s = refl
 pub names-more : (s : State) (g : ℕ) → named-below s (g + 1) ≡ length (named s g) + named-below s g
 names-more s g = ap (named-below s) (add-one g) ∙ (unfold named-below in refl)
 
+-- so few that no sum of them overflows
+pub named-at-most : (c : Settings) (bs tables : List ℕ) → AllNamed c bs tables → (n : ℕ) → n ≤ buckets c → named-below (decode (words bs)) n ≤ n * 1024
+unfolding named-below
+named-at-most c bs tables k zero p = omega arith
+named-at-most c bs tables k (suc n) p =
+    let few = named-few c bs tables k n (omega arith) in
+    omega (arith, named-at-most c bs tables k n (omega arith), k .store .limits .entries-to)
+
 added-few : (s : State) (id n : ℕ) → added s id n ≤ named-below s n
 unfolding added named-below
 added-few s id zero = omega arith
 added-few s id (suc n) = omega (arith, added-few s id n, count-few s id n (length (named s n)))
 
-pub bucket-count : (c : Settings) (bs : List ℕ) (v : StoreOf c bs) (g from : ℕ) (p : g < buckets c)
-    → EntriesAt c (words bs) g (named (decode (words bs)) g) from → (r : ℕ) → CountAt from (words bs) r → r ≡ length (named (decode (words bs)) g)
-bucket-count c bs v g from p a r h =
-    by-eq from 0 (λ _ e. h .none e ∙ sym (ap length (a .none e)))
-    (λ _ e. let z : 0 < from = omega arith in h .some z ∙ sym (count-is c bs v g from p a z))
+pub added-at-most : (c : Settings) (bs : List ℕ) (place : ℕ) (tables : List ℕ) → Counts c bs place tables → (n : ℕ) → n ≤ buckets c
+    → added (decode (words bs)) (decode (words bs) .ids place) n ≤ n * 1024
+added-at-most c bs place tables k n p =
+    let s = decode (words bs) in omega (arith, added-few s (s .ids place) n, named-at-most c bs tables (k .known) n p)
+
+-- in all
+pub named-small : (c : Settings) (bs tables : List ℕ) → AllNamed c bs tables → named-below (decode (words bs)) (buckets c) ≤ 65536
+named-small c bs tables k = omega (arith, named-at-most c bs tables k (buckets c) (le-refl _), few-buckets c)
+
+pub added-small : (c : Settings) (bs : List ℕ) (place : ℕ) (tables : List ℕ) → Counts c bs place tables
+    → added (decode (words bs)) (decode (words bs) .ids place) (buckets c) ≤ 65536
+added-small c bs place tables k = omega (arith, added-at-most c bs place tables k (buckets c) (le-refl _), few-buckets c)
 
 -- ---- the answer
 module _ (c : Settings) (s : State) (id held : ℕ) (e : s .settings ≡ c) (n : held ≡ length (s .bricks .log id)) where

@@ -1,160 +1,73 @@
 // Question 10 of mend: is there room for all chunks that it adds? A chunk is added where its key is named first, so each is counted once, and before
-// anything changes.
+// anything changes. A chunk that the place lacks lies in some row of some place's log, and no other chunk does: a flag for each row and place says
+// whether its key was named before.
 ghost use mathlib.Core.Path.{_≡_};
+ghost use mathlib.Core.Bool.{not};
 ghost use Prim.Native.Nat.{_+_, _*_, _<_, _≤_};
 ghost use lib.Dec.{leb};
-ghost use lib.ListN.{length};
-ghost use Rattle.lists.specs.Tests.{some-below};
+ghost use lib.ListN.{length, getD};
 ghost use Rattle.words.specs.Words.{words};
-ghost use Rattle.rules.specs.Limits.{buckets};
-ghost use Rattle.rules.specs.Entries.{names};
+ghost use Rattle.rules.specs.Limits.{buckets, max-places, max-chunks};
 ghost use Rattle.rules.specs.Upkeep.{mended};
 ghost use Rattle.layout.specs.Store.{decode};
-ghost use Rattle.named.specs.Tables.{named, names-first, names-at};
-ghost use Rattle.mending.specs.Fit.{UpAt};
-ghost use Rattle.mending.specs.Keys.{lacks, adds, added-in, added};
-ghost use Rattle.mend.specs.Counts.{TableFit, Known, Counts, CountsAt, CountAt, named-below, Sum};
+ghost use Rattle.named.specs.Tables.{named, AllNamed};
+ghost use Rattle.mend.specs.Fit.{UpAt};
+ghost use Rattle.mend.specs.Flags.{flag, raised, HoldsAt, Raises, Met, Meets};
+ghost use Rattle.mend.specs.Keys.{before, added-in, added};
+ghost use Rattle.mend.specs.Counts.{TableFit, Counts, CountAt, named-below};
+use crate::act;
+use crate::act::Act;
 use layout::sizes;
-use lent::brick::Found;
 use lent::place;
 use rules::numbers::ChunkKey;
 use rules::settings::Settings;
 
-// ---- keys named before
+// ---- flags: a byte for each row, in it a bit for each place
 
-// Is the key that of one of the first n rows of the table at word `from`?
-fn names_first(store: &[u8], from: usize, n: usize, key: ChunkKey) -> bool
-    requires { ⌜ 8 * (from + (1 + n * 2)) ≤ length (now store) ⌝ }
-    ensures { λ r. ⌜ r ≡ names-first (words (now (store .entry))) from n (key .0) ⌝ }
-{
-    let mut i = 0;
-    while i < n {
-        if key.0 == words::read(store, from + (2 + i * sizes::ENTRY_WORDS)) {
-            return true;
-        }
-        i += 1;
-    }
-    false
-}
+const BITS: [u8; Settings::MAX_PLACES] = [1, 2, 4, 8, 16, 32, 64, 128];
 
-// Is it that of one in use? Where `from` is 0 there is none.
-fn names_at(store: &[u8], settings: Settings, from: usize, key: ChunkKey) -> bool
-    requires { ⌜ (0 < from → TableFit settings from (words (now store)) (length (now store))) ⌝ }
-    ensures { λ r. ⌜ r ≡ names-at (words (now (store .entry))) from (key .0) ⌝ }
+// The flag of a row and place goes up. Was it down?
+fn raise(flags: &mut [u8], row: usize, place: usize) -> bool
+    requires { ⌜ (row < length (now flags)) × (place < max-places) ⌝ }
+    ensures { λ r. ⌜ (r ≡ not (flag (now (flags .entry)) row place)) × (now (flags .exit) ≡ raised (now (flags .entry)) row place) ⌝ }
 {
-    if from == 0 {
+    let bit = BITS[place];
+    let byte = flags[row];
+    if byte / bit % 2 == 1 {
         return false;
     }
-    let n = words::read(store, from) as usize;
-    names_first(store, from, n, key)
-}
-
-// Does one of the first buckets name the key?
-fn named_before(
-    store: &[u8],
-    settings: Settings,
-    tables: &[usize],
-    bucket: usize,
-    key: ChunkKey,
-) -> bool
-    requires { ⌜ Known settings (now store) (now tables) × (bucket < buckets settings) ⌝ }
-    ensures { λ r. ⌜ r ≡ some-below bucket (λ g. names (named (decode (words (now (store .entry)))) g) (key .0)) ⌝ }
-{
-    let mut g = 0;
-    while g < bucket {
-        if names_at(store, settings, tables[g], key) {
-            return true;
-        }
-        g += 1;
-    }
-    false
+    flags[row] = byte + bit;
+    true
 }
 
 // ---- chunks that are added
 
-// Does the place lack the key's chunk, which it is to get?
-fn lacks(store: &[u8], settings: Settings, place: usize, key: ChunkKey) -> bool
-    requires { ⌜ UpAt settings (now store) place ⌝ }
-    ensures { λ r. ⌜ r ≡ lacks (decode (words (now (store .entry)))) (decode (words (now (store .entry))) .ids place) (key .0) ⌝ }
+// The flag of the row where the chunk lies at another place goes up. Was it down?
+fn raise_at(store: &[u8], settings: Settings, flags: &mut [u8], place: usize, key: ChunkKey) -> bool
+    requires { ⌜ HoldsAt settings (now store) place (key .0) × (length (now flags) ≡ max-chunks) ⌝ }
+    ensures { λ r. ⌜ Raises (decode (words (now (store .entry)))) place (key .0) (now (flags .entry)) (now (flags .exit)) r ⌝ }
 {
-    let id = place::id(store, settings, place);
-    if !holders::of_first_two(store, settings, id, key) {
-        return false;
-    }
-    if holders::holds_at(store, settings, place, key) {
-        return false;
-    }
-    match holders::holder(store, settings, key) {
-        Found::At(_) => true,
-        Found::Nowhere => false,
+    let log = place::log(store, settings, place);
+    match log::find(log, settings.chunks, settings.size / sizes::WORD_BYTES, key) {
+        log::Found::At(row) => raise(flags, row, place),
+        log::Found::Nothing => false,
     }
 }
 
-// Does entry i of a bucket add a chunk?
-fn adds(
-    store: &[u8],
-    settings: Settings,
-    place: usize,
-    tables: &[usize],
-    bucket: usize,
-    i: usize,
-) -> bool
-    requires { ⌜ CountsAt settings (now store) place (now tables) bucket i ⌝ }
-    ensures { λ r. ⌜ r ≡ adds (decode (words (now (store .entry)))) (decode (words (now (store .entry))) .ids place) bucket i ⌝ }
+// Does the place lack the key's chunk, which it is to get, and was the key not met before?
+fn adds(store: &[u8], settings: Settings, place: usize, key: ChunkKey, flags: &mut [u8]) -> bool
+    requires { ⌜ UpAt settings (now store) place × (length (now flags) ≡ max-chunks) ⌝ }
+    ensures { λ r. ⌜ Meets settings (decode (words (now (store .entry)))) (decode (words (now (store .entry))) .ids place) (key .0)
+        (now (flags .entry)) (now (flags .exit)) r ⌝ }
 {
-    let from = tables[bucket];
-    let key = ChunkKey(words::read(store, from + (2 + i * sizes::ENTRY_WORDS)));
-    if !lacks(store, settings, place, key) {
-        return false;
+    match act::for_key(store, settings, place, key) {
+        Act::Nothing => false,
+        Act::Save => false,
+        Act::Bring(from) => raise_at(store, settings, flags, from, key),
     }
-    if named_before(store, settings, tables, bucket, key) {
-        return false;
-    }
-    !names_first(store, from, i, key)
 }
 
-// How many chunks does a bucket add?
-fn added_in(
-    store: &[u8],
-    settings: Settings,
-    place: usize,
-    tables: &[usize],
-    bucket: usize,
-) -> usize
-    requires { ⌜ Counts settings (now store) place (now tables) × (bucket < buckets settings) ⌝ }
-    ensures { λ r. ⌜ r ≡ added-in (decode (words (now (store .entry)))) (decode (words (now (store .entry))) .ids place) bucket
-        (length (named (decode (words (now (store .entry)))) bucket)) ⌝ }
-{
-    let from = tables[bucket];
-    if from == 0 {
-        return 0;
-    }
-    let n = words::read(store, from) as usize;
-    let mut count = 0;
-    let mut i = 0;
-    while i < n {
-        count += adds(store, settings, place, tables, bucket, i) as usize;
-        i += 1;
-    }
-    count
-}
-
-// How many chunks are added in all?
-fn added(store: &[u8], settings: Settings, place: usize, tables: &[usize]) -> usize
-    requires { ⌜ Counts settings (now store) place (now tables) ⌝ }
-    ensures { λ r. ⌜ Sum (added (decode (words (now (store .entry)))) (decode (words (now (store .entry))) .ids place) (buckets settings)) r ⌝ }
-{
-    let mut count = 0;
-    let mut bucket = 0;
-    while bucket < sizes::BUCKETS {
-        count += added_in(store, settings, place, tables, bucket);
-        bucket += 1;
-    }
-    count
-}
-
-// ---- entries that are named: at most so many chunks are added
-
+// So many entries has a bucket whose table lies at word `from`, and none where `from` is 0.
 fn count_at(store: &[u8], settings: Settings, from: usize) -> usize
     requires { ⌜ (0 < from → TableFit settings from (words (now store)) (length (now store))) ⌝ }
     ensures { λ r. ⌜ CountAt from (words (now (store .entry))) r ⌝ }
@@ -165,13 +78,74 @@ fn count_at(store: &[u8], settings: Settings, from: usize) -> usize
     words::read(store, from) as usize
 }
 
-fn named_count(store: &[u8], settings: Settings, tables: &[usize]) -> usize
-    requires { ⌜ Known settings (now store) (now tables) ⌝ }
-    ensures { λ r. ⌜ Sum (named-below (decode (words (now (store .entry)))) (buckets settings)) r ⌝ }
+// How many chunks does a bucket add?
+fn added_in(
+    store: &[u8],
+    settings: Settings,
+    place: usize,
+    tables: &[usize],
+    bucket: usize,
+    flags: &mut [u8],
+) -> usize
+    requires { ⌜ Counts settings (now store) place (now tables) × (bucket < buckets settings)
+        × Met settings (decode (words (now store))) (decode (words (now store)) .ids place) (before (decode (words (now store))) bucket 0) (now flags) ⌝ }
+    ensures { λ r. ⌜ (r ≡ added-in (decode (words (now (store .entry)))) (decode (words (now (store .entry))) .ids place) bucket
+        (length (named (decode (words (now (store .entry)))) bucket)))
+        × Met settings (decode (words (now (store .entry)))) (decode (words (now (store .entry))) .ids place)
+        (before (decode (words (now (store .entry)))) (bucket + 1) 0) (now (flags .exit)) ⌝ }
 {
+    let from = tables[bucket];
+    let n = count_at(store, settings, from);
+    let mut count = 0;
+    let mut i = 0;
+    while i < n {
+        let key = ChunkKey(words::read(store, from + (2 + i * sizes::ENTRY_WORDS)));
+        count += adds(store, settings, place, key, flags) as usize;
+        i += 1;
+    }
+    count
+}
+
+// How many do all buckets add, where no flag is up?
+fn added_by(
+    store: &[u8],
+    settings: Settings,
+    place: usize,
+    tables: &[usize],
+    flags: &mut [u8],
+) -> usize
+    requires { ⌜ Counts settings (now store) place (now tables)
+        × Met settings (decode (words (now store))) (decode (words (now store)) .ids place) (before (decode (words (now store))) 0 0) (now flags) ⌝ }
+    ensures { λ r. ⌜ r ≡ added (decode (words (now (store .entry)))) (decode (words (now (store .entry))) .ids place) (buckets settings) ⌝ }
+{
+    let n = sizes::buckets(settings);
     let mut count = 0;
     let mut bucket = 0;
-    while bucket < sizes::BUCKETS {
+    while bucket < n {
+        count += added_in(store, settings, place, tables, bucket, flags);
+        bucket += 1;
+    }
+    count
+}
+
+fn added(store: &[u8], settings: Settings, place: usize, tables: &[usize]) -> usize
+    requires { ⌜ Counts settings (now store) place (now tables) ⌝ }
+    ensures { λ r. ⌜ r ≡ added (decode (words (now (store .entry)))) (decode (words (now (store .entry))) .ids place) (buckets settings) ⌝ }
+{
+    let mut flags = [0u8; Settings::MAX_CHUNKS];
+    added_by(store, settings, place, tables, &mut flags)
+}
+
+// ---- entries that are named: at most so many chunks are added
+
+fn named_count(store: &[u8], settings: Settings, tables: &[usize]) -> usize
+    requires { ⌜ AllNamed settings (now store) (now tables) ⌝ }
+    ensures { λ r. ⌜ r ≡ named-below (decode (words (now (store .entry)))) (buckets settings) ⌝ }
+{
+    let n = sizes::buckets(settings);
+    let mut count = 0;
+    let mut bucket = 0;
+    while bucket < n {
         count += count_at(store, settings, tables[bucket]);
         bucket += 1;
     }

@@ -23,7 +23,8 @@ use Rattle.rules.specs.State.{State}
 use Rattle.rules.specs.Parts.{primary-memory}
 use Rattle.codec.proofs.Focus.{_through_}
 use Rattle.layout.specs.Disk.{entry-row, Brick, blank-brick}
-use Rattle.layout.specs.Layout.{entries-codec, copy-codec, settings-of, copy-words, copies-words, log-words, place-words, store-words, place-at, copies-at, log-at}
+use Rattle.layout.specs.Layout.{entries-codec, copy-codec, settings-of, copy-words, copies-words, log-words, place-words, store-words, place-at, copies-at}
+use Rattle.layout.specs.Layout.{log-at}
 use Rattle.layout.specs.Store.{brick-in, decode}
 use Rattle.layout.proofs.Sound.{SoundWords}
 use Rattle.layout.proofs.Changes.{seen}
@@ -113,7 +114,8 @@ beside-log c g p at m l h =
     let e = h .begins in
     by-lt p (h .place)
     (λ _ q. inr (omega (arith, fits-in (place-words c) q)))
-    (λ _ q. by-lt (h .place) p (λ _ r. inl (omega (arith, fits-in (place-words c) r))) (λ _ r. let z : h .place ≡ p = omega arith in inl (omega (arith, ap (λ (k : ℕ). k * place-words c) z))))
+    (λ _ q. by-lt (h .place) p (λ _ r. inl (omega (arith, fits-in (place-words c) r))) (λ _ r. let z : h .place ≡ p = omega arith in inl
+    (omega (arith, ap (λ (k : ℕ). k * place-words c) z))))
 
 pub inside-store : (c : Settings) (g at : ℕ) → g < buckets c → AtCopies c g at → at + copy-words c ≤ store-words c
 inside-store c g at m h = let a = fits-in (copies-words c) m in let b = fits-in (place-words c) (h .inside) in omega (arith, h .begins)

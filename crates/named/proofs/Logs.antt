@@ -86,7 +86,8 @@ log-changed-by ws sd p l o k =
     let b = fits-in (place-words c) l in
     let size = sd .size in
     part-changed ws sd t refl p l o (one-log s (s .ids p) k) (log-of c) ((refl, o), ((refl, refl), refl))
-    ∙ ap (λ (m : List Chunk). on-run (place-at c p) (place-words c) (on-run (log-at c) (log-words c) (log-codec c .enc m)) ws) (upd-same (s .bricks .log) (s .ids p) k)
+    ∙ ap (λ (m : List Chunk). on-run (place-at c p) (place-words c) (on-run (log-at c) (log-words c) (log-codec c .enc m)) ws)
+    (upd-same (s .bricks .log) (s .ids p) k)
     ∙ on-within (place-at c p) (place-words c) (log-at c) (log-words c) (log-codec c .enc k) ws (omega arith) (omega arith)
 
 pub log-changed : (c : Settings) (bs : List ℕ) → StoreOf c bs → (p : ℕ) → p < c .places → 0 < decode (words bs) .ids p → (k : List Chunk)

@@ -16,14 +16,14 @@ use Rattle.hex.specs.Hex.{hex}
 use Rattle.hex.proofs.Laws.{hex-length}
 use Rattle.text.specs.Table.{shape-of}
 use Rattle.text.specs.declared.Shape.{Shape}
-use Rattle.rules.specs.Event.{kind-count, kind-at, Parts}
+use Rattle.rules.specs.Event.{kind-count, kind-at, Parts, parts-from}
 use Rattle.text.specs.Fields.{comma, parted}
 use Rattle.text.specs.Lines.{longest, line-feed, field-texts, line-of, is-well-formed}
 use Rattle.lists.specs.Tests.{_and_}
 use Rattle.text.proofs.Laws.{form-ok, row-len, row-numbers, row-payload}
 use Rattle.text.proofs.Fields.{parted-append}
 use Rattle.text.proofs.RoundTrip.{WellFormed, well-formed, formed-well}
-use Rattle.print.specs.Answers.{parts-from, can-print, printed, line-after}
+use Rattle.print.specs.Answers.{can-print, printed, line-after}
 use Rattle.print.specs.Steps.{number-texts, length-of-line}
 use Rattle.print.specs.declared.Printed.the-variants.{Length, Refused}
 

@@ -1,19 +1,15 @@
 -- What print answers and leaves.
 use mathlib.Core.Bool.{Bool, cond}
-use mathlib.Core.List.{List, [], _∷_}
+use mathlib.Core.List.{List}
 use Prim.Native.Nat.{ℕ}
 use lib.Dec.{leb}
-use lib.ListN.{length, take}
+use lib.ListN.{length}
 use Rattle.area.specs.Area.{onto}
-use Rattle.rules.specs.Event.{kind-at, Parts}
-use Rattle.text.specs.Lines.{parts, line-of, is-well-formed}
+use Rattle.rules.specs.Event.{Parts}
+use Rattle.text.specs.Lines.{line-of, is-well-formed}
 use Rattle.lists.specs.Tests.{_and_}
 use Rattle.print.specs.declared.Printed.{Printed}
 use Rattle.print.specs.declared.Printed.the-variants.{Length, Refused}
-
--- numbers and data that the kind does not have are not looked at
-unfoldable pub parts-from : ℕ → ℕ → ℕ → ℕ → List ℕ → Parts
-parts-from k a b c bytes = parts k (take (kind-at k .numbers) (a ∷ b ∷ c ∷ [])) (cond (kind-at k .payload) bytes [])
 
 -- question 3: kind known, data of S bytes, and the area for the text long enough? So much room is lent for the line
 unfoldable pub can-print : ℕ → Parts → ℕ → Bool

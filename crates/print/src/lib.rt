@@ -2,14 +2,14 @@
 ghost use mathlib.Core.Path.{_≡_};
 ghost use mathlib.Core.List.{_∷_};
 ghost use Prim.Native.Nat.{_+_, _*_, _≤_};
-ghost use Rattle.rules.specs.Event.{kind-count};
+ghost use Rattle.rules.specs.Event.{kind-count, parts-from};
 ghost use lib.ListN.{length};
 ghost use Rattle.area.specs.Area.{onto};
 ghost use Rattle.decimal.specs.Decimal.{decimal};
 ghost use Rattle.hex.specs.Hex.{hex};
 ghost use Rattle.text.specs.Fields.{comma};
 ghost use Rattle.text.specs.Lines.{line-of};
-ghost use Rattle.print.specs.Answers.{parts-from, printed, line-after};
+ghost use Rattle.print.specs.Answers.{printed, line-after};
 ghost use Rattle.print.specs.Steps.{number-texts, length-of-line};
 
 // The length of the line, or a no to question 3.

@@ -1,72 +1,83 @@
--- What an answer of get says of its outcome.
+-- What get's questions say of its outcome, and of the call that fills an area.
 use mathlib.Core.Path.{_≡_, refl, sym, ap, _∙_}
-use mathlib.Core.List.{[]}
-use mathlib.Core.Bool.{true}
+use mathlib.Core.List.{List, []}
+use mathlib.Core.Bool.{true, false}
 use Prim.Native.Nat.{ℕ, zero, suc}
-use native.Mathlib.Omega.{arith}
+use lib.Dec.{eqb}
+use lib.ListN.{length}
+use borrow.Author.Tests.{ne-eqb}
+use Rattle.lists.specs.Tests.{_and_}
+use Rattle.words.specs.Words.{words}
+use Rattle.rules.specs.declared.settings.Settings.{Settings}
 use Rattle.rules.specs.Event.{Event}
+use Rattle.rules.specs.Call.{is-zero-block}
 use Rattle.rules.specs.State.{State}
 use Rattle.rules.specs.Question.{first-no}
 use Rattle.rules.specs.Reads.{mapped, get-asks, get-bytes}
 use Rattle.rules.specs.Step.{rule, step}
+use Rattle.rules.proofs.Questions.{all-yes}
+use Rattle.rules.proofs.Step.{code-is}
+use Rattle.layout.specs.Store.{decode}
 use Rattle.lent.specs.declared.Answer.the-variants.{Yes, No}
-use Rattle.lent.specs.Performs.{answer, answer-of}
-use Rattle.lent.proofs.Questions.{all-yes}
-use Rattle.reads.specs.Get.{is-found, key-bytes}
+use Rattle.lent.specs.Performs.{answer}
+use Rattle.lent.specs.Stores.{StoreOf}
+use Rattle.lent.proofs.Stores.{settings-are}
+use Rattle.reads.specs.Get.{is-found, key-bytes, Gets, GetsInto}
+use Rattle.reads.proofs.Contents.{bytes-size}
 
-pub record Accepted (s : State) (p b k : ℕ) : Type 0 where
-  pub asked : first-no (get-asks s p b) ≡ 0
-  pub mapped : k ≡ mapped s b
-  pub number : step s (Event.get p b) .code ≡ 0
-  pub key : k ≡ step s (Event.get p b) .said .key
-  pub bytes : key-bytes s k ≡ step s (Event.get p b) .said .bytes
-
-pub record Refused (s : State) (p b n : ℕ) : Type 0 where
-  pub asked : first-no (get-asks s p b) ≡ n
-  pub some : n ≡ 0 → ⊥
-  pub number : n ≡ step s (Event.get p b) .code
-  pub key : 0 ≡ step s (Event.get p b) .said .key
-  pub bytes : [] ≡ step s (Event.get p b) .said .bytes
+-- the size that the code has read
+pub size-is : (c : Settings) (bs : List ℕ) → StoreOf c bs → c .size ≡ decode (words bs) .settings .size
+size-is c bs v = ap (λ (x : Settings). x .size) (sym (settings-are c bs v))
 
 module _ (s : State) (p b : ℕ) where
-  -- get's bytes are those of the key
-  pub mapped-bytes : (k : ℕ) → k ≡ mapped s b → key-bytes s k ≡ get-bytes s b
-  unfolding key-bytes get-bytes
-  mapped-bytes k e = rw e refl
+  -- ---- the part
+  pub refused : (n : ℕ) → n ≡ first-no (get-asks s p b) → (n ≡ 0 → ⊥) → Gets s p b n 0 []
+  unfolding step rule
+  refused zero e k = absurd (k refl)
+  refused (suc n) e k = record { number = rw (sym e) refl; found = rw (sym e) refl; same = rw (sym e) refl }
 
-  accepted-by : (k n : ℕ) → first-no (get-asks s p b) ≡ n → Yes k ≡ answer-of (step s (Event.get p b)) → Accepted s p b k
-  unfolding step rule answer
-  accepted-by k zero e h =
-      let same : Yes k ≡ Yes (mapped s b) = rw e at h in
-      let m : k ≡ mapped s b = cc in
-      record { asked = e; mapped = m; number = rw e refl; key = rw e m; bytes = rw e (mapped-bytes k m) }
-  accepted-by k (suc n) e h =
-      let same : Yes k ≡ No (suc n) = rw e at h in
-      let z : _≡_ {A = ℕ} 0 1 = cc in
-      absurd (omega arith)
+  pub accepted : (n : ℕ) → n ≡ first-no (get-asks s p b) → n ≡ 0 → (k : ℕ) → k ≡ mapped s b → (bytes : List ℕ) → bytes ≡ key-bytes s k → Gets s p b n k bytes
+  unfolding step rule key-bytes get-bytes
+  accepted n h z k m bytes q =
+      let e : first-no (get-asks s p b) ≡ 0 = sym h ∙ z in
+      record { number = rw e z; found = rw e m; same = rw e (q ∙ rw m refl) }
 
-  refused-by : (k n : ℕ) → first-no (get-asks s p b) ≡ n → No k ≡ answer-of (step s (Event.get p b)) → Refused s p b k
-  unfolding step rule answer
-  refused-by k zero e h =
-      let same : No k ≡ Yes (mapped s b) = rw e at h in
-      let z : _≡_ {A = ℕ} 0 1 = cc in
-      absurd (omega arith)
-  refused-by k (suc n) e h =
-      let same : No k ≡ No (suc n) = rw e at h in
-      let m : k ≡ suc n = cc in
-      record { asked = e ∙ sym m; some = λ z. omega arith; number = rw e m; key = rw e refl; bytes = rw e refl }
+  -- an accepted get has found what is mapped
+  pub found-yes : first-no (get-asks s p b) ≡ 0 → is-found s (mapped s b) ≡ true
+  unfolding _and_
+  found-yes e = all-yes (get-asks s p b) refl e .1 .1 .1 .1 .1 .1 .1 .1 .0
 
-  pub accepted : (k : ℕ) → Yes k ≡ answer-of (step s (Event.get p b)) → Accepted s p b k
-  accepted k h = accepted-by k (first-no (get-asks s p b)) refl h
+  said-bytes : first-no (get-asks s p b) ≡ 0 → step s (Event.get p b) .said .bytes ≡ key-bytes s (mapped s b)
+  unfolding step rule key-bytes get-bytes
+  said-bytes e = rw e refl
 
-  pub refused : (n : ℕ) → No n ≡ answer-of (step s (Event.get p b)) → Refused s p b n
-  refused n h = refused-by n (first-no (get-asks s p b)) refl h
+  asked-none : {n k : ℕ} {bytes : List ℕ} → Gets s p b n k bytes → n ≡ 0 → first-no (get-asks s p b) ≡ 0
+  unfolding rule
+  asked-none g z = sym (code-is s (Event.get p b)) ∙ sym (g .number) ∙ z
 
-  -- the chunk of an accepted get is found
-  pub accepted-found : (k : ℕ) → Accepted s p b k → is-found s k ≡ true
-  accepted-found k a =
-      let y = all-yes (get-asks s p b) (
-        omega arith,
-        (omega arith, (omega arith, (omega arith, (omega arith, (omega arith, (omega arith, (omega arith, (omega arith, tt)))))))),
-      ) (a .asked) in
-      ap (is-found s) (a .mapped) ∙ y .1 .1 .1 .1 .1 .1 .1 .1 .0
+  -- ---- the call that fills an area
+  module _ (zero-block area : List ℕ) where
+    pub not-lent : (is-zero-block (s .settings .size) zero-block and eqb (length area) (s .settings .size)) ≡ false → GetsInto s zero-block area p b (No 3) area
+    unfolding step rule first-no answer
+    not-lent n = record { answers = rw n refl; fills = rw n refl }
+
+    module _ (y : (is-zero-block (s .settings .size) zero-block and eqb (length area) (s .settings .size)) ≡ true) where
+      pub into-refused : (n : ℕ) {k : ℕ} {bytes : List ℕ} → Gets s p b n k bytes → (n ≡ 0 → ⊥) → GetsInto s zero-block area p b (No n) area
+      unfolding answer
+      into-refused zero g z = absurd (z refl)
+      into-refused (suc n) g z = record { answers = rw (y, ← (g .number)) refl; fills = rw (y, ← (g .number), ne-eqb (suc n) 0 z) refl }
+
+      pub into-accepted : {n k : ℕ} {bytes : List ℕ} → Gets s p b n k bytes → n ≡ 0 → (after : List ℕ) → after ≡ bytes
+          → GetsInto s zero-block area p b (Yes k) after
+      unfolding answer
+      into-accepted g z after e =
+          let code : step s (Event.get p b) .code ≡ 0 = sym (g .number) ∙ z in
+          record { answers = rw (y, code, g .found) refl; fills = rw (y, code) (e ∙ g .same) }
+
+-- an accepted get answers a block's bytes
+pub gets-size : (c : Settings) (bs : List ℕ) → StoreOf c bs → (p b : ℕ) {n k : ℕ} {bytes : List ℕ} → Gets (decode (words bs)) p b n k bytes → n ≡ 0
+    → length bytes ≡ c .size
+gets-size c bs v p b g z =
+    let s = decode (words bs) in
+    let e = asked-none s p b g z in
+    ap length (g .same ∙ said-bytes s p b e) ∙ bytes-size c bs v (mapped s b) (found-yes s p b e)

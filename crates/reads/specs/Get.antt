@@ -1,26 +1,20 @@
--- get: its questions in two groups, the bytes of a key, and the call that copies them for a caller in C.
+-- get: the bytes of a key; what the code promises, for a caller that takes a part, and for one in C that lends an area.
 use mathlib.Core.Path.{_≡_}
-use mathlib.Core.List.{List, [], _∷_}
+use mathlib.Core.List.{List}
 use mathlib.Core.Bool.{Bool, cond}
-use Prim.Native.Nat.{ℕ, zero, suc}
+use Prim.Native.Nat.{ℕ}
 use lib.Dec.{ltb, eqb}
 use lib.ListN.{length}
-use Rattle.lists.specs.Tests.{_and_, _or_, every}
+use Rattle.lists.specs.Tests.{_and_, _or_}
 use Rattle.rules.specs.Chunks.{bytes-in}
 use Rattle.rules.specs.Event.{Event}
+use Rattle.rules.specs.Call.{is-zero-block}
 use Rattle.rules.specs.State.{State}
 use Rattle.rules.specs.Parts.{holder}
-use Rattle.rules.specs.Question.{Question, _asks_, first-no, primary-up, is-ready, not-pending, not-waiting}
-use Rattle.rules.specs.Reads.{mapped, get-asks, zeros, get-bytes}
+use Rattle.rules.specs.Reads.{zeros}
 use Rattle.rules.specs.Step.{step}
-use Rattle.layout.specs.Store.{decode}
 use Rattle.lent.specs.declared.Answer.{Answer}
-use Rattle.lent.specs.declared.Answer.the-variants.{Yes, No}
-
--- what get asks of the block's bucket
-abbrev pub bucket-asks : State → ℕ → List Question
-bucket-asks s block =
-    (6 asks primary-up s block) ∷ (7 asks is-ready s block) ∷ (8 asks not-pending s block) ∷ (8 asks not-waiting s block) ∷ []
+use Rattle.lent.specs.Performs.{answer-of}
 
 -- 11: no mapping, or an up member holds the chunk
 abbrev pub is-found : State → ℕ → Bool
@@ -30,28 +24,19 @@ is-found s key = eqb key 0 or ltb 0 (holder s key)
 unfoldable pub key-bytes : State → ℕ → List ℕ
 key-bytes s key = cond (eqb key 0) (zeros (s .settings .size)) (bytes-in (s .bricks .log (holder s key)) key)
 
--- what the code of get promises: number, key and bytes of the outcome, of which the store is no part
-pub record Reads (ws : List ℕ) (proxy block code key : ℕ) (bytes : List ℕ) : Type 0 where
-  pub number : code ≡ step (decode ws) (Event.get proxy block) .code
-  pub found : key ≡ step (decode ws) (Event.get proxy block) .said .key
-  pub same : bytes ≡ step (decode ws) (Event.get proxy block) .said .bytes
+-- number, key and bytes of the outcome, of which the store is no part
+pub record Gets (s : State) (proxy block code key : ℕ) (bytes : List ℕ) : Type 0 where
+  pub number : code ≡ step s (Event.get proxy block) .code
+  pub found : key ≡ step s (Event.get proxy block) .said .key
+  pub same : bytes ≡ step s (Event.get proxy block) .said .bytes
 
--- ---- the call for C: the caller lends a block of zeros and an area of a block's size; question 3 asks for both
-unfoldable pub is-zero-block : ℕ → List ℕ → Bool
-is-zero-block size bytes = eqb (length bytes) size and every (λ b. eqb b 0) bytes
-
-abbrev pub call-asks : State → List ℕ → List ℕ → ℕ → ℕ → List Question
-call-asks s zero-block area proxy block =
-    (3 asks is-zero-block (s .settings .size) zero-block) ∷ (3 asks eqb (length area) (s .settings .size)) ∷ get-asks s proxy block
+-- ---- a caller in C lends a block of zeros and an area of a block's size: question 3 asks for both, so without them it is no event
+abbrev pub read-event : ℕ → List ℕ → List ℕ → ℕ → ℕ → Event
+read-event size zero-block area proxy block = cond (is-zero-block size zero-block and eqb (length area) size) (Event.get proxy block) Event.unknown
 
 -- the answer, and what the area then holds
-pub record Call : Type 0 where
-  pub answer : Answer
-  pub area : List ℕ
-
-abbrev finish-call : State → List ℕ → ℕ → ℕ → Call
-finish-call s area block zero = record { answer = Yes (mapped s block); area = get-bytes s block }
-finish-call s area block (suc code) = record { answer = No (suc code); area = area }
-
-unfoldable pub get-call : State → List ℕ → List ℕ → ℕ → ℕ → Call
-get-call s zero-block area proxy block = finish-call s area block (first-no (call-asks s zero-block area proxy block))
+pub record GetsInto (s : State) (zero-block area : List ℕ) (proxy block : ℕ) (r : Answer) (after : List ℕ) : Type 0 where
+  pub answers : r ≡ answer-of (step s (read-event (s .settings .size) zero-block area proxy block))
+  pub fills : after
+      ≡ cond (eqb (step s (read-event (s .settings .size) zero-block area proxy block) .code) 0)
+      (step s (read-event (s .settings .size) zero-block area proxy block) .said .bytes) area

@@ -7,16 +7,16 @@ use lib.ListN.{length, getD}
 use borrow.Author.Tests.{eq-eqb, ne-eqb}
 use Rattle.lists.specs.Tests.{_and_}
 use Rattle.lists.specs.Columns.{upd}
-use Rattle.lists.specs.Runs.{on-run}
+use Rattle.lists.specs.Runs.{run, on-run}
 use Rattle.lists.proofs.Tests.{no-first, no-second}
 use Rattle.lists.proofs.Columns.{upd-same, upd-other}
 use Rattle.rules.specs.declared.settings.Settings.{Settings}
 use Rattle.rules.specs.Limits.{buckets}
 use Rattle.codec.specs.Codec.{Clean, change, _&_}
+use Rattle.codec.proofs.Changes.{part-written}
 use Rattle.layout.specs.Disk.{Copies, Place, blank-copies}
 use Rattle.layout.specs.Layout.{copy-codec, place-codec, place-words, copy-words, copies-at}
 use Rattle.lent.proofs.Parts.{memory-of, disk-of}
-use Rattle.lent.proofs.Changes.{next-change}
 use Rattle.recovery.specs.Ready.{outside, emptied, dropped-copies}
 
 -- ---- the test
@@ -38,7 +38,7 @@ module _ (primary backup : ℕ) (up : Bool) (id : ℕ) where
   outside-up y n m = rw (y, ne-eqb id primary n, ne-eqb id backup m)
 
 -- ---- the writes
-module _ (c : Settings) (g : ℕ) (hg : g < buckets c) (w : List ℕ) (h : length w ≡ place-words c) (k : Clean (place-codec c) w) where
+module _ (c : Settings) (g : ℕ) (hg : g < buckets c) (w : List ℕ) (k : Clean (place-codec c) w) where
   abbrev place : Place
   place = place-codec c .dec w
 
@@ -54,25 +54,23 @@ module _ (c : Settings) (g : ℕ) (hg : g < buckets c) (w : List ℕ) (h : lengt
   abbrev half : Copies
   half = record { memory = []; disk = place .snd .copies g .disk }
 
-  module _ (z : 0 < place .fst) where
+  module _ (h : length w ≡ place-words c) (z : 0 < place .fst) where
     pub emptied-steps : (w1 w2 : List ℕ) → w1 ≡ on-run (copies-at c g) (copy-words c) (copy-codec c .enc []) w
         → w2 ≡ on-run (copies-at c g + copy-words c) (copy-words c) (copy-codec c .enc []) w1 → w2 ≡ change (place-codec c) (emptied g) w
     emptied-steps w1 w2 e1 e2 =
         let old = place .snd .copies in
-        let first = next-change (memory-of c g hg) w h k (((refl, z), (((refl, refl), refl), λ j m n. refl)), refl) place (with-copies half)
-        (((refl, z), (((refl, refl), refl), λ j m n. sym (upd-other old g j half n))), sym (ap (λ (x : Copies). x .disk) (upd-same old g half))) refl in
-        let none : Place = with-copies blank-copies in
-        let second = next-change (disk-of c g hg) w h k (((refl, z), (((refl, refl), refl), λ j m n. refl)), refl) (with-copies half) none (
+        let first = part-written (memory-of c g hg) w h k (((refl, z), (((refl, refl), refl), λ j m n. refl)), refl) place (with-copies half)
+        (((refl, z), (((refl, refl), refl), λ j m n. sym (upd-other old g j half n))), sym (ap (λ (x : Copies). x .disk) (upd-same old g half))) refl
+        (copy-codec c .enc []) (ap (λ (x : Copies). copy-codec c .enc (x .memory) (run (copies-at c g) (copy-words c) w)) (sym (upd-same old g half))) in
+        let second = part-written (disk-of c g hg) w h k (((refl, z), (((refl, refl), refl), λ j m n. refl)), refl) (with-copies half)
+        (with-copies blank-copies) (
           ((refl, z), (((refl, refl), refl), λ j m n. upd-other old g j half n ∙ sym (upd-other old g j blank-copies n))),
           ap (λ (x : Copies). x .memory) (upd-same old g half) ∙ sym (ap (λ (x : Copies). x .memory) (upd-same old g blank-copies)),
         )
-        (ap (λ (x : Copies). x .disk) (upd-same old g half)) in
+        (ap (λ (x : Copies). x .disk) (upd-same old g half)) (copy-codec c .enc [])
+        (ap (λ (x : Copies). copy-codec c .enc (x .disk) (run (copies-at c g + copy-words c) (copy-words c) w)) (sym (upd-same old g blank-copies))) in
         e2 ∙ ap (on-run (copies-at c g + copy-words c) (copy-words c) (copy-codec c .enc []))
-        (e1 ∙ ap (on-run (copies-at c g) (copy-words c) (copy-codec c .enc [])) (sym k)
-        ∙ ap (λ (x : Copies). on-run (copies-at c g) (copy-words c) (copy-codec c .enc (x .memory)) (place-codec c .enc place w)) (sym (upd-same old g half))
-        ∙ sym first)
-        ∙ ap (λ (x : Copies). on-run (copies-at c g + copy-words c) (copy-words c) (copy-codec c .enc (x .disk)) (place-codec c .enc (with-copies half) w))
-        (sym (upd-same old g blank-copies)) ∙ sym second
+        (e1 ∙ ap (on-run (copies-at c g) (copy-words c) (copy-codec c .enc [])) (sym k) ∙ first) ∙ second
 
   -- ---- a place that stays, and one that drops its copies
   module _ (primary backup : ℕ) where

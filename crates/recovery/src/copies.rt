@@ -1,25 +1,18 @@
-// Where a place's copies of a bucket lie in the store, in words.
+// A bucket's copies in the store.
 ghost use mathlib.Core.Path.{_≡_};
-ghost use Prim.Native.Nat.{_+_, _≤_, _<_};
-ghost use Rattle.rules.specs.Limits.{buckets};
-ghost use Rattle.rules.proofs.Limits.{Limits};
-ghost use Rattle.layout.specs.Layout.{copy-words, copies-at, place-at, store-words};
-use layout::sizes;
-use lent::place;
+ghost use lib.ListN.{length};
+ghost use Rattle.words.specs.Words.{words};
+ghost use Rattle.recovery.specs.Copies.{Replaces, replaced-words};
 use rules::settings::Settings;
 
-// The one in memory.
-pub fn memory_at(settings: Settings, place: usize, bucket: usize) -> usize
-    requires { ⌜ Limits settings × (place < settings .places) × (bucket < buckets settings) ⌝ }
-    ensures { λ r. ⌜ (r ≡ place-at settings place + copies-at settings bucket) × (r + copy-words settings ≤ store-words settings) ⌝ }
+// The copy in memory at one place replaces those at another, on disk and in memory.
+pub fn replace(store: &mut [u8], settings: Settings, bucket: usize, from: usize, to: usize)
+    requires { ⌜ Replaces settings bucket from to (words (now store)) (length (now store)) ⌝ }
+    ensures { λ _. ⌜ words (now (store .exit)) ≡ replaced-words settings bucket from to (words (now (store .entry))) ⌝ }
 {
-    sizes::place_at(settings, place) + place::memory_at(settings, bucket)
-}
-
-// The one on disk.
-pub fn disk_at(settings: Settings, place: usize, bucket: usize) -> usize
-    requires { ⌜ Limits settings × (place < settings .places) × (bucket < buckets settings) ⌝ }
-    ensures { λ r. ⌜ (r ≡ place-at settings place + (copies-at settings bucket + copy-words settings)) × (r + copy-words settings ≤ store-words settings) ⌝ }
-{
-    sizes::place_at(settings, place) + place::disk_at(settings, bucket)
+    let source = lent::copies::memory_at(settings, from, bucket);
+    let disk = lent::copies::disk_at(settings, to, bucket);
+    let memory = lent::copies::memory_at(settings, to, bucket);
+    entries::copy(store, source, disk, settings.entries);
+    entries::copy(store, source, memory, settings.entries);
 }

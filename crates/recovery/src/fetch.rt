@@ -3,21 +3,39 @@ ghost use mathlib.Core.Path.{_≡_};
 ghost use Prim.Native.Nat.{_<_};
 ghost use Rattle.words.specs.Words.{words};
 ghost use Rattle.rules.specs.Event.{Event};
-ghost use Rattle.rules.specs.Limits.{buckets};
-ghost use Rattle.rules.specs.Views.{fetch-effect};
-ghost use Rattle.layout.specs.Store.{agreed-in, decode, render};
+ghost use Rattle.rules.specs.Question.{first-no};
+ghost use Rattle.rules.specs.Views.{source, fetch-asks, fetch-effect};
+ghost use Rattle.layout.specs.Store.{decode, render};
 ghost use Rattle.parts.specs.Parts.{agreed-of};
-ghost use Rattle.lent.specs.Performs.{SoundStore, Performs};
+ghost use Rattle.lent.specs.Performs.{Performs};
 ghost use Rattle.lent.specs.Stores.{StoreOf};
-ghost use Rattle.recovery.specs.Fetch.{fetched-record, Fetches};
+ghost use Rattle.recovery.specs.Fetch.{fetched-record};
+ghost use Rattle.recovery.specs.Asks.{UpBucket};
+use crate::asks;
 use crate::copies;
 use crate::member;
-use crate::record;
-use layout::sizes;
 use lent::Answer;
-use lent::brick::Found;
 use parts::agreed::Agreed;
 use rules::settings::Settings;
+
+// Its questions: the number of the first no, or 0.
+fn asks(store: &[u8], settings: Settings, bucket: u64) -> u64
+    requires { ⌜ StoreOf settings (now store) ⌝ }
+    ensures { λ r. ⌜ r ≡ first-no (fetch-asks (decode (words (now (store .entry)))) bucket) ⌝ }
+{
+    let no = asks::bucket_asks(store, settings, bucket);
+    if no != 0 {
+        return no;
+    }
+    let agreed = lent::bucket::agreed(store, settings, bucket as usize);
+    if agreed.ready {
+        return 13;
+    }
+    if member::find_source(store, settings, bucket as usize) == 0 {
+        return 13;
+    }
+    0
+}
 
 // A bucket's record, once fetched.
 fn fetched(old: Agreed) -> Agreed
@@ -35,44 +53,27 @@ fn fetched(old: Agreed) -> Agreed
     }
 }
 
-// The source's copy goes from its place to the primary's.
-fn replace(
-    store: &mut [u8],
-    settings: Settings,
-    bucket: usize,
-    agreed: Agreed,
-    from: usize,
-    to: usize,
-)
-    requires { ⌜ StoreOf settings (now store) × Fetches settings (decode (words (now store))) bucket (agreed-of agreed) from to ⌝ }
+// Its effect.
+fn replace(store: &mut [u8], settings: Settings, bucket: usize)
+    requires { ⌜ StoreOf settings (now store) × UpBucket settings (decode (words (now store))) bucket × (0 < source (decode (words (now store))) bucket) ⌝ }
     ensures { λ _. ⌜ words (now (store .exit)) ≡ render (fetch-effect (decode (words (now (store .entry)))) bucket) (words (now (store .entry))) ⌝ }
 {
-    let source = copies::memory_at(settings, from, bucket);
-    let memory = copies::memory_at(settings, to, bucket);
-    let disk = copies::disk_at(settings, to, bucket);
-    entries::copy(store, source, memory, settings.entries);
-    entries::copy(store, source, disk, settings.entries);
-    record::write(store, settings, bucket, fetched(agreed));
+    let agreed = lent::bucket::agreed(store, settings, bucket);
+    let source = member::find_source(store, settings, bucket);
+    let from = member::place(store, settings, source);
+    let to = member::place(store, settings, agreed.primary);
+    copies::replace(store, settings, bucket, from, to);
+    lent::bucket::write(store, settings, bucket, fetched(agreed));
 }
 
-pub fn fetch(store: &mut [u8], bucket: u64) -> Answer
-    requires { ⌜ SoundStore (now store) ⌝ }
+pub fn fetch(store: &mut [u8], settings: Settings, bucket: u64) -> Answer
+    requires { ⌜ StoreOf settings (now store) ⌝ }
     ensures { λ r. ⌜ Performs (Event.fetch bucket) (words (now (store .entry))) r (words (now (store .exit))) ⌝ }
 {
-    let settings = lent::store::settings(store);
-    if sizes::buckets(settings) as u64 <= bucket {
-        return Answer::No(3);
+    let no = asks(store, settings, bucket);
+    if no != 0 {
+        return Answer::No(no);
     }
-    let agreed = lent::bucket::agreed(store, settings, bucket as usize);
-    let Found::At(to) = member::find(store, settings, agreed.primary) else {
-        return Answer::No(6);
-    };
-    if agreed.ready {
-        return Answer::No(13);
-    }
-    let Found::At(from) = member::find_source(store, settings, bucket as usize, agreed) else {
-        return Answer::No(13);
-    };
-    replace(store, settings, bucket as usize, agreed, from, to);
+    replace(store, settings, bucket as usize);
     Answer::Yes(0)
 }

@@ -1,41 +1,40 @@
 // Up members by id.
 ghost use mathlib.Core.Path.{_≡_};
+ghost use mathlib.Core.Bool.{true};
 ghost use Prim.Native.Nat.{_<_};
 ghost use Rattle.words.specs.Words.{words};
 ghost use Rattle.rules.specs.Limits.{buckets};
-ghost use Rattle.layout.specs.Store.{agreed-in, decode};
-ghost use Rattle.parts.specs.Parts.{agreed-of};
+ghost use Rattle.rules.specs.Parts.{up-member};
+ghost use Rattle.rules.specs.Views.{source};
+ghost use Rattle.layout.specs.Store.{decode};
 ghost use Rattle.lent.specs.Stores.{StoreOf};
-ghost use Rattle.recovery.specs.Members.{FindsMember, FindsSource};
+ghost use Rattle.lent.specs.Places.{Stands};
 use lent::brick;
 use lent::brick::Found;
-use lent::place;
-use parts::agreed::Agreed;
 use rules::settings::Settings;
 
-// The place of the brick, if it is an up member.
-pub fn find(store: &[u8], settings: Settings, id: u64) -> Found
-    requires { ⌜ StoreOf settings (now store) ⌝ }
-    ensures { λ r. ⌜ FindsMember settings (decode (words (now (store .entry)))) id r ⌝ }
+// The id of a bucket's source: the last ready primary if that is an up member, else the last ready backup if that is one, else 0.
+pub fn find_source(store: &[u8], settings: Settings, bucket: usize) -> u64
+    requires { ⌜ StoreOf settings (now store) × (bucket < buckets settings) ⌝ }
+    ensures { λ r. ⌜ r ≡ source (decode (words (now (store .entry)))) bucket ⌝ }
 {
-    match brick::place_of(store, settings, id) {
-        Found::At(place) => {
-            if place::up_member(store, settings, place) {
-                return Found::At(place);
-            }
-            Found::Nowhere
-        }
-        Found::Nowhere => Found::Nowhere,
+    let agreed = lent::bucket::agreed(store, settings, bucket);
+    if brick::up_member(store, settings, agreed.last_primary) {
+        return agreed.last_primary;
     }
+    if brick::up_member(store, settings, agreed.last_backup) {
+        return agreed.last_backup;
+    }
+    0
 }
 
-// The place of a bucket's source: the last ready primary if that is an up member, else the last ready backup if that is one.
-pub fn find_source(store: &[u8], settings: Settings, bucket: usize, agreed: Agreed) -> Found
-    requires { ⌜ StoreOf settings (now store) × (agreed-of agreed ≡ agreed-in (decode (words (now store)) .bucket bucket)) ⌝ }
-    ensures { λ r. ⌜ FindsSource settings (decode (words (now (store .entry)))) bucket r ⌝ }
+// The place of an up member. That it stands nowhere does not come about.
+pub fn place(store: &[u8], settings: Settings, id: u64) -> usize
+    requires { ⌜ StoreOf settings (now store) × (up-member (decode (words (now store))) id ≡ true) ⌝ }
+    ensures { λ r. ⌜ Stands settings (decode (words (now (store .entry)))) id r ⌝ }
 {
-    match find(store, settings, agreed.last_primary) {
-        Found::At(place) => Found::At(place),
-        Found::Nowhere => find(store, settings, agreed.last_backup),
+    match brick::find_member(store, settings, id) {
+        Found::At(place) => place,
+        Found::Nowhere => 0,
     }
 }

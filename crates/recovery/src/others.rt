@@ -1,12 +1,12 @@
 // Up bricks outside a bucket's pair drop their copies of it.
 ghost use mathlib.Core.Path.{_≡_};
-ghost use Prim.Native.Nat.{_*_, _<_};
+ghost use Prim.Native.Nat.{_<_};
 ghost use lib.ListN.{length};
 ghost use Rattle.words.specs.Words.{words};
 ghost use Rattle.rules.specs.Limits.{buckets};
-ghost use Rattle.rules.proofs.Limits.{Limits};
-ghost use Rattle.codec.specs.Codec.{Clean, change};
-ghost use Rattle.layout.specs.Layout.{place-codec, place-words, all-places-codec};
+ghost use Rattle.codec.specs.Codec.{change};
+ghost use Rattle.layout.specs.Layout.{place-codec, all-places-codec};
+ghost use Rattle.lent.specs.Places.{CleanPlace, CleanPlaces};
 ghost use Rattle.recovery.specs.Ready.{emptied, dropped-copies};
 use layout::sizes;
 use lent::place;
@@ -14,8 +14,8 @@ use rules::settings::Settings;
 
 // A place with a brick: its two copies are emptied.
 fn empty(part: &mut [u8], settings: Settings, bucket: usize)
-    requires { ⌜ Limits settings × (bucket < buckets settings) × (length (now part) ≡ 8 * place-words settings)
-        × (0 < place-codec settings .dec (words (now part)) .fst) × Clean (place-codec settings) (words (now part)) ⌝ }
+    requires { ⌜ CleanPlace settings (words (now part)) (length (now part)) × (bucket < buckets settings)
+        × (0 < place-codec settings .dec (words (now part)) .fst) ⌝ }
     ensures { λ _. ⌜ words (now (part .exit)) ≡ change (place-codec settings) (emptied bucket) (words (now (part .entry))) ⌝ }
 {
     let size = 8 * sizes::copy_words(settings);
@@ -27,7 +27,7 @@ fn empty(part: &mut [u8], settings: Settings, bucket: usize)
 
 // A place.
 fn drop_at(part: &mut [u8], settings: Settings, bucket: usize, primary: u64, backup: u64)
-    requires { ⌜ Limits settings × (bucket < buckets settings) × (length (now part) ≡ 8 * place-words settings) × Clean (place-codec settings) (words (now part)) ⌝ }
+    requires { ⌜ CleanPlace settings (words (now part)) (length (now part)) × (bucket < buckets settings) ⌝ }
     ensures { λ _. ⌜ words (now (part .exit)) ≡ change (place-codec settings) (dropped-copies bucket primary backup) (words (now (part .entry))) ⌝ }
 {
     let id = parts::place::id(part, settings);
@@ -49,8 +49,7 @@ fn drop_at(part: &mut [u8], settings: Settings, bucket: usize, primary: u64, bac
 
 // All places.
 pub fn drop_all(part: &mut [u8], settings: Settings, bucket: usize, primary: u64, backup: u64)
-    requires { ⌜ Limits settings × (bucket < buckets settings) × (length (now part) ≡ 8 * (settings .places * place-words settings))
-        × Clean (all-places-codec settings) (words (now part)) ⌝ }
+    requires { ⌜ CleanPlaces settings (words (now part)) (length (now part)) × (bucket < buckets settings) ⌝ }
     ensures { λ _. ⌜ words (now (part .exit))
         ≡ change (all-places-codec settings) (λ places p. dropped-copies bucket primary backup (places p)) (words (now (part .entry))) ⌝ }
 {

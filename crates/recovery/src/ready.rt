@@ -1,23 +1,56 @@
 // The event ready: the primary's copy replaces the backup's, other up bricks drop theirs, and the entries that wait move in.
 ghost use mathlib.Core.Path.{_≡_};
+ghost use mathlib.Core.Bool.{true};
 ghost use Rattle.words.specs.Words.{words};
 ghost use Rattle.rules.specs.Event.{Event};
-ghost use Rattle.rules.specs.Views.{ready-effect};
+ghost use Rattle.rules.specs.Parts.{up-member};
+ghost use Rattle.rules.specs.Question.{first-no};
+ghost use Rattle.rules.specs.Views.{ready-asks, ready-effect};
 ghost use Rattle.layout.specs.Store.{decode, render};
 ghost use Rattle.parts.specs.Parts.{agreed-of};
-ghost use Rattle.lent.specs.Performs.{SoundStore, Performs};
+ghost use Rattle.lent.specs.Performs.{Performs};
 ghost use Rattle.lent.specs.Stores.{StoreOf};
-ghost use Rattle.recovery.specs.Ready.{ready-record, Settles};
+ghost use Rattle.recovery.specs.Asks.{fetched-asks, UpBucket};
+ghost use Rattle.recovery.specs.Ready.{ready-record};
+use crate::asks;
 use crate::copies;
 use crate::member;
 use crate::others;
-use crate::record;
 use crate::waiting;
 use layout::sizes;
 use lent::Answer;
-use lent::brick::Found;
+use lent::brick;
 use parts::agreed::Agreed;
 use rules::settings::Settings;
+
+// Is the bucket fetched in this view, and not yet ready? The number of the first no, or 0.
+fn fetched_asks(agreed: Agreed) -> u64
+    ensures { λ r. ⌜ r ≡ first-no (fetched-asks (agreed-of agreed)) ⌝ }
+{
+    if agreed.fetched {
+        if agreed.ready {
+            return 13;
+        }
+        return 0;
+    }
+    13
+}
+
+// Its questions: the number of the first no, or 0.
+fn asks(store: &[u8], settings: Settings, bucket: u64) -> u64
+    requires { ⌜ StoreOf settings (now store) ⌝ }
+    ensures { λ r. ⌜ r ≡ first-no (ready-asks (decode (words (now (store .entry)))) bucket) ⌝ }
+{
+    let no = asks::bucket_asks(store, settings, bucket);
+    if no != 0 {
+        return no;
+    }
+    let agreed = lent::bucket::agreed(store, settings, bucket as usize);
+    if brick::up_member(store, settings, agreed.backup) {
+        return fetched_asks(agreed);
+    }
+    6
+}
 
 // A bucket's record, once ready: its pair is the last ready pair.
 fn readied(old: Agreed) -> Agreed
@@ -35,58 +68,37 @@ fn readied(old: Agreed) -> Agreed
     }
 }
 
-// The bucket is made ready, with its pair at these places.
-fn settle(
-    store: &mut [u8],
-    settings: Settings,
-    bucket: usize,
-    agreed: Agreed,
-    primary: usize,
-    backup: usize,
-)
-    requires { ⌜ StoreOf settings (now store) × Settles settings (decode (words (now store))) bucket (agreed-of agreed) primary backup ⌝ }
+// Its effect.
+fn make_ready(store: &mut [u8], settings: Settings, bucket: usize)
+    requires { ⌜ StoreOf settings (now store) × UpBucket settings (decode (words (now store))) bucket
+        × (up-member (decode (words (now store))) (decode (words (now store)) .bucket bucket .backup) ≡ true) ⌝ }
     ensures { λ _. ⌜ words (now (store .exit)) ≡ render (ready-effect (decode (words (now (store .entry)))) bucket) (words (now (store .entry))) ⌝ }
 {
-    let places = sizes::places_at(settings);
+    let agreed = lent::bucket::agreed(store, settings, bucket);
+    let primary = member::place(store, settings, agreed.primary);
+    let backup = member::place(store, settings, agreed.backup);
+    let places = 8 * sizes::places_at(settings);
     let end = store.len();
-    let source = copies::memory_at(settings, primary, bucket);
-    let memory = copies::memory_at(settings, backup, bucket);
-    let disk = copies::disk_at(settings, backup, bucket);
-    let buffer = sizes::place_at(settings, primary) + sizes::BUFFER_AT;
     others::drop_all(
-        &mut store[8 * places..end],
+        &mut store[places..end],
         settings,
         bucket,
         agreed.primary,
         agreed.backup,
     );
-    entries::copy(store, source, memory, settings.entries);
-    entries::copy(store, source, disk, settings.entries);
-    waiting::move_in(store, settings, bucket as u64, buffer, source);
-    record::write(store, settings, bucket, readied(agreed));
+    copies::replace(store, settings, bucket, primary, backup);
+    waiting::drain(store, settings, bucket, primary);
+    lent::bucket::write(store, settings, bucket, readied(agreed));
 }
 
-pub fn ready(store: &mut [u8], bucket: u64) -> Answer
-    requires { ⌜ SoundStore (now store) ⌝ }
+pub fn ready(store: &mut [u8], settings: Settings, bucket: u64) -> Answer
+    requires { ⌜ StoreOf settings (now store) ⌝ }
     ensures { λ r. ⌜ Performs (Event.ready bucket) (words (now (store .entry))) r (words (now (store .exit))) ⌝ }
 {
-    let settings = lent::store::settings(store);
-    if sizes::buckets(settings) as u64 <= bucket {
-        return Answer::No(3);
+    let no = asks(store, settings, bucket);
+    if no != 0 {
+        return Answer::No(no);
     }
-    let agreed = lent::bucket::agreed(store, settings, bucket as usize);
-    let Found::At(primary) = member::find(store, settings, agreed.primary) else {
-        return Answer::No(6);
-    };
-    let Found::At(backup) = member::find(store, settings, agreed.backup) else {
-        return Answer::No(6);
-    };
-    if agreed.fetched {
-        if agreed.ready {
-            return Answer::No(13);
-        }
-        settle(store, settings, bucket as usize, agreed, primary, backup);
-        return Answer::Yes(0);
-    }
-    Answer::No(13)
+    make_ready(store, settings, bucket as usize);
+    Answer::Yes(0)
 }

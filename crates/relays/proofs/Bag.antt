@@ -1,104 +1,87 @@
--- The bag of a lent store: what is read there, and what a relay's leaving makes of the store.
+-- The bag of a lent store: what is read there, and what a change of it leaves.
 use mathlib.Core.Path.{_≡_, refl, sym, ap, _∙_}
-use mathlib.Core.List.{List, [], _++_}
-use Prim.Native.Nat.{ℕ, _*_, _≤_, _<_}
+use mathlib.Core.List.{List, _++_}
+use Prim.Native.Nat.{ℕ, _+_, _*_, _-_, _<_}
 use native.Mathlib.Omega.{arith}
 use lib.ListN.{length, getD, take, drop}
-use borrow.Author.Tests.{lt-ltb, le-ltb}
-use Rattle.lists.specs.Runs.{run}
-use Rattle.lists.proofs.Runs.{run-at}
+use Rattle.lists.proofs.Runs.{run-length}
+use Rattle.lists.proofs.Tests.{getD-in}
 use Rattle.words.specs.Words.{words}
-use Rattle.words.proofs.Laws.{words-part}
-use Rattle.rules.specs.Limits.{buckets, max-relays}
-use Rattle.rules.specs.Event.{Event}
-use Rattle.rules.specs.State.{State, set-bag}
-use Rattle.rules.specs.Maps.{remove-at, drop-effect}
-use Rattle.rules.specs.Step.{rule}
-use Rattle.rules.proofs.SoundTest.{sound-facts}
-use Rattle.tables.specs.Tables.{IsTable}
+use Rattle.rules.specs.declared.settings.Settings.{Settings}
+use Rattle.rules.specs.Limits.{max-relays}
+use Rattle.rules.specs.State.{State, Relay, blank-relay, set-bag}
+use Rattle.rules.specs.Maps.{relay-at}
+use Rattle.rules.specs.Parts.{bucket-no}
 use Rattle.codec.specs.Codec.{change}
 use Rattle.layout.specs.Disk.{relay-row}
-use Rattle.layout.specs.Layout.{bag-codec, bag-words, settings-of}
+use Rattle.layout.specs.Layout.{bag-codec, bag-words}
 use Rattle.layout.specs.Store.{decode, render}
 use Rattle.layout.proofs.Foci.{bag-in}
-use Rattle.layout.proofs.Decoded.{decoded-placed}
-use Rattle.layout.proofs.Parts.{bag-read}
-use Rattle.bag.specs.Relays.{relay-words}
-use Rattle.lent.specs.declared.Answer.the-variants.{Yes, No}
-use Rattle.lent.specs.Performs.{SoundStore, Performs}
-use Rattle.lent.proofs.Performs.{refuses, accepts}
-use Rattle.lent.proofs.Effects.{effect, lent-value, untouched, lent-changed}
-use Rattle.lent.proofs.Questions.{first-stop}
-use Rattle.lent.proofs.Tables.{count-is, is-table}
+use Rattle.entries.proofs.Tables.{count-is, is-table}
+use Rattle.bag.specs.Relays as bag
+use Rattle.lent.specs.Stores.{StoreOf}
+use Rattle.lent.proofs.Stores.{facts}
+use Rattle.lent.proofs.Effects.{later-value, later-effect}
+use Rattle.relays.specs.Relays.{BagSpan, BagPart}
 
-module _ (bs : List ℕ) (sd : SoundStore bs) where
-  abbrev bag-bytes : List ℕ
-  bag-bytes = take 2568 (drop 3192 bs)
+module _ (c : Settings) (bs : List ℕ) (v : StoreOf c bs) (o e : ℕ) (p : BagSpan c o e) where
+  abbrev state : State
+  state = decode (words bs)
 
-  pub bag-inside : 5760 ≤ length bs
-  unfolding buckets
-  bag-inside = omega (arith, sd .size)
+  size-is : e ≡ o + 8 * bag-words
+  size-is = omega (arith, p .start, p .end)
 
-  pub relays-read : bag-codec .dec (words bag-bytes) ≡ decode (words bs) .bag
-  unfolding buckets
-  relays-read = lent-value bs sd (bag-in (settings-of (words bs))) (((refl, refl), refl), refl) 3192 5760 refl refl
+  -- ---- in bytes that changes elsewhere have led to, which left the state t
+  module _ (t : State) (a : t .settings ≡ state .settings) (q : t .bag ≡ state .bag) (vs : List ℕ) (w : words vs ≡ render t (words bs))
+      (l : length vs ≡ length bs) where
+    part-long : length (take (e - o) (drop o vs)) ≡ 8 * bag-words
+    part-long = run-length o (e - o) vs (omega (arith, p .inside, v .size, l, size-is)) ∙ omega (arith, size-is)
 
-  pub bag-count : length (decode (words bs) .bag) ≡ getD (words bs) 399 0
-  unfolding buckets
-  bag-count =
-      ap length (bag-read (words bs) (sd .sound .size)) ∙ count-is relay-row max-relays (take 321 (drop 399 (words bs))) ∙ run-at 399 321 0 (words bs) (omega arith)
+    pub bag-later : BagPart (state .bag) (take (e - o) (drop o vs))
+    bag-later =
+        let same = later-value c bs v (bag-in c) (((refl, refl), refl), refl) t a q vs w l o e (p .start) size-is (((refl, refl), refl), refl) in
+        record {
+          table = is-table relay-row max-relays (state .bag) (facts c bs v .bag-room) (words (take (e - o) (drop o vs))) same _ part-long;
+          same = same;
+          count = sym (count-is relay-row max-relays (words (take (e - o) (drop o vs)))) ∙ ap length same;
+        }
 
-  pub bag-table : length bag-bytes ≡ 8 * bag-words → IsTable relay-words max-relays (words bag-bytes) (length bag-bytes)
-  bag-table l =
-      is-table relay-row max-relays (decode (words bs) .bag)
-      (sound-facts (decode (words bs)) (decoded-placed (words bs)) (sd .sound .state) .bag-room) (words bag-bytes) (length bag-bytes) l relays-read
+    pub bag-changed : (f : List Relay → List Relay) (part : List ℕ) → length part ≡ length (take (e - o) (drop o vs))
+        → words part ≡ change bag-codec f (words (take (e - o) (drop o vs)))
+        → words (take o vs ++ (part ++ drop (e - o) (drop o vs))) ≡ render (set-bag t (f (state .bag))) (words bs)
+    bag-changed f part lp ep =
+        later-effect c bs v (bag-in c) (((refl, refl), refl), refl) t a q vs w l o e (p .start) size-is (set-bag t (f (state .bag))) a
+        (((refl, refl), refl), refl) part (lp ∙ part-long) f refl ep
 
-  pub bag-counts : getD (words bag-bytes) 0 0 ≡ length (decode (words bs) .bag)
-  bag-counts = sym (count-is relay-row max-relays (words bag-bytes)) ∙ ap length relays-read
+  -- ---- in the first bytes
+  pub bag-lent : BagPart (state .bag) (take (e - o) (drop o bs))
+  bag-lent = bag-later state refl refl bs (sym (v .sound .still)) refl
 
-  pub relay-gone : (i : ℕ) (part : List ℕ) → length part ≡ 8 * bag-words → words part ≡ change bag-codec (λ l. remove-at l i) (words bag-bytes)
-      → words (take 3192 bs ++ (part ++ drop 2568 (drop 3192 bs))) ≡ render (drop-effect (decode (words bs)) i) (words bs)
-  unfolding buckets drop-effect
-  relay-gone i part lp ep =
-      effect bs sd (bag-in (settings-of (words bs))) (drop-effect (decode (words bs)) i) refl (((refl, refl), refl), refl) (λ l. remove-at l i) refl
-      part 3192 5760 refl refl lp ep
+  pub bag-becomes : (f : List Relay → List Relay) (part : List ℕ) → length part ≡ length (take (e - o) (drop o bs))
+      → words part ≡ change bag-codec f (words (take (e - o) (drop o bs)))
+      → words (take o bs ++ (part ++ drop (e - o) (drop o bs))) ≡ render (set-bag state (f (state .bag))) (words bs)
+  bag-becomes = bag-changed state refl refl bs (sym (v .sound .still)) refl
 
-  -- ---- after a change elsewhere, which left the state t: the bag's words are as they were, and a relay may leave
-  module _ (t : State) (st : t .settings ≡ decode (words bs) .settings) (old : t .bag ≡ decode (words bs) .bag) (now : List ℕ)
-      (w : words now ≡ render t (words bs)) (len : length now ≡ length bs) where
-    bag-same : words (take 2568 (drop 3192 now)) ≡ words bag-bytes
-    unfolding buckets
-    bag-same =
-        let i = bag-inside in
-        words-part now 3192 2568 399 321 refl refl (omega arith) ∙ ap (run 399 321) w
-        ∙ untouched (words bs) (sd .sound) (bag-in (settings-of (words bs))) t st (((refl, refl), refl), refl) old (((refl, refl), refl), refl)
-        ∙ sym (words-part bs 3192 2568 399 321 refl refl (omega arith))
+-- ---- a relay, as the code has read it from the bag's words w
+module _ (c : Settings) (bs : List ℕ) (v : StoreOf c bs) (i : ℕ) (h : i < length (decode (words bs) .bag)) (w : List ℕ)
+    (same : bag-codec .dec w ≡ decode (words bs) .bag) where
+  abbrev found : Relay
+  found = relay-at (decode (words bs)) i
 
-    pub table-stays : length (take 2568 (drop 3192 now)) ≡ 8 * bag-words
-        → IsTable relay-words max-relays (words (take 2568 (drop 3192 now))) (length (take 2568 (drop 3192 now)))
-    table-stays l =
-        let i = bag-inside in
-        let f = bag-counts in
-        let q = ap (λ (x : List ℕ). getD x 0 0) bag-same in
-        record { few = omega (arith, sound-facts (decode (words bs)) (decoded-placed (words bs)) (sd .sound .state) .bag-room); size = l }
+  -- its bucket is its block's
+  own-bucket : bucket-no (decode (words bs)) (found .block) ≡ found .bucket
+  own-bucket = facts c bs v .relays found (getD-in (decode (words bs) .bag) i blank-relay h) .bucket
 
-    pub counts-stay : getD (words (take 2568 (drop 3192 now))) 0 0 ≡ length (decode (words bs) .bag)
-    counts-stay = ap (λ (x : List ℕ). getD x 0 0) bag-same ∙ bag-counts
-
-    pub relay-leaves : (i : ℕ) (part : List ℕ) → length part ≡ 8 * bag-words → words part ≡ change bag-codec (λ l. remove-at l i) (words (take 2568 (drop 3192 now)))
-        → words (take 3192 now ++ (part ++ drop 2568 (drop 3192 now))) ≡ render (set-bag t (remove-at (t .bag) i)) (words bs)
-    unfolding buckets
-    relay-leaves i part lp ep =
-        lent-changed (words bs) (sd .sound) (bag-in (settings-of (words bs))) t st (((refl, refl), refl), refl) old (set-bag t (remove-at (t .bag) i)) st
-        (((refl, refl), refl), refl) (λ l. remove-at l i) refl now part 3192 5760 w refl refl (omega (arith, sd .size, sd .sound .size)) lp ep
-
--- ---- drop
-module _ (bs : List ℕ) (i : ℕ) where
-  pub drop-yes : i < length (decode (words bs) .bag) → (after : List ℕ) → after ≡ render (drop-effect (decode (words bs)) i) (words bs)
-      → Performs (Event.drop i) (words bs) (Yes 0) after
-  unfolding rule
-  drop-yes h after e = accepts (Event.drop i) (words bs) after (lt-ltb i (length (decode (words bs) .bag)) h, tt) e
-
-  pub drop-no : SoundStore bs → length (decode (words bs) .bag) ≤ i → Performs (Event.drop i) (words bs) (No 3) (words bs)
-  unfolding rule
-  drop-no sd h = refuses (Event.drop i) (words bs) (sd .sound) 2 (first-stop 3 [] (le-ltb i (length (decode (words bs) .bag)) h))
+  pub relay-read : (view order block key : ℕ) → view ≡ bag.relay-at w i .view → order ≡ bag.relay-at w i .order → block ≡ bag.relay-at w i .block
+      → key ≡ bag.relay-at w i .key
+      → record { view = view; bucket = bucket-no (decode (words bs)) block; order = order; block = block; key = key } ≡ found
+  relay-read view order block key ev eo eb ek =
+      let q : bag.relay-at w i ≡ found = ap (λ (l : List Relay). getD l i blank-relay) same in
+      let fv : view ≡ found .view = ev ∙ ap (λ (r : Relay). r .view) q in
+      let fo : order ≡ found .order = eo ∙ ap (λ (r : Relay). r .order) q in
+      let fb : block ≡ found .block = eb ∙ ap (λ (r : Relay). r .block) q in
+      let fk : key ≡ found .key = ek ∙ ap (λ (r : Relay). r .key) q in
+      let fg : bucket-no (decode (words bs)) block ≡ found .bucket = ap (bucket-no (decode (words bs))) fb ∙ own-bucket in
+      let f : _≡_ {A = Relay} (record { view = view; bucket = bucket-no (decode (words bs)) block; order = order; block = block; key = key })
+      (record { view = found .view; bucket = found .bucket; order = found .order; block = found .block; key = found .key }) = cc in
+      f

@@ -1,38 +1,20 @@
 // drop: a relay is lost.
 ghost use mathlib.Core.Path.{_≡_};
-ghost use Prim.Native.Nat.{_<_};
-ghost use lib.ListN.{length};
 ghost use Rattle.words.specs.Words.{words};
 ghost use Rattle.rules.specs.Event.{Event};
-ghost use Rattle.rules.specs.Maps.{drop-effect};
-ghost use Rattle.layout.specs.Store.{decode, render};
-ghost use Rattle.lent.specs.Performs.{SoundStore, Performs};
-use layout::sizes;
+ghost use Rattle.lent.specs.Performs.{Performs};
+ghost use Rattle.lent.specs.Stores.{StoreOf};
+use crate::relay;
 use lent::Answer;
+use rules::settings::Settings;
 
-// How many relays are in the bag?
-pub fn count(store: &[u8]) -> u64
-    requires { ⌜ SoundStore (now store) ⌝ }
-    ensures { λ r. ⌜ r ≡ length (decode (words (now (store .entry))) .bag) ⌝ }
-{
-    words::read(store, sizes::BAG_AT)
-}
-
-// The relay at an index leaves the bag.
-pub fn remove(store: &mut [u8], index: usize)
-    requires { ⌜ SoundStore (now store) × (index < length (decode (words (now store)) .bag)) ⌝ }
-    ensures { λ _. ⌜ words (now (store .exit)) ≡ render (drop-effect (decode (words (now (store .entry)))) index) (words (now (store .entry))) ⌝ }
-{
-    bag::remove(&mut store[8 * sizes::BAG_AT..8 * sizes::PLACES_AT], index);
-}
-
-pub fn drop(store: &mut [u8], index: u64) -> Answer
-    requires { ⌜ SoundStore (now store) ⌝ }
+pub fn drop(store: &mut [u8], settings: Settings, index: u64) -> Answer
+    requires { ⌜ StoreOf settings (now store) ⌝ }
     ensures { λ r. ⌜ Performs (Event.drop index) (words (now (store .entry))) r (words (now (store .exit))) ⌝ }
 {
-    if index < count(store) {
-        remove(store, index as usize);
-        return Answer::Yes(0);
+    if lent::store::relay_count(store, settings) <= index {
+        return Answer::No(3);
     }
-    Answer::No(3)
+    relay::remove(store, settings, index as usize);
+    Answer::Yes(0)
 }

@@ -1,6 +1,5 @@
 // send: a relay of the primary's entry, with the bucket's next order number.
 ghost use mathlib.Core.Path.{_≡_};
-ghost use mathlib.Core.Bool.{true};
 ghost use Prim.Native.Nat.{_<_};
 ghost use lib.ListN.{length};
 ghost use Rattle.words.specs.Words.{words};
@@ -10,42 +9,55 @@ ghost use Rattle.rules.specs.Maps.{send-asks, send-effect};
 ghost use Rattle.rules.specs.Parts.{bucket-at};
 ghost use Rattle.rules.specs.Question.{first-no};
 ghost use Rattle.layout.specs.Store.{decode, render};
-ghost use Rattle.lent.specs.Performs.{SoundStore, Performs};
+ghost use Rattle.lent.specs.Performs.{Performs};
 ghost use Rattle.lent.specs.Stores.{StoreOf};
-use crate::drop;
+ghost use Rattle.relays.specs.Asks.{primary-asks};
+use crate::relay;
 use layout::sizes;
 use lent::Answer;
-use lent::brick;
 use lent::bucket;
-use maps::entry;
+use mappings::block;
+use mappings::copy;
 use rules::constants;
 use rules::numbers::BlockNumber;
 use rules::numbers::ViewNumber;
 use rules::settings::Settings;
+
+// Is there such a block, is the primary an up member, and is the bucket ready? The number of the first no, or 0.
+fn primary_asks(store: &[u8], settings: Settings, block: BlockNumber) -> u64
+    requires { ⌜ StoreOf settings (now store) ⌝ }
+    ensures { λ r. ⌜ r ≡ first-no (primary-asks (decode (words (now (store .entry)))) (block .0)) ⌝ }
+{
+    if constants::BLOCKS <= block.0 {
+        return 3;
+    }
+    if !block::primary_up(store, settings, block) {
+        return 6;
+    }
+    if block::is_ready(store, settings, block) {
+        return 0;
+    }
+    7
+}
 
 // The number of the first question that is answered no, or 0.
 fn asks(store: &[u8], settings: Settings, block: BlockNumber) -> u64
     requires { ⌜ StoreOf settings (now store) ⌝ }
     ensures { λ r. ⌜ r ≡ first-no (send-asks (decode (words (now (store .entry)))) (block .0)) ⌝ }
 {
-    if constants::BLOCKS <= block.0 {
-        return 3;
+    let no = primary_asks(store, settings, block);
+    if no != 0 {
+        return no;
+    }
+    if constants::MAX_RELAYS as u64 <= lent::store::relay_count(store, settings) {
+        return 10;
     }
     let bucket = bucket::number(settings, block);
     let agreed = bucket::agreed(store, settings, bucket);
-    if !brick::up_member(store, settings, agreed.primary) {
-        return 6;
-    }
-    if !agreed.ready {
-        return 7;
-    }
-    if constants::MAX_RELAYS as u64 <= drop::count(store) {
-        return 10;
-    }
     if constants::MAX_NUMBER <= agreed.order {
         return 12;
     }
-    if entry::has(store, settings, bucket, agreed.primary, block) {
+    if copy::has(store, settings, bucket, agreed.primary, block) {
         return 0;
     }
     13
@@ -59,32 +71,27 @@ fn relay(store: &mut [u8], settings: Settings, block: BlockNumber)
 {
     let bucket = bucket::number(settings, block);
     let order = bucket::agreed(store, settings, bucket).order + 1;
-    let view = lent::store::view(store, settings);
-    let key = mappings::mapped(store, settings, block);
-    bag::append(
-        &mut store[8 * sizes::BAG_AT..8 * sizes::PLACES_AT],
-        ViewNumber(view),
-        bucket as u64,
-        order,
-        block,
-        key,
-    );
+    let view = ViewNumber(lent::store::view(store, settings));
+    let key = block::mapped(store, settings, block);
+    let span = relay::bag_span(settings);
+    let from = span.from;
+    let to = span.to;
+    bag::append(&mut store[from..to], view, bucket as u64, order, block, key);
     words::write(
         store,
-        sizes::HEAD_WORDS + bucket * sizes::AGREED_WORDS + sizes::ORDER_AT,
+        sizes::agreed_at(settings, bucket) + sizes::ORDER_AT,
         order,
     );
 }
 
-pub fn send(store: &mut [u8], block: u64) -> Answer
-    requires { ⌜ SoundStore (now store) ⌝ }
+pub fn send(store: &mut [u8], settings: Settings, block: u64) -> Answer
+    requires { ⌜ StoreOf settings (now store) ⌝ }
     ensures { λ r. ⌜ Performs (Event.send block) (words (now (store .entry))) r (words (now (store .exit))) ⌝ }
 {
-    let settings = lent::store::settings(store);
     let no = asks(store, settings, BlockNumber(block));
-    if no == 0 {
-        relay(store, settings, BlockNumber(block));
-        return Answer::Yes(0);
+    if no != 0 {
+        return Answer::No(no);
     }
-    Answer::No(no)
+    relay(store, settings, BlockNumber(block));
+    Answer::Yes(0)
 }

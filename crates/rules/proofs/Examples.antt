@@ -22,7 +22,10 @@ use Rattle.rules.specs.Views.{last-pairs, view-pairs, view-effect, sourc
 use Rattle.rules.specs.Upkeep.{of-first-two, mend-key, mend-keys, mend-buckets, mend-effect, is-named, collect-effect}
 use Rattle.rules.specs.Step.{rule, step, after-all}
 use Rattle.rules.specs.Whole.{saved-twice, whole}
-use Rattle.rules.specs.Examples.{pairs-in, last-of, value, same-numbers, all-right, a1, b2, again, marked, slips}
+use Rattle.rules.specs.Sound.{same-entries}
+use Rattle.rules.specs.Alike.{same-flag, same-settings, alike}
+use Rattle.rules.specs.Examples.{pairs-in, last-of, chunks-in, entries-in, orders-in, value, same-numbers, all-right, a1, b2, again, for-each}
+use Rattle.rules.specs.Examples.{marked, slips}
 
 unfoldable lists-open : ℕ
 unfolding _and_ _or_ all-below some-below count-below every some only upd
@@ -46,7 +49,7 @@ unfolding parts-open pairs-open events-open first-no rule step after-all saved-t
 rules-open = 0
 
 unfoldable tables-open : ℕ
-unfolding rules-open pairs-in last-of value same-numbers all-right a1 b2 again
+unfolding rules-open same-entries same-flag same-settings alike pairs-in last-of chunks-in entries-in orders-in value same-numbers all-right a1 b2 again for-each
 tables-open = 0
 
 pub marked-right : all-right marked ≡ true

@@ -1,7 +1,11 @@
 pub mod Limits
 pub mod Entries
 pub mod Chunks
+pub mod Event
+pub mod Call
 pub mod Parts
+pub mod Questions
+pub mod Ids
 pub mod Step
 pub mod Sound
 pub mod SoundTest

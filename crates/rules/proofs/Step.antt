@@ -1,32 +1,22 @@
 -- What a step is: refused with nothing changed, or accepted with every answer yes.
-use mathlib.Core.Path.{_≡_, refl}
+use mathlib.Core.Path.{_≡_, refl, sym, subst}
 use mathlib.Core.List.{List, [], _∷_}
 use mathlib.Core.Bool.{Bool, true, false}
 use mathlib.Core.Logic.{_⊎_, inl, inr}
-use Prim.Native.Nat.{ℕ, zero, suc, _<_}
+use Prim.Native.Nat.{ℕ, zero, suc, _≤_, _<_}
 use native.Mathlib.Omega.{arith}
-use lib.Dec.{ltb}
-use borrow.Author.Tests.{ltb-true}
+use lib.Dec.{leb}
+use borrow.Author.Tests.{leb-true}
 use Rattle.lists.specs.Tests.{_and_}
-use Rattle.lists.proofs.Tests.{by, and-l, and-r}
+use Rattle.lists.proofs.Tests.{by, either, and-l, and-r}
 use Rattle.rules.specs.Event.{Event}
 use Rattle.rules.specs.State.{State}
 use Rattle.rules.specs.Question.{Question, first-no, AllYes}
 use Rattle.rules.specs.Step.{Outcome, only-key, rule, finish, step}
+use Rattle.rules.proofs.Questions.{numbered, all-yes}
 
--- no question has number 0
-abbrev numbered : List Question → Bool
-numbered [] = true
-numbered (q ∷ qs) = ltb 0 (q .code) and numbered qs
-
-pub all-yes : (qs : List Question) → numbered qs ≡ true → first-no qs ≡ 0 → AllYes qs
-unfolding first-no
-all-yes [] t h = tt
-all-yes (q ∷ qs) t h =
-    by (q .yes) (λ y. (y, all-yes qs (and-r (ltb 0 (q .code)) (numbered qs) t) (cc)))
-    (λ y. let z : q .code ≡ 0 = cc in absurd (omega (arith, ltb-true 0 (q .code) (and-l _ _ t))))
-
-rule-numbered : (s : State) (e : Event) → numbered (rule s e .questions) ≡ true
+-- an event's questions have the numbers 3 to 15
+pub rule-numbered : (s : State) (e : Event) → numbered (rule s e .questions) ≡ true
 unfolding rule _and_
 rule-numbered s (Event.put p i b d) = refl
 rule-numbered s (Event.copy k) = refl
@@ -74,6 +64,20 @@ code-is s e = go (first-no (rule s e .questions))
     go : (n : ℕ) → finish s (rule s e) n .code ≡ n
     go zero = refl
     go (suc n) = refl
+
+-- ---- the code is 0 or the number of a question
+abbrev pub Numbered : ℕ → Type 0
+Numbered c = (c ≡ 0) ⊎ ((3 ≤ c) × (c ≤ 15))
+
+first-numbered : (qs : List Question) → numbered qs ≡ true → Numbered (first-no qs)
+unfolding first-no
+first-numbered [] t = inl refl
+first-numbered (q ∷ qs) t =
+    either Numbered (q .yes) (λ _. first-numbered qs (and-r _ _ t))
+    (λ _. let n = and-l _ _ t in inr (leb-true 3 (q .code) (and-l _ _ n), leb-true (q .code) 15 (and-r _ _ n)))
+
+pub step-numbers : (s : State) (e : Event) → Numbered (step s e .code)
+step-numbers s e = subst Numbered (sym (code-is s e)) (first-numbered _ (rule-numbered s e))
 
 -- ---- refused with a number: the questions before were answered yes, and one of that number no
 abbrev pub Stops : List Question → ℕ → Type 0

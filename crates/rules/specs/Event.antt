@@ -1,10 +1,10 @@
 -- The 22 kinds of event, in 01's order, and their one table.
 use mathlib.Core.List.{List, [], _∷_}
-use mathlib.Core.Bool.{Bool, true, false}
+use mathlib.Core.Bool.{Bool, true, false, cond}
 use Prim.Native.Char.{code}
 use Prim.Native.Nat.{ℕ, zero, suc}
 use Prim.Native.String.{String, [] as empty, _∷_ as _before_}
-use lib.ListN.{getD}
+use lib.ListN.{getD, take}
 
 pub data Event : Type 0 where
   -- proxy, place, block, data
@@ -114,6 +114,13 @@ pub record Parts : Type 0 where
 -- fields that a kind doesn't have are not looked at
 unfoldable pub event-of : Parts → Event
 event-of p = kind-at (p .kind) .make (getD (p .numbers) 0 0) (getD (p .numbers) 1 0) (getD (p .numbers) 2 0) (p .bytes)
+
+-- of three numbers and data, those that the kind has; a call brings them all, and text has no more than these
+unfoldable pub parts-from : ℕ → ℕ → ℕ → ℕ → List ℕ → Parts
+parts-from k a b c bytes = record { kind = k; numbers = take (kind-at k .numbers) (a ∷ b ∷ c ∷ []); bytes = cond (kind-at k .payload) bytes [] }
+
+abbrev pub event-from : ℕ → ℕ → ℕ → ℕ → List ℕ → Event
+event-from k a b c bytes = event-of (parts-from k a b c bytes)
 
 abbrev parts : ℕ → List ℕ → Parts
 parts k ns = record { kind = k; numbers = ns; bytes = [] }

@@ -2,18 +2,22 @@
 -- order of questions.
 use mathlib.Core.List.{List, [], _∷_, _++_}
 use mathlib.Core.Bool.{Bool, true, false, cond}
-use Prim.Native.Nat.{ℕ, zero, suc, _+_, _^_}
+use Prim.Native.Nat.{ℕ, zero, suc, _+_, _*_, _^_}
 use lib.Dec.{eqb}
 use lib.ListN.{replicate}
 use Rattle.lists.specs.Tests.{_and_, every}
+use Rattle.lists.specs.Columns.{upd}
 use Rattle.rules.specs.declared.settings.Settings.{Settings}
 use Rattle.rules.specs.Limits.{in-limits, buckets}
 use Rattle.rules.specs.Numbers.{bucket-of, key-of}
 use Rattle.rules.specs.Event.{Event}
-use Rattle.rules.specs.State.{State}
+use Rattle.rules.specs.Entries.{Entry, entry}
+use Rattle.rules.specs.Chunks.{Chunk}
+use Rattle.rules.specs.State.{Relay, State, set-bucket, with-copies}
 use Rattle.rules.specs.Format.{format}
 use Rattle.rules.specs.Step.{step, after-all}
 use Rattle.rules.specs.Whole.{whole}
+use Rattle.rules.specs.Alike.{alike}
 
 pub data Asked : Type 0 where
   -- the code of a format
@@ -26,6 +30,10 @@ pub data Asked : Type 0 where
   last-answer : Settings → List Event → Asked
   -- 1 where the store is whole
   is-whole : Settings → List Event → Asked
+  -- 1 where the stores after two lists are alike
+  are-alike : Settings → List Event → List Event → Asked
+  -- what is seen of the state
+  seen-after : Settings → List Event → (State → List ℕ) → Asked
 
 unfoldable pub pairs-in : State → List ℕ → List ℕ
 pairs-in s [] = []
@@ -36,12 +44,39 @@ last-of s [] = []
 last-of s (e ∷ []) = let o = step s e in o .code ∷ o .said .key ∷ o .said .bytes
 last-of s (e ∷ f ∷ es) = last-of (step s e .after) (f ∷ es)
 
+-- ---- what is seen of a state: a brick's chunks, each with its key and whether it is saved; the blocks and keys of a table; the order numbers in the bag
+unfoldable pub chunks-in : List Chunk → List ℕ
+chunks-in [] = []
+chunks-in (c ∷ l) = c .key ∷ cond (c .saved) 1 0 ∷ chunks-in l
+
+unfoldable pub entries-in : List Entry → List ℕ
+entries-in [] = []
+entries-in (e ∷ l) = e .block ∷ e .key ∷ entries-in l
+
+unfoldable pub orders-in : List Relay → List ℕ
+orders-in [] = []
+orders-in (r ∷ l) = r .order ∷ orders-in l
+
+abbrev log-of : ℕ → State → List ℕ
+log-of id s = chunks-in (s .bricks .log id)
+
+abbrev items-of : ℕ → State → List ℕ
+items-of proxy s = entries-in (s .items proxy)
+
+abbrev copies-of : ℕ → ℕ → State → List ℕ
+copies-of g id s = entries-in (s .bucket g .memory id) ++ entries-in (s .bucket g .disk id)
+
+abbrev orders : State → List ℕ
+orders s = orders-in (s .bag)
+
 unfoldable pub value : Asked → List ℕ
 value (format-code c) = cond (in-limits c) 0 1 ∷ []
 value (bucket c b) = bucket-of (buckets c) b ∷ []
 value (pairs-after c es l) = pairs-in (after-all (format c) es) l
 value (last-answer c es) = last-of (format c) es
 value (is-whole c es) = cond (whole (after-all (format c) es)) 1 0 ∷ []
+value (are-alike c es fs) = cond (alike (after-all (format c) es) (after-all (format c) fs)) 1 0 ∷ []
+value (seen-after c es seen) = seen (after-all (format c) es)
 
 pub record Row : Type 0 where
   pub asked : Asked
@@ -104,6 +139,35 @@ unfoldable pub again : ℕ → List Event → List Event
 again zero l = []
 again (suc n) l = l ++ again n l
 
+-- an event for each of 0 to n - 1
+unfoldable pub for-each : ℕ → (ℕ → Event) → List Event
+for-each zero f = []
+for-each (suc n) f = for-each n f ++ (f n ∷ [])
+
+-- a block of bucket 15, whose pair is (1, 2) too: all four copies have it
+abbrev in-15 : ℕ
+in-15 = 15 * 1024
+
+abbrev settled-15 : List Event
+settled-15 = Event.learn 0 ∷ Event.put 0 0 in-15 a1 ∷ Event.savelog 0 ∷ Event.map 0 in-15 ∷ Event.send in-15 ∷ Event.deliver 0 ∷ Event.savemap 0
+    ∷ Event.savemap 1 ∷ []
+
+-- a view without brick 1, in which bucket 15 comes to be ready
+abbrev without-1 : List Event
+without-1 = Event.crash 0 ∷ Event.view ∷ Event.fetch 15 ∷ Event.ready 15 ∷ []
+
+-- 32 blocks wait in the primary's buffer; proxy 1 has one more
+abbrev waiting : List Event
+waiting = Event.view ∷ Event.learn 0 ∷ Event.learn 1 ∷ for-each 32 (λ b. Event.put 0 0 b a1)
+    ++ (Event.put 1 0 (2 ^ 49) a1 ∷ Event.savelog 0 ∷ for-each 32 (λ b. Event.map 0 b))
+
+abbrev long-log : Settings
+long-log = record { places = 3; size = 8; entries = 2; chunks = 33 }
+
+-- a state that no list of events gives: the backup's copy of bucket 0 is full with two blocks that the primary does not have
+abbrev crowded : State → State
+crowded s = let k = s .bucket 0 in set-bucket s 0 (with-copies k (upd (k .memory) (k .backup) (entry 8 (key-of 1 0) ∷ entry 9 (key-of 1 0) ∷ [])) (k .disk))
+
 -- ---- 01's marked examples
 unfoldable pub marked : List Row
 marked =
@@ -116,7 +180,8 @@ marked =
     ∷ (bucket small 1023 gives (0 ∷ []))
     ∷ (bucket small 1024 gives (1 ∷ []))
     ∷ (bucket small 16384 gives (0 ∷ []))
-    ∷ (pairs-after small [] (0 ∷ 1 ∷ 2 ∷ 3 ∷ 4 ∷ 5 ∷ 15 ∷ []) gives (1 ∷ 2 ∷ 3 ∷ 1 ∷ 2 ∷ 3 ∷ 1 ∷ 2 ∷ 3 ∷ 1 ∷ 2 ∷ 3 ∷ 1 ∷ 2 ∷ []))
+    ∷ (pairs-after small [] (0 ∷ 1 ∷ 2 ∷ 3 ∷ 4 ∷ 5 ∷ 6 ∷ 7 ∷ 8 ∷ 9 ∷ 10 ∷ 11 ∷ 12 ∷ 13 ∷ 14 ∷ 15 ∷ [])
+    gives (1 ∷ 2 ∷ 3 ∷ 1 ∷ 2 ∷ 3 ∷ 1 ∷ 2 ∷ 3 ∷ 1 ∷ 2 ∷ 3 ∷ 1 ∷ 2 ∷ 3 ∷ 1 ∷ 2 ∷ 3 ∷ 1 ∷ 2 ∷ 3 ∷ 1 ∷ 2 ∷ 3 ∷ 1 ∷ 2 ∷ 3 ∷ 1 ∷ 2 ∷ 3 ∷ 1 ∷ 2 ∷ []))
     ∷ (pairs-after small (Event.lose 1 ∷ Event.view ∷ []) (0 ∷ 1 ∷ 2 ∷ []) gives (1 ∷ 3 ∷ 3 ∷ 1 ∷ 3 ∷ 1 ∷ []))
     ∷ (last-answer small (Event.put 0 0 5 a1 ∷ Event.crash 0 ∷ Event.rise 0 ∷ Event.view ∷ Event.put 0 0 6 a1 ∷ []) gives done-with (key-of 1 1024))
     ∷ (last-answer small (Event.learn 0 ∷ Event.put 0 0 5 a1 ∷ Event.map 0 5 ∷ []) gives refused 11)
@@ -179,6 +244,37 @@ slips =
     ∷ (last-answer small (mapped-5 ++ (Event.abandon 0 5 ∷ Event.collect 0 ∷ [])) gives refused 13)
     ∷ (last-answer small (put-5 ++ (Event.done 0 5 ∷ [])) gives refused 15)
     ∷ (last-answer small (Event.unknown ∷ []) gives refused 3)
+    -- 13: more than half; 14: room at the backup, and not at the primary; 10: a buffer of 32
+    ∷ (last-answer (places 4) (Event.lose 0 ∷ Event.lose 1 ∷ Event.view ∷ []) gives refused 13)
+    ∷ (seen-after small (mapped-5 ++ (Event.send 5 ∷ [])) (λ s. last-of (crowded s) (Event.deliver 0 ∷ [])) gives refused 14)
+    ∷ (last-answer long-log waiting gives done-with 0)
+    ∷ (last-answer long-log (waiting ++ (Event.map 1 (2 ^ 49) ∷ [])) gives refused 10)
+    -- a copy goes to the next brick by id, circularly
+    ∷ (seen-after small (Event.put 0 1 5 a1 ∷ Event.copy (key-of 2 0) ∷ []) (log-of 3) gives (key-of 2 0 ∷ 0 ∷ []))
+    ∷ (seen-after small (Event.put 0 2 5 a1 ∷ Event.copy (key-of 3 0) ∷ []) (log-of 1) gives (key-of 3 0 ∷ 0 ∷ []))
+    -- mend: the second member from the home on gets the chunk saved, the third does not, and none in a bucket that is not ready
+    ∷ (seen-after small (settled-5 ++ (Event.mend 1 ∷ [])) (log-of 2) gives (key-of 1 0 ∷ 1 ∷ []))
+    ∷ (seen-after small (settled-5 ++ (Event.mend 2 ∷ [])) (log-of 3) gives [])
+    ∷ (seen-after small (settled-5 ++ (Event.view ∷ Event.mend 1 ∷ [])) (log-of 2) gives [])
+    -- collect: what no copy names goes, and nothing else
+    ∷ (seen-after small (written-5 ++ (Event.put 0 0 6 b2 ∷ Event.abandon 0 6 ∷ Event.collect 0 ∷ [])) (log-of 1) gives (key-of 1 0 ∷ 1 ∷ []))
+    -- done, abandon, reset, drop: an item goes, all items go, one relay goes
+    ∷ (seen-after small written-5 (items-of 0) gives [])
+    ∷ (seen-after small (put-5 ++ (Event.put 0 0 6 a1 ∷ Event.abandon 0 5 ∷ [])) (items-of 0) gives (6 ∷ key-of 1 1 ∷ []))
+    ∷ (seen-after small (put-5 ++ (Event.reset 0 ∷ [])) (items-of 0) gives [])
+    ∷ (seen-after small (mapped-5 ++ (Event.send 5 ∷ Event.send 5 ∷ Event.drop 0 ∷ [])) orders gives (2 ∷ []))
+    -- ready: a down brick keeps its copies, an up one outside the pair drops them
+    ∷ (seen-after small (settled-15 ++ without-1) (copies-of 15 1) gives (in-15 ∷ key-of 1 0 ∷ in-15 ∷ key-of 1 0 ∷ []))
+    ∷ (seen-after small (settled-15 ++ without-1 ++ (Event.rise 0 ∷ Event.view ∷ Event.fetch 15 ∷ Event.ready 15 ∷ [])) (copies-of 15 1) gives [])
+    -- pairs: brick 1 comes back to buckets that the two others have; backups give way before primaries, down to 11 = 32 / 3 rounded up
+    ∷ (pairs-after small (Event.crash 0 ∷ Event.view ∷ for-each 16 Event.fetch ++ for-each 16 Event.ready ++ (Event.rise 0 ∷ Event.view ∷ []))
+    (0 ∷ 1 ∷ 2 ∷ 3 ∷ 4 ∷ 5 ∷ 6 ∷ 7 ∷ 8 ∷ 9 ∷ 10 ∷ 11 ∷ 12 ∷ 13 ∷ 14 ∷ 15 ∷ [])
+    gives (2 ∷ 1 ∷ 3 ∷ 1 ∷ 2 ∷ 1 ∷ 2 ∷ 1 ∷ 3 ∷ 1 ∷ 2 ∷ 1 ∷ 2 ∷ 1 ∷ 3 ∷ 1 ∷ 2 ∷ 3 ∷ 2 ∷ 3 ∷ 3 ∷ 1 ∷ 2 ∷ 3 ∷ 2 ∷ 3 ∷ 3 ∷ 1 ∷ 2 ∷ 3 ∷ 2 ∷ 3 ∷ []))
+    -- alike: the primary's memory, not its disk; the view; the members
+    ∷ (are-alike small mapped-5 (mapped-5 ++ (Event.savemap 0 ∷ [])) gives (1 ∷ []))
+    ∷ (are-alike small mapped-5 put-5 gives (0 ∷ []))
+    ∷ (are-alike small (Event.view ∷ []) [] gives (0 ∷ []))
+    ∷ (are-alike small (Event.crash 2 ∷ []) [] gives (0 ∷ []))
     -- whole asks for two saved chunks
     ∷ (is-whole small settled-5 gives (0 ∷ []))
     ∷ (is-whole small written-5 gives (1 ∷ []))

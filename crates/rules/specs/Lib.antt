@@ -4,6 +4,7 @@ pub mod Entries
 pub mod Chunks
 pub mod State
 pub mod Event
+pub mod Call
 pub mod Pairs
 pub mod Format
 pub mod Parts

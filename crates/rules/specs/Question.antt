@@ -1,4 +1,4 @@
--- The questions, asked in the order of their numbers: a no answers with its number.
+-- The questions, asked in the order of the list: a no answers with its number.
 use mathlib.Core.Path.{_≡_}
 use mathlib.Core.List.{List, [], _∷_}
 use mathlib.Core.Bool.{Bool, true, not, cond}

@@ -12,6 +12,9 @@ pub const RUN_BLOCKS: u64 = 1024;
 // sequence numbers of one brick
 pub const SEQUENCES: u64 = 0x100_0000_0000_0000;
 
+// a put raises a brick's ceiling by so much
+pub const CEILING_STEP: u64 = 1024;
+
 // the highest view number and order number: 32 bits
 pub const MAX_NUMBER: u64 = 0xffff_ffff;
 

@@ -1,108 +1,102 @@
 // The step on a lent store: the event is told by its kind, a number 1 to 22, and kinds that share a shape share a case.
 ghost use mathlib.Core.Path.{_≡_};
+ghost use mathlib.Core.List.{[]};
 ghost use Prim.Native.Nat.{_≤_};
 ghost use Rattle.words.specs.Words.{words};
-ghost use Rattle.lent.specs.Performs.{SoundStore, Performs};
-ghost use Rattle.step.specs.Asked.{asked, asked-one, asked-two};
-ghost use Rattle.step.specs.Step.{brought, Steps};
+ghost use Rattle.rules.specs.Event.{event-from};
+ghost use Rattle.lent.specs.Performs.{Performs};
+ghost use Rattle.lent.specs.Stores.{StoreOf};
+ghost use Rattle.calls.specs.Outcome.{call-with, outcome, outcome-of};
 use lent::Answer;
+use rules::settings::Settings;
 
-const GET: u64 = 10;
+pub mod get;
 
 // put, copy, savelog
-fn write(store: &mut [u8], kind: u64, a: u64, b: u64, c: u64, data: &[u8]) -> Answer
-    requires { ⌜ SoundStore (now store) × (1 ≤ kind) × (kind ≤ 3) ⌝ }
-    ensures { λ r. ⌜ Performs (asked kind a b c (now («data» .entry))) (words (now (store .entry))) r (words (now (store .exit))) ⌝ }
+fn write(
+    store: &mut [u8],
+    settings: Settings,
+    kind: u64,
+    a: u64,
+    b: u64,
+    c: u64,
+    data: &[u8],
+) -> Answer
+    requires { ⌜ StoreOf settings (now store) × (1 ≤ kind) × (kind ≤ 3) ⌝ }
+    ensures { λ r. ⌜ Performs (event-from kind a b c (now («data» .entry))) (words (now (store .entry))) r (words (now (store .exit))) ⌝ }
 {
     match kind {
-        1 => writes::put::put(store, a, b, c, data),
-        2 => writes::copy::copy(store, a),
-        _ => writes::savelog::savelog(store, a),
+        1 => writes::put::put(store, settings, a, b, c, data),
+        2 => writes::copy::copy(store, settings, a),
+        _ => writes::savelog::savelog(store, settings, a),
     }
 }
 
 // map, send, deliver, drop, savemap
-fn map(store: &mut [u8], kind: u64, a: u64, b: u64) -> Answer
-    requires { ⌜ SoundStore (now store) × (4 ≤ kind) × (kind ≤ 8) ⌝ }
-    ensures { λ r. ⌜ Performs (asked-two kind a b) (words (now (store .entry))) r (words (now (store .exit))) ⌝ }
+fn map(store: &mut [u8], settings: Settings, kind: u64, a: u64, b: u64) -> Answer
+    requires { ⌜ StoreOf settings (now store) × (4 ≤ kind) × (kind ≤ 8) ⌝ }
+    ensures { λ r. ⌜ Performs (event-from kind a b 0 []) (words (now (store .entry))) r (words (now (store .exit))) ⌝ }
 {
     match kind {
-        4 => maps::map::map(store, a, b),
-        5 => relays::send::send(store, a),
-        6 => relays::deliver::deliver(store, a),
-        7 => relays::drop::drop(store, a),
-        _ => maps::savemap::savemap(store, a),
+        4 => maps::map::map(store, settings, a, b),
+        5 => relays::send::send(store, settings, a),
+        6 => relays::deliver::deliver(store, settings, a),
+        7 => relays::drop::drop(store, settings, a),
+        _ => maps::savemap::savemap(store, settings, a),
     }
 }
 
 // learn, reset
-fn follow(store: &mut [u8], kind: u64, proxy: u64) -> Answer
-    requires { ⌜ SoundStore (now store) × (12 ≤ kind) × (kind ≤ 13) ⌝ }
-    ensures { λ r. ⌜ Performs (asked-one kind proxy) (words (now (store .entry))) r (words (now (store .exit))) ⌝ }
+fn follow(store: &mut [u8], settings: Settings, kind: u64, proxy: u64) -> Answer
+    requires { ⌜ StoreOf settings (now store) × (12 ≤ kind) × (kind ≤ 13) ⌝ }
+    ensures { λ r. ⌜ Performs (event-from kind proxy 0 0 []) (words (now (store .entry))) r (words (now (store .exit))) ⌝ }
 {
     match kind {
-        12 => maps::proxies::learn(store, proxy),
-        _ => maps::proxies::reset(store, proxy),
+        12 => maps::proxies::learn(store, settings, proxy),
+        _ => maps::proxies::reset(store, settings, proxy),
     }
 }
 
 // crash, lose, rise, join
-fn change_brick(store: &mut [u8], kind: u64, place: u64) -> Answer
-    requires { ⌜ SoundStore (now store) × (14 ≤ kind) × (kind ≤ 17) ⌝ }
-    ensures { λ r. ⌜ Performs (asked-one kind place) (words (now (store .entry))) r (words (now (store .exit))) ⌝ }
+fn change_brick(store: &mut [u8], settings: Settings, kind: u64, place: u64) -> Answer
+    requires { ⌜ StoreOf settings (now store) × (14 ≤ kind) × (kind ≤ 17) ⌝ }
+    ensures { λ r. ⌜ Performs (event-from kind place 0 0 []) (words (now (store .entry))) r (words (now (store .exit))) ⌝ }
 {
     match kind {
-        14 => membership::crash::crash(store, place),
-        15 => membership::lose::lose(store, place),
-        16 => membership::rise::rise(store, place),
-        _ => membership::join::join(store, place),
+        14 => membership::crash::crash(store, settings, place),
+        15 => membership::lose::lose(store, settings, place),
+        16 => membership::rise::rise(store, settings, place),
+        _ => membership::join::join(store, settings, place),
     }
 }
 
 // view, fetch, ready
-fn change_view(store: &mut [u8], kind: u64, bucket: u64) -> Answer
-    requires { ⌜ SoundStore (now store) × (18 ≤ kind) × (kind ≤ 20) ⌝ }
-    ensures { λ r. ⌜ Performs (asked-one kind bucket) (words (now (store .entry))) r (words (now (store .exit))) ⌝ }
+fn change_view(store: &mut [u8], settings: Settings, kind: u64, bucket: u64) -> Answer
+    requires { ⌜ StoreOf settings (now store) × (18 ≤ kind) × (kind ≤ 20) ⌝ }
+    ensures { λ r. ⌜ Performs (event-from kind bucket 0 0 []) (words (now (store .entry))) r (words (now (store .exit))) ⌝ }
 {
     match kind {
-        18 => views::view::view(store),
-        19 => recovery::fetch::fetch(store, bucket),
-        _ => recovery::ready::ready(store, bucket),
+        18 => views::view::view(store, settings),
+        19 => recovery::fetch::fetch(store, settings, bucket),
+        _ => recovery::ready::ready(store, settings, bucket),
     }
 }
 
 // mend, collect
-fn keep_up(store: &mut [u8], kind: u64, place: u64) -> Answer
-    requires { ⌜ SoundStore (now store) × (21 ≤ kind) × (kind ≤ 22) ⌝ }
-    ensures { λ r. ⌜ Performs (asked-one kind place) (words (now (store .entry))) r (words (now (store .exit))) ⌝ }
+fn keep_up(store: &mut [u8], settings: Settings, kind: u64, place: u64) -> Answer
+    requires { ⌜ StoreOf settings (now store) × (21 ≤ kind) × (kind ≤ 22) ⌝ }
+    ensures { λ r. ⌜ Performs (event-from kind place 0 0 []) (words (now (store .entry))) r (words (now (store .exit))) ⌝ }
 {
     match kind {
-        21 => mend::mend(store, place),
-        _ => collect::collect(store, place),
+        21 => mend::mend(store, settings, place),
+        _ => collect::collect(store, settings, place),
     }
 }
 
-// Any kind but get, on a sound store; a kind that is none answers 3.
-pub fn perform(store: &mut [u8], kind: u64, a: u64, b: u64, c: u64, data: &[u8]) -> Answer
-    requires { ⌜ SoundStore (now store) × (kind ≡ 10 → ⊥) ⌝ }
-    ensures { λ r. ⌜ Performs (asked kind a b c (now («data» .entry))) (words (now (store .entry))) r (words (now (store .exit))) ⌝ }
-{
-    match kind {
-        1..=3 => write(store, kind, a, b, c, data),
-        4..=8 => map(store, kind, a, b),
-        9 => maps::done::done(store, a, b),
-        11 => maps::proxies::abandon(store, a, b),
-        12..=13 => follow(store, kind, a),
-        14..=17 => change_brick(store, kind, a),
-        18..=20 => change_view(store, kind, a),
-        21..=22 => keep_up(store, kind, a),
-        _ => Answer::No(3),
-    }
-}
-
-// Any kind, on a sound store.
-fn perform_or_read<'a>(
+// Any kind, on a sound store; a number of no kind answers 3.
+fn perform<'a>(
     store: &'a mut [u8],
+    settings: Settings,
     kind: u64,
     a: u64,
     b: u64,
@@ -111,14 +105,22 @@ fn perform_or_read<'a>(
     blank: &'a [u8],
     area: &mut [u8],
 ) -> Answer
-    requires { ⌜ SoundStore (now store) ⌝ }
-    ensures { λ r. ⌜ Steps (brought kind a b c (now («data» .entry)) (now (blank .entry)) (now (area .entry)))
-        (now (store .entry)) r (now (store .exit)) (now (area .exit)) ⌝ }
+    requires { ⌜ StoreOf settings (now store) ⌝ }
+    ensures { λ r. ⌜ outcome-of r (now (area .exit)) (now (store .exit))
+        ≡ outcome (now (store .entry)) (call-with kind a b c (now («data» .entry)) (now (blank .entry)) (now (area .entry))) ⌝ }
 {
-    if kind == GET {
-        return reads::get_into(store, blank, area, a, b);
+    match kind {
+        1..=3 => write(store, settings, kind, a, b, c, data),
+        4..=8 => map(store, settings, kind, a, b),
+        9 => maps::done::done(store, settings, a, b),
+        10 => reads::get_into(store, blank, area, settings, a, b),
+        11 => maps::proxies::abandon(store, settings, a, b),
+        12..=13 => follow(store, settings, kind, a),
+        14..=17 => change_brick(store, settings, kind, a),
+        18..=20 => change_view(store, settings, kind, a),
+        21..=22 => keep_up(store, settings, kind, a),
+        _ => Answer::No(3),
     }
-    perform(store, kind, a, b, c, data)
 }
 
 // The step: an event of any kind on any lent bytes. It brings its data, a block of zeros and an area for what a get answers.
@@ -132,11 +134,12 @@ pub fn step<'a>(
     blank: &'a [u8],
     area: &mut [u8],
 ) -> Answer
-    ensures { λ r. ⌜ Steps (brought kind a b c (now («data» .entry)) (now (blank .entry)) (now (area .entry)))
-        (now (store .entry)) r (now (store .exit)) (now (area .exit)) ⌝ }
+    ensures { λ r. ⌜ outcome-of r (now (area .exit)) (now (store .exit))
+        ≡ outcome (now (store .entry)) (call-with kind a b c (now («data» .entry)) (now (blank .entry)) (now (area .entry))) ⌝ }
 {
     if sound::is_sound(store) {
-        return perform_or_read(store, kind, a, b, c, data, blank, area);
+        let settings = lent::store::settings(store);
+        return perform(store, settings, kind, a, b, c, data, blank, area);
     }
     Answer::No(2)
 }

@@ -63,19 +63,18 @@ pub fn find(t: &[u8], width: usize, most: usize, x: u64) -> Spot
 
 // ---- comparison
 
-// Do the n words after the first agree?
+// Do the n words after the first agree? All are looked at: the compiler compares several at a time in a loop with no other way out.
 fn same_words(a: &[u8], b: &[u8], n: usize) -> bool
     requires { ⌜ (8 * (1 + n) ≤ length (now a)) × (8 * (1 + n) ≤ length (now b)) ⌝ }
     ensures { λ r. ⌜ r ≡ all-below n (same-at (words (now (a .entry))) (words (now (b .entry)))) ⌝ }
 {
+    let mut same = true;
     let mut i = 0;
     while i < n {
-        if words::read(a, 1 + i) != words::read(b, 1 + i) {
-            return false;
-        }
+        same = same & (words::read(a, 1 + i) == words::read(b, 1 + i));
         i += 1;
     }
-    true
+    same
 }
 
 // Have two tables the same rows?

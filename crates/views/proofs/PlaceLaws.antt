@@ -8,12 +8,12 @@ use Rattle.lists.specs.Runs.{on-run}
 use Rattle.lists.proofs.Rows.{count-cons}
 use Rattle.rules.specs.declared.settings.Settings.{Settings}
 use Rattle.codec.specs.Codec.{Clean, change}
+use Rattle.codec.proofs.Changes.{part-written}
 use Rattle.codec.proofs.Focus.{slot-none}
 use Rattle.layout.specs.Disk.{Status, Place}
 use Rattle.layout.specs.Layout.{brick-codec, place-codec, buffer-codec, place-words, buffer-at}
 use Rattle.layout.proofs.Foci.{buffer-of}
 use Rattle.parts.specs.Parts.{with-status}
-use Rattle.lent.proofs.Changes.{next-change}
 use Rattle.views.specs.Begin.{begun-status, begun}
 
 module _ (c : Settings) (w : List ℕ) (h : length w ≡ place-words c) where
@@ -31,5 +31,5 @@ module _ (c : Settings) (w : List ℕ) (h : length w ≡ place-words c) where
   begin-brick k z s es w1 w2 e1 e2 =
       let place : Place = place-codec c .dec w in
       e2 ∙ ap (on-run buffer-at (buffer-codec .size) (buffer-codec .enc [])) (e1 ∙ ap (λ (x : Status). change (place-codec c) (with-status x) w) es)
-      ∙ sym (next-change (buffer-of c) w h k ((refl, z), (refl, refl)) (with-status (begun-status (place .snd .status)) place) (begun place)
-      ((refl, z), (refl, refl)) refl)
+      ∙ part-written (buffer-of c) w h k ((refl, z), (refl, refl)) (with-status (begun-status (place .snd .status)) place) (begun place)
+      ((refl, z), (refl, refl)) refl (buffer-codec .enc []) refl

@@ -1,57 +1,30 @@
--- The questions of the event view, and its answers.
-use mathlib.Core.Path.{_≡_, sym, ap, _∙_}
+-- The questions of the event view, by the settings that were read.
+use mathlib.Core.Path.{_≡_, refl, sym, ap, _∙_}
 use mathlib.Core.List.{List}
-use Prim.Native.Nat.{ℕ, _*_, _≤_, _<_}
-use lib.ListN.{getD}
-use borrow.Author.Tests.{lt-ltb, le-ltb}
+use mathlib.Core.Bool.{Bool}
+use Prim.Native.Nat.{ℕ, _<_}
+use borrow.Author.Tests.{ltb-true}
 use Rattle.lists.specs.Tests.{_and_, count-below}
+use Rattle.words.specs.Words.{words}
 use Rattle.rules.specs.declared.settings.Settings.{Settings}
 use Rattle.rules.specs.Limits.{max-number}
-use Rattle.rules.specs.Event.{Event}
 use Rattle.rules.specs.State.{State}
-use Rattle.rules.specs.Parts.{is-up}
 use Rattle.rules.specs.Question.{first-no}
-use Rattle.rules.specs.Step.{rule}
-use Rattle.rules.specs.Views.{view-effect}
-use Rattle.layout.specs.Layout.{started-at}
-use Rattle.layout.specs.Store.{decode, render}
-use Rattle.layout.proofs.Parts.{started-read}
-use Rattle.layout.proofs.Sound.{SoundWords}
-use Rattle.lent.specs.declared.Answer.the-variants.{Yes, No}
-use Rattle.lent.specs.Performs.{Performs}
-use Rattle.lent.proofs.Performs.{refuses, accepts}
+use Rattle.rules.specs.Views.{view-asks}
+use Rattle.rules.proofs.Questions.{all-yes}
+use Rattle.layout.specs.Store.{decode}
+use Rattle.lent.specs.Stores.{StoreOf}
+use Rattle.lent.proofs.Stores.{settings-are}
+use Rattle.views.specs.Begin.{counted}
 
-module _ (ws : List ℕ) (sd : SoundWords ws) (c : Settings) (e : decode ws .settings ≡ c) where
+module _ (c : Settings) (bs : List ℕ) (v : StoreOf c bs) where
   abbrev s : State
-  s = decode ws
+  s = decode (words bs)
 
-  pub no-number : max-number ≤ s .view → Performs Event.view ws (No 12) ws
-  unfolding rule first-no
-  no-number h = refuses Event.view ws sd 11 (rw (le-ltb (s .view) max-number h))
+  pub count-of : (staying : Bool) (n : ℕ) → n ≡ count-below (c .places) (counted staying s) → n ≡ count-below (s .settings .places) (counted staying s)
+  count-of staying n e = e ∙ ap (λ (x : Settings). count-below (x .places) (counted staying s)) (sym (settings-are c bs v))
 
-  module _ (a : s .view < max-number) (up : ℕ) (eu : up ≡ count-below (c .places) (is-up s)) where
-    several : up ≡ count-below (s .settings .places) (is-up s)
-    several = eu ∙ ap (λ (x : Settings). count-below (x .places) (is-up s)) (sym e)
-
-    pub too-few : up ≤ 1 → Performs Event.view ws (No 13) ws
-    unfolding rule first-no
-    too-few h = refuses Event.view ws sd 12 (rw (lt-ltb (s .view) max-number a, ← several, le-ltb 1 up h))
-
-    module _ (b : 1 < up) (n started : ℕ) (en : n ≡ count-below (c .places) (λ p. is-up s p and s .bricks .began (s .ids p)))
-        (es : started ≡ getD ws started-at 0) where
-      stayed : n ≡ count-below (s .settings .places) (λ p. is-up s p and s .bricks .began (s .ids p))
-      stayed = en ∙ ap (λ (x : Settings). count-below (x .places) (λ p. is-up s p and s .bricks .began (s .ids p))) (sym e)
-
-      begins : started ≡ s .started
-      begins = es ∙ sym (started-read ws (sd .size))
-
-      pub not-half : 2 * n ≤ started → Performs Event.view ws (No 13) ws
-      unfolding rule first-no
-      not-half h =
-          refuses Event.view ws sd 12 (rw (lt-ltb (s .view) max-number a, ← several, lt-ltb 1 up b, ← stayed, ← begins, le-ltb started (2 * n) h))
-
-      pub viewed : started < 2 * n → (after : List ℕ) → after ≡ render (view-effect s) ws → Performs Event.view ws (Yes 0) after
-      unfolding rule
-      viewed h after q =
-          accepts Event.view ws after
-          (lt-ltb (s .view) max-number a, (rw (← several) (lt-ltb 1 up b), (rw (← stayed, ← begins) (lt-ltb started (2 * n) h), tt))) q
+  -- a view number is left
+  pub view-yes : first-no (view-asks s) ≡ 0 → s .view < max-number
+  unfolding _and_
+  view-yes e = ltb-true (s .view) max-number (all-yes (view-asks s) refl e .0)

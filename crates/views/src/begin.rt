@@ -1,13 +1,14 @@
 // The effect of the event view.
 ghost use mathlib.Core.Path.{_≡_};
-ghost use Prim.Native.Nat.{_*_};
+ghost use Prim.Native.Nat.{_*_, _<_};
 ghost use lib.ListN.{length};
 ghost use Rattle.words.specs.Words.{words};
-ghost use Rattle.rules.specs.Limits.{buckets};
+ghost use Rattle.rules.specs.Limits.{buckets, max-number};
 ghost use Rattle.rules.specs.Views.{view-pairs, view-effect};
 ghost use Rattle.layout.specs.Store.{decode, render};
 ghost use Rattle.lent.specs.Stores.{StoreOf};
 ghost use Rattle.views.specs.Begin.{Begins};
+use crate::members;
 use crate::place;
 use crate::record;
 use crate::slots;
@@ -25,7 +26,7 @@ fn write(store: &mut [u8], settings: Settings, started: u64, pairs: &[u64])
     let proxies_at = sizes::proxies_at(settings);
     let places_at = sizes::places_at(settings);
     let end = store.len();
-    let view = words::read(store, sizes::VIEW_AT);
+    let view = lent::store::view(store, settings);
     words::write(store, sizes::VIEW_AT, view + 1);
     words::write(store, sizes::STARTED_AT, started);
     record::renew_all(
@@ -45,11 +46,12 @@ fn begin_in(store: &mut [u8], settings: Settings, started: u64, pairs: &mut [u64
     write(store, settings, started, pairs);
 }
 
-// A view begins with so many bricks.
-pub fn begin(store: &mut [u8], settings: Settings, started: u64)
-    requires { ⌜ StoreOf settings (now store) × Begins settings (decode (words (now store))) started ⌝ }
+// A view begins, with the bricks that are up.
+pub fn begin(store: &mut [u8], settings: Settings)
+    requires { ⌜ StoreOf settings (now store) × (decode (words (now store)) .view < max-number) ⌝ }
     ensures { λ _. ⌜ words (now (store .exit)) ≡ render (view-effect (decode (words (now (store .entry))))) (words (now (store .entry))) ⌝ }
 {
+    let started = members::count(store, settings, false) as u64;
     let used = 2 * sizes::buckets(settings);
     let mut room = [0; MAX_SLOTS];
     begin_in(store, settings, started, &mut room[0..used]);

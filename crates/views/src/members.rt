@@ -2,28 +2,45 @@
 ghost use mathlib.Core.Path.{_≡_};
 ghost use Prim.Native.Nat.{_<_, _≤_};
 ghost use lib.ListN.{length, take};
-ghost use Rattle.lists.specs.Tests.{_and_, count-below};
+ghost use Rattle.lists.specs.Tests.{count-below};
 ghost use Rattle.words.specs.Words.{words};
 ghost use Rattle.rules.specs.Limits.{max-id};
 ghost use Rattle.rules.specs.Pairs.{ids-of};
-ghost use Rattle.rules.specs.Parts.{is-up};
 ghost use Rattle.layout.specs.Store.{decode};
 ghost use Rattle.lent.specs.Stores.{StoreOf};
-use lent::brick;
-use lent::brick::Found;
+ghost use Rattle.views.specs.Begin.{counted};
+ghost use Rattle.views.specs.Members.{ids, up-within, NextUp};
 use lent::place;
-use lent::store;
+use rules::constants;
 use rules::settings::Settings;
 
-// Is the brick up?
-fn is_up(store: &[u8], settings: Settings, id: u64) -> bool
-    requires { ⌜ StoreOf settings (now store) ⌝ }
-    ensures { λ r. ⌜ r ≡ decode (words (now (store .entry))) .bricks .up id ⌝ }
+// ids are below this
+const IDS: u64 = constants::MAX_ID + 1;
+
+// Is the brick at the place up, with an id from one number to below another?
+fn up_within(store: &[u8], settings: Settings, from: u64, to: u64, place: usize) -> bool
+    requires { ⌜ StoreOf settings (now store) × (place < settings .places) ⌝ }
+    ensures { λ r. ⌜ r ≡ up-within (decode (words (now (store .entry)))) from to place ⌝ }
 {
-    match brick::place_of(store, settings, id) {
-        Found::At(place) => place::is_up(store, settings, place),
-        Found::Nowhere => false,
+    let id = place::id(store, settings, place);
+    (from <= id) & (id < to) & place::is_up(store, settings, place)
+}
+
+// The lowest id of an up brick from a number on; beyond the ids where there is none.
+fn next_up(store: &[u8], settings: Settings, from: u64) -> u64
+    requires { ⌜ StoreOf settings (now store) × (0 < from) × (from ≤ ids) ⌝ }
+    ensures { λ r. ⌜ NextUp (decode (words (now (store .entry)))) from r ⌝ }
+{
+    let mut least = IDS;
+    let mut place = 0;
+    while place < settings.places {
+        let here = place;
+        place += 1;
+        if up_within(store, settings, from, least, here) {
+            least = place::id(store, settings, here);
+        }
     }
+    least
 }
 
 // The ids of the bricks that are up, ascending, go to the front of the list; so many they are.
@@ -32,64 +49,45 @@ pub fn up_ids(store: &[u8], settings: Settings, ids: &mut [u64]) -> usize
     ensures { λ r. ⌜ (r ≤ max-id)
         × (take r (now (ids .exit)) ≡ ids-of (decode (words (now (store .entry))) .given) (decode (words (now (store .entry))) .bricks .up)) ⌝ }
 {
-    let given = store::given(store, settings);
     let mut count = 0;
-    let mut id = 0;
-    while id < given {
-        id += 1;
-        if is_up(store, settings, id) {
-            ids[count] = id;
-            count += 1;
-        }
+    let mut id = next_up(store, settings, 1);
+    while id < IDS {
+        ids[count] = id;
+        count += 1;
+        id = next_up(store, settings, id + 1);
     }
     count
 }
 
-// How many bricks are up.
-pub fn count_up(store: &[u8], settings: Settings) -> usize
-    requires { ⌜ StoreOf settings (now store) ⌝ }
-    ensures { λ r. ⌜ r ≡ count-below (settings .places) (is-up (decode (words (now (store .entry))))) ⌝ }
-{
-    let mut count = 0;
-    let mut place = 0;
-    while place < settings.places {
-        let up = place::is_up(store, settings, place);
-        place += 1;
-        if up {
-            count += 1;
-        }
-    }
-    count
-}
-
-// Is the brick at a place up, and did the present view begin with it?
-fn stayed(store: &[u8], settings: Settings, place: usize) -> bool
+// Is the brick at a place up? And, of those that stayed, did the present view begin with it?
+fn counts(store: &[u8], settings: Settings, place: usize, staying: bool) -> bool
     requires { ⌜ StoreOf settings (now store) × (place < settings .places) ⌝ }
-    ensures { λ r. ⌜ r ≡ (is-up (decode (words (now (store .entry)))) place
-        and decode (words (now (store .entry))) .bricks .began (decode (words (now (store .entry))) .ids place)) ⌝ }
+    ensures { λ r. ⌜ r ≡ counted staying (decode (words (now (store .entry)))) place ⌝ }
 {
     if place::id(store, settings, place) == 0 {
         return false;
     }
     let status = place::status(store, settings, place);
     if status.up {
-        return status.began;
+        if staying {
+            return status.began;
+        }
+        return true;
     }
     false
 }
 
-// How many of the bricks that the present view began with are up, risen ones counted.
-pub fn count_stayed(store: &[u8], settings: Settings) -> usize
+// How many bricks are up; or how many of those that the present view began with, risen ones counted.
+pub fn count(store: &[u8], settings: Settings, staying: bool) -> usize
     requires { ⌜ StoreOf settings (now store) ⌝ }
-    ensures { λ r. ⌜ r ≡ count-below (settings .places) (λ p. is-up (decode (words (now (store .entry)))) p
-        and decode (words (now (store .entry))) .bricks .began (decode (words (now (store .entry))) .ids p)) ⌝ }
+    ensures { λ r. ⌜ r ≡ count-below (settings .places) (counted staying (decode (words (now (store .entry))))) ⌝ }
 {
     let mut count = 0;
     let mut place = 0;
     while place < settings.places {
-        let up = stayed(store, settings, place);
+        let yes = counts(store, settings, place, staying);
         place += 1;
-        if up {
+        if yes {
             count += 1;
         }
     }

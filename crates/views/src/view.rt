@@ -2,29 +2,43 @@
 ghost use mathlib.Core.Path.{_≡_};
 ghost use Rattle.words.specs.Words.{words};
 ghost use Rattle.rules.specs.Event.{Event};
-ghost use Rattle.lent.specs.Performs.{SoundStore, Performs};
+ghost use Rattle.rules.specs.Question.{first-no};
+ghost use Rattle.rules.specs.Views.{view-asks};
+ghost use Rattle.layout.specs.Store.{decode};
+ghost use Rattle.lent.specs.Performs.{Performs};
+ghost use Rattle.lent.specs.Stores.{StoreOf};
 use crate::begin;
 use crate::members;
-use layout::sizes;
 use lent::Answer;
 use rules::constants;
+use rules::settings::Settings;
 
-pub fn view(store: &mut [u8]) -> Answer
-    requires { ⌜ SoundStore (now store) ⌝ }
+// Its questions: the number of the first no, or 0.
+fn asks(store: &[u8], settings: Settings) -> u64
+    requires { ⌜ StoreOf settings (now store) ⌝ }
+    ensures { λ r. ⌜ r ≡ first-no (view-asks (decode (words (now (store .entry))))) ⌝ }
+{
+    if constants::MAX_NUMBER <= lent::store::view(store, settings) {
+        return 12;
+    }
+    if members::count(store, settings, false) <= 1 {
+        return 13;
+    }
+    let stayed = members::count(store, settings, true);
+    if 2 * stayed as u64 <= lent::store::started(store, settings) {
+        return 13;
+    }
+    0
+}
+
+pub fn view(store: &mut [u8], settings: Settings) -> Answer
+    requires { ⌜ StoreOf settings (now store) ⌝ }
     ensures { λ r. ⌜ Performs Event.view (words (now (store .entry))) r (words (now (store .exit))) ⌝ }
 {
-    let settings = lent::store::settings(store);
-    if constants::MAX_NUMBER <= lent::store::view(store, settings) {
-        return Answer::No(12);
+    let no = asks(store, settings);
+    if no != 0 {
+        return Answer::No(no);
     }
-    let up = members::count_up(store, settings);
-    if up <= 1 {
-        return Answer::No(13);
-    }
-    let stayed = members::count_stayed(store, settings);
-    if 2 * stayed as u64 <= words::read(store, sizes::STARTED_AT) {
-        return Answer::No(13);
-    }
-    begin::begin(store, settings, up as u64);
+    begin::begin(store, settings);
     Answer::Yes(0)
 }

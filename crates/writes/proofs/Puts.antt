@@ -7,82 +7,46 @@ use Prim.Native.Nat.{ℕ, suc, _+_, _*_, _-_, _<_}
 use native.Mathlib.Numerals.{add-one}
 use native.Mathlib.Omega.{arith}
 use lib.Dec.{ltb, leb}
-use lib.ListN.{length, take, drop, getD}
+use lib.ListN.{length, take, drop}
 use borrow.Author.Tests.{eqb-true, ltb-true, leb-true, lt-ltb, not-true}
 use Rattle.lists.specs.Tests.{_or_}
-use Rattle.lists.specs.Runs.{run, on-run}
 use Rattle.lists.proofs.Tests.{and-l, or-cases}
 use Rattle.lists.proofs.Columns.{upd-same, upd-other}
-use Rattle.lists.proofs.Runs.{run-at, run-length}
 use Rattle.words.specs.Words.{words}
-use Rattle.words.proofs.Laws.{lent-run}
 use Rattle.rules.specs.declared.settings.Settings.{Settings}
-use Rattle.rules.specs.Limits.{proxies, buckets, max-items, ceiling-step}
+use Rattle.rules.specs.Limits.{proxies, max-items, ceiling-step}
 use Rattle.rules.specs.Numbers.{sequences, is-data}
 use Rattle.rules.specs.Entries.{Entry, insert, takes}
-use Rattle.rules.specs.Chunks.{chunk, append}
 use Rattle.rules.specs.State.{State}
 use Rattle.rules.specs.Question.{AllYes, has-item}
 use Rattle.rules.specs.Writes.{put-asks, new-key, raised, put-effect}
 use Rattle.codec.specs.Codec.{change}
-use Rattle.codec.proofs.Focus.{Focus, part-length}
+use Rattle.codec.proofs.Focus.{Focus}
 use Rattle.tables.specs.Tables.{Sorted}
 use Rattle.entries.specs.Words.{entry-words}
 use Rattle.entries.proofs.Words.{takes-room}
-use Rattle.layout.specs.Disk.{Status, Place, entry-row}
-use Rattle.layout.specs.Layout.{items-codec, disk-codec, settings-of, store-words}
+use Rattle.layout.specs.Disk.{Status, Place}
+use Rattle.layout.specs.Layout.{items-codec, disk-codec, proxy-at, items-at}
 use Rattle.layout.specs.Store.{to-disk, decode, render}
 use Rattle.layout.proofs.Foci.{items-focus}
-use Rattle.layout.proofs.Lent.{lent}
-use Rattle.layout.proofs.Changes.{seen}
 use Rattle.lent.specs.Stores.{StoreOf}
 use Rattle.lent.proofs.Stores.{settings-are, facts}
-use Rattle.lent.proofs.Tables.{count-is, sorted-table}
-use Rattle.lent.proofs.Effects.{untouched, changed}
-use Rattle.lent.proofs.PlaceChange.{ChangesPlace, Stands, brick-changes}
-use Rattle.lent.proofs.LentPlace.{LentPlace, part, up-filled, part-read, part-brick}
-use Rattle.writes.proofs.Places.{room-left}
-use Rattle.writes.specs.Puts.{counted, put-in, put-bricks, PutFits, items-of, ItemsTake}
-
--- ---- counts
-pub items-counted : (c : Settings) (bs : List ℕ) → StoreOf c bs → (p : ℕ) → p < proxies → length (decode (words bs) .items p) ≡ getD (words bs) (items-of p) 0
-unfolding buckets
-items-counted c bs so p h =
-    let φ = items-focus (settings-of (words bs)) p h in
-    ap length (seen (words bs) (so .sound) φ ((((refl, refl), refl), λ j l z. refl), refl))
-    ∙ count-is entry-row max-items (run (φ .off) (items-codec .size) (words bs))
-    ∙ run-at (φ .off) (items-codec .size) 0 (words bs) (omega arith)
-    ∙ ap (λ (k : ℕ). getD (words bs) k 0) (omega arith)
-
--- ---- the items of a proxy, bytes o to e of s
-module _ (s : List ℕ) (p o e : ℕ) (eo : o ≡ 8 * items-of p) (ee : e ≡ o + 8 * items-codec .size) (block : ℕ) (k : ItemsTake p block (words s) (length s)) where
-  abbrev lent-items : List ℕ
-  lent-items = take (e - o) (drop o s)
-
-  items-words : words lent-items ≡ run (items-of p) (items-codec .size) (words s)
-  items-words = lent s o e (items-of p) (items-codec .size) eo ee (k .inside)
-
-  items-length : length lent-items ≡ 8 * items-codec .size
-  items-length = run-length o (e - o) s (omega (arith, k .inside)) ∙ omega arith
-
-  pub items-fit : Sorted entry-words max-items (words lent-items) (length lent-items) × (takes max-items (items-codec .dec (words lent-items)) block ≡ true)
-  items-fit = (rw (items-words, items-length) (k .sorted), rw items-words (k .takes))
-
-  pub item-put : (key : ℕ) (t : List ℕ) → length t ≡ length lent-items → words t ≡ change items-codec (λ l. insert l block key) (words lent-items)
-      → words (take o s ++ (t ++ drop (e - o) (drop o s)))
-      ≡ on-run (items-of p) (items-codec .size) (change items-codec (λ l. insert l block key)) (words s)
-  item-put key t l q =
-      lent-run s t o (e - o) (items-of p) (items-codec .size) (change items-codec (λ l. insert l block key)) eo (omega arith) (omega (arith, k .inside))
-      (l ∙ items-length) q
+use Rattle.lent.proofs.Places.{up-filled}
+use Rattle.lent.proofs.Parts.{copy-part}
+use Rattle.lent.proofs.Effects.{later-value, later-effect}
+use Rattle.lent.proofs.LentPlace.{ChangesPlace, Filled, brick-changes, LentPlace, part, part-read, part-brick}
+use Rattle.writes.specs.Logs.{with-chunk}
+use Rattle.writes.specs.Puts.{counted, put-in, put-bricks, PutFits}
+use Rattle.writes.proofs.Logs.{room-left}
 
 -- ---- the place
-pub put-changes : (s : State) (p : ℕ) → Stands s p → (bytes : List ℕ)
+pub put-changes : (s : State) (p : ℕ) → Filled s p → (bytes : List ℕ)
     → ChangesPlace s (put-bricks s (s .ids p) bytes) p (put-in (new-key s (s .ids p)) bytes)
 put-changes s p at bytes =
     let id = s .ids p in
     let next = suc (s .bricks .next id) in
     let ceiling = raised (s .bricks .next id) (s .bricks .ceiling id) in
-    let log = append (s .bricks .log id) (chunk (new-key s id) false bytes) in
+    let log = with-chunk (new-key s id) bytes (s .bricks .log id) in
     brick-changes s (put-bricks s id bytes) p (put-in (new-key s id) bytes) at refl
     (record {
       head = refl;
@@ -140,7 +104,7 @@ module _ (c : Settings) (bs : List ℕ) (so : StoreOf c bs) (proxy place block :
       record {
         proxy-in = ltb-true proxy proxies (y .0);
         place-in = rw same at (ltb-true place (s .settings .places) (y .1 .0));
-        filled = up-filled so place (and-l _ _ live);
+        filled = up-filled c bs so place (and-l _ _ live);
         named = omega arith;
         none = not-true _ (asks .1 .0);
         items = ltb-true (length (s .items proxy)) max-items (asks .1 .1 .0);
@@ -150,9 +114,9 @@ module _ (c : Settings) (bs : List ℕ) (so : StoreOf c bs) (proxy place block :
       }
 
 -- ---- the place's part may take the chunk
-pub put-fits : {bs : List ℕ} {c : Settings} {p from to : ℕ} (l : LentPlace bs c p from to) (proxy block : ℕ) (bytes : List ℕ)
+pub put-fits : {bs : List ℕ} {c : Settings} {p from to : ℕ} (l : LentPlace bs c p from to) {proxy block : ℕ} {bytes : List ℕ}
     → PutMay c (decode (words bs)) proxy p block bytes → PutFits c (words (part l)) (length (part l)) bytes
-put-fits {bs} {c} {p} l proxy block bytes may =
+put-fits {bs} {c} {p} l may =
     let s = decode (words bs) in
     let id = s .ids p in
     let brick = part-brick l (may .filled) in
@@ -169,9 +133,11 @@ put-fits {bs} {c} {p} l proxy block bytes may =
       size = may .size;
     }
 
--- ---- the proxy's items, after the place changed
-module _ (c : Settings) (bs : List ℕ) (so : StoreOf c bs) (proxy place block : ℕ) (bytes : List ℕ)
-    (may : PutMay c (decode (words bs)) proxy place block bytes) where
+-- ---- the proxy's items, bytes o to e after the place changed
+module _ {c : Settings} {bs : List ℕ} (so : StoreOf c bs) {proxy place block : ℕ} {bytes : List ℕ}
+    (may : PutMay c (decode (words bs)) proxy place block bytes) (v : List ℕ)
+    (same : words v ≡ render (put-bricks (decode (words bs)) (decode (words bs) .ids place) bytes) (words bs)) (long : length v ≡ length bs)
+    (o e : ℕ) (eo : o ≡ 8 * (proxy-at c proxy + items-at)) (ee : e ≡ o + 8 * items-codec .size) where
   abbrev old : State
   old = decode (words bs)
 
@@ -181,49 +147,35 @@ module _ (c : Settings) (bs : List ℕ) (so : StoreOf c bs) (proxy place block :
   abbrev between : State
   between = put-bricks old id bytes
 
-  abbrev part-of-items : Focus (disk-codec (settings-of (words bs))) items-codec
-  part-of-items = items-focus (settings-of (words bs)) proxy (may .proxy-in)
+  abbrev items : Focus (disk-codec c) items-codec
+  items = items-focus c proxy (may .proxy-in)
 
-  here : part-of-items .Else (to-disk old) (to-disk old)
+  here : items .Else (to-disk old) (to-disk old)
   here = ((((refl, refl), refl), λ j l z. refl), refl)
 
-  still : run (items-of proxy) (items-codec .size) (render between (words bs)) ≡ run (items-of proxy) (items-codec .size) (words bs)
-  unfolding buckets
-  still = untouched (words bs) (so .sound) part-of-items between refl here refl ((((refl, refl), refl), λ j l z. refl), refl)
+  still : items-codec .dec (words (take (e - o) (drop o v))) ≡ old .items proxy
+  still = later-value c bs so items here between refl refl v same long o e eo ee ((((refl, refl), refl), λ j l z. refl), refl)
 
-  items-read : items-codec .dec (run (items-of proxy) (items-codec .size) (words bs)) ≡ old .items proxy
-  unfolding buckets
-  items-read = sym (seen (words bs) (so .sound) part-of-items here)
+  pub items-take : length (take (e - o) (drop o v)) ≡ 8 * items-codec .size
+      → Sorted entry-words max-items (words (take (e - o) (drop o v))) (length (take (e - o) (drop o v)))
+      × (takes max-items (items-codec .dec (words (take (e - o) (drop o v)))) block ≡ true)
+  items-take l = (
+    copy-part max-items (old .items proxy) (take (e - o) (drop o v)) l still (facts c bs so .items proxy .room) (facts c bs so .items proxy .sorted) .sorted,
+    rw still (takes-room max-items (old .items proxy) block (may .none) ∙ lt-ltb (length (old .items proxy)) max-items (may .items)),
+  )
 
-  pub items-take : (v : List ℕ) → words v ≡ render between (words bs) → length v ≡ length bs → ItemsTake proxy block (words v) (length v)
-  unfolding buckets
-  items-take v e n =
-      let w = run (items-of proxy) (items-codec .size) (words bs) in
-      let same : run (items-of proxy) (items-codec .size) (words v) ≡ w = ap (run (items-of proxy) (items-codec .size)) e ∙ still in
-      let inside = part-of-items .inside in
-      let small = may .proxy-in in
-      let size = so .size in
-      let long = so .sound .size in
-      let sizes = ap store-words (so .same) in
-      let count : length w ≡ items-codec .size = part-length part-of-items (words bs) long in
-      let room = may .items in
-      record {
-        inside = omega arith;
-        small = may .proxy-in;
-        sorted = rw same (sorted-table max-items (old .items proxy) (facts c bs so .items proxy) w (8 * items-codec .size) count refl items-read);
-        takes = rw (same, items-read) (takes-room max-items (old .items proxy) block (may .none) ∙ lt-ltb (length (old .items proxy)) max-items room);
-      }
-
-  pub item-added : (key : ℕ) → key ≡ new-key old id
-      → on-run (items-of proxy) (items-codec .size) (change items-codec (λ l. insert l block key)) (render between (words bs))
-      ≡ render (put-effect old proxy id block bytes) (words bs)
-  unfolding buckets put-effect
-  item-added key e =
+  pub item-added : (key : ℕ) → key ≡ new-key old id → (t : List ℕ) → length t ≡ 8 * items-codec .size
+      → words t ≡ change items-codec (λ l. insert l block key) (words (take (e - o) (drop o v)))
+      → words (take o v ++ (t ++ drop (e - o) (drop o v))) ≡ render (put-effect old proxy id block bytes) (words bs)
+  unfolding put-effect
+  item-added key q t l w =
       let new = insert (old .items proxy) block (new-key old id) in
-      rw e (changed (words bs) (so .sound) part-of-items between refl here refl (put-effect old proxy id block bytes) refl (
+      later-effect c bs so items here between refl refl v same long o e eo ee (put-effect old proxy id block bytes) refl (
         (
           ((refl, refl), refl),
           λ j l z. ap (λ (i : List Entry). record { known = old .known j; items = i }) (sym (upd-other (old .items) proxy j new z)),
         ),
         refl,
-      ) (λ l. insert l block (new-key old id)) (upd-same (old .items) proxy new))
+      )
+      t l (λ x. insert x block key)
+      (upd-same (old .items) proxy new ∙ ap (insert (old .items proxy) block) (sym q)) w

@@ -1,29 +1,25 @@
--- copy: what its functions find, and what its steps ask and leave.
+-- copy: what its functions find, and what its step asks and leaves.
 use mathlib.Core.Path.{_≡_}
 use mathlib.Core.List.{List}
-use mathlib.Core.Bool.{true, false}
+use mathlib.Core.Bool.{Bool, true, false}
 use Prim.Native.Nat.{ℕ, _≤_, _<_}
-use lib.ListN.{length, getD}
+use lib.Dec.{ltb}
+use lib.ListN.{length}
+use Rattle.lists.specs.Tests.{_or_}
+use Rattle.words.specs.Words.{words}
 use Rattle.rules.specs.declared.settings.Settings.{Settings}
-use Rattle.rules.specs.Numbers.{home-of}
-use Rattle.rules.specs.Chunks.{Chunk, chunk, held, bytes-in, append}
+use Rattle.rules.specs.Chunks.{held, bytes-in}
 use Rattle.rules.specs.State.{State, set-bricks, with-log}
 use Rattle.rules.specs.Writes.{target, nothing-to-copy}
-use Rattle.words.specs.Words.{words}
-use Rattle.layout.specs.Layout.{log-at}
 use Rattle.layout.specs.Store.{decode}
 use Rattle.lent.specs.declared.brick.Found.{Found}
 use Rattle.lent.specs.declared.brick.Found.the-variants.{At, Nowhere}
 use Rattle.lent.specs.Stores.{StoreOf}
 use Rattle.lent.specs.Places.{Stands}
-use Rattle.lent.specs.PlaceParts.{HoldsBrick}
+use Rattle.writes.specs.Logs.{with-chunk}
 
 -- ---- what is found
--- a brick stands at the place, and its log holds the chunk or not
-pub record Holding (c : Settings) (s : State) (id key place : ℕ) : Type 0 where
-  pub at : Stands c s id place
-  pub held : held (s .bricks .log id) key ≡ true
-
+-- a brick stands at the place, and its log does not hold the chunk
 pub record Lacking (c : Settings) (s : State) (id key place : ℕ) : Type 0 where
   pub at : Stands c s id place
   pub lacks : held (s .bricks .log id) key ≡ false
@@ -32,22 +28,11 @@ abbrev pub CopiedTo : Settings → State → ℕ → Found → Type 0
 CopiedTo c s key (At place) = Lacking c s (target s key) key place
 CopiedTo c s key (Nowhere) = nothing-to-copy s key ≡ true
 
-abbrev pub Source : Settings → State → ℕ → Found → Type 0
-Source c s key (At place) = Holding c s (home-of key) key place
-Source c s key (Nowhere) = held (s .bricks .log (home-of key)) key ≡ false
+-- nothing to copy, or room for it
+abbrev pub has-room : State → ℕ → Bool
+has-room s key = nothing-to-copy s key or ltb (length (s .bricks .log (target s key))) (s .settings .chunks)
 
--- ---- the steps
--- one unsaved chunk more
-abbrev pub with-chunk : ℕ → List ℕ → List Chunk → List Chunk
-with-chunk key bytes log = append log (chunk key false bytes)
-
--- len bytes, with the words w, are a place with room for a chunk
-pub record AppendFits (c : Settings) (w : List ℕ) (len : ℕ) (bytes : List ℕ) : Type 0 where
-  pub brick : HoldsBrick c w len
-  pub room : getD w (log-at c) 0 < c .chunks
-  pub size : length bytes ≡ c .size
-
--- the bricks at two places, one of which holds the chunk, and the other has room
+-- ---- the step: the bricks at two places, one of which holds the chunk, and the other has room
 pub record Copies (c : Settings) (bs : List ℕ) (home target key len : ℕ) : Type 0 where
   pub store : StoreOf c bs
   pub home-in : home < c .places

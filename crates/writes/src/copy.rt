@@ -2,20 +2,20 @@
 ghost use mathlib.Core.Path.{_≡_};
 ghost use lib.ListN.{length};
 ghost use Rattle.words.specs.Words.{words};
+ghost use Rattle.rules.specs.Chunks.{held};
 ghost use Rattle.rules.specs.Event.{Event};
-ghost use Rattle.codec.specs.Codec.{change};
-ghost use Rattle.layout.specs.Layout.{place-codec};
+ghost use Rattle.rules.specs.Question.{first-no, AllYes};
+ghost use Rattle.rules.specs.Writes.{copy-asks, copy-effect};
 ghost use Rattle.layout.specs.Store.{decode, render};
-ghost use Rattle.lent.specs.Performs.{SoundStore, Performs};
+ghost use Rattle.lent.specs.Performs.{Performs};
 ghost use Rattle.lent.specs.Stores.{StoreOf};
-ghost use Rattle.writes.specs.Places.{on-log};
-ghost use Rattle.writes.specs.Copies.{with-chunk, AppendFits, Copies, CopiedTo, Source, copied};
-use crate::logs;
-use layout::sizes;
+ghost use Rattle.writes.specs.Copies.{Copies, CopiedTo, has-room, copied};
+use crate::grow;
 use lent::Answer;
 use lent::brick;
 use lent::brick::Found;
 use lent::place;
+use lent::place::Span;
 use rules::numbers::ChunkKey;
 use rules::settings::Settings;
 
@@ -37,41 +37,49 @@ fn copied_to(store: &[u8], settings: Settings, key: ChunkKey) -> Found
     }
 }
 
-// The place of the home brick: nowhere if it does not hold the chunk.
-fn source(store: &[u8], settings: Settings, key: ChunkKey) -> Found
+// Is there nothing to copy, or room for it?
+fn has_room(store: &[u8], settings: Settings, key: ChunkKey) -> bool
     requires { ⌜ StoreOf settings (now store) ⌝ }
-    ensures { λ r. ⌜ Source settings (decode (words (now (store .entry)))) (key .0) r ⌝ }
+    ensures { λ r. ⌜ r ≡ has-room (decode (words (now (store .entry)))) (key .0) ⌝ }
 {
-    match brick::place_of(store, settings, key.home()) {
-        Found::At(home) => {
-            if holders::holds_at(store, settings, home, key) {
-                return Found::At(home);
-            }
-            Found::Nowhere
-        }
-        Found::Nowhere => Found::Nowhere,
+    match copied_to(store, settings, key) {
+        Found::At(place) => place::chunk_count(store, settings, place) < settings.chunks as u64,
+        Found::Nowhere => true,
     }
 }
 
-// ---- the effect
-
-// An unsaved chunk comes into the log of a place's brick.
-fn append_place(part: &mut [u8], settings: Settings, key: ChunkKey, bytes: &[u8])
-    requires { ⌜ AppendFits settings (words (now part)) (length (now part)) (now bytes) ⌝ }
-    ensures { λ _. ⌜ words (now (part .exit))
-        ≡ change (place-codec settings) (on-log (with-chunk (key .0) (now (bytes .entry)))) (words (now (part .entry))) ⌝ }
+// Does the brick hold the chunk?
+fn is_held(store: &[u8], settings: Settings, id: u64, key: ChunkKey) -> bool
+    requires { ⌜ StoreOf settings (now store) ⌝ }
+    ensures { λ r. ⌜ r ≡ held (decode (words (now (store .entry))) .bricks .log id) (key .0) ⌝ }
 {
-    let at = 8 * sizes::log_at(settings);
-    let end = part.len();
-    log::append(
-        &mut part[at..end],
-        settings.chunks,
-        settings.size / sizes::WORD_BYTES,
-        key,
-        false,
-        bytes,
-    );
+    match brick::place_of(store, settings, id) {
+        Found::At(place) => holders::holds_at(store, settings, place, key),
+        Found::Nowhere => false,
+    }
 }
+
+fn asks(store: &[u8], settings: Settings, key: ChunkKey) -> u64
+    requires { ⌜ StoreOf settings (now store) ⌝ }
+    ensures { λ r. ⌜ r ≡ first-no (copy-asks (decode (words (now (store .entry)))) (key .0)) ⌝ }
+{
+    let home = key.home();
+    if home == 0 {
+        return 3;
+    }
+    if !brick::up_member(store, settings, home) {
+        return 6;
+    }
+    if !has_room(store, settings, key) {
+        return 10;
+    }
+    if is_held(store, settings, home, key) {
+        return 0;
+    }
+    11
+}
+
+// ---- the effect
 
 // The chunk goes from the log of the brick at one place to that at another, by way of `room`.
 fn copy_by(
@@ -86,11 +94,12 @@ fn copy_by(
     ensures { λ _. ⌜ words (now (store .exit)) ≡ render (copied (decode (words (now (store .entry)))) home target (key .0)) (words (now (store .entry))) ⌝ }
 {
     let size = settings.size;
-    moves::copy_bytes(&mut room[..size], reads::chunk(store, settings, home, key));
-    let span = lent::span::span_of(settings, target);
-    let from = span.from;
-    let to = span.to;
-    append_place(&mut store[from..to], settings, key, &room[..size]);
+    moves::copy_bytes(
+        &mut room[..size],
+        holders::chunk(store, settings, home, key),
+    );
+    let Span { from, to } = place::span_of(settings, target);
+    grow::append(&mut store[from..to], settings, key, &room[..size]);
 }
 
 fn copy_chunk(store: &mut [u8], settings: Settings, home: usize, target: usize, key: ChunkKey)
@@ -101,30 +110,28 @@ fn copy_chunk(store: &mut [u8], settings: Settings, home: usize, target: usize, 
     copy_by(store, settings, home, target, key, &mut room);
 }
 
-pub fn copy(store: &mut [u8], key: u64) -> Answer
-    requires { ⌜ SoundStore (now store) ⌝ }
+// All was answered yes, so the home brick stands somewhere.
+fn effect(store: &mut [u8], settings: Settings, key: ChunkKey)
+    requires { ⌜ StoreOf settings (now store) × AllYes (copy-asks (decode (words (now store))) (key .0)) ⌝ }
+    ensures { λ _. ⌜ words (now (store .exit)) ≡ render (copy-effect (decode (words (now (store .entry)))) (key .0)) (words (now (store .entry))) ⌝ }
+{
+    let Found::At(target) = copied_to(store, settings, key) else {
+        return;
+    };
+    let Found::At(home) = brick::place_of(store, settings, key.home()) else {
+        return;
+    };
+    copy_chunk(store, settings, home, target, key);
+}
+
+pub fn copy(store: &mut [u8], settings: Settings, key: u64) -> Answer
+    requires { ⌜ StoreOf settings (now store) ⌝ }
     ensures { λ r. ⌜ Performs (Event.copy key) (words (now (store .entry))) r (words (now (store .exit))) ⌝ }
 {
-    let home = ChunkKey(key).home();
-    if home == 0 {
-        return Answer::No(3);
+    let no = asks(store, settings, ChunkKey(key));
+    if no != 0 {
+        return Answer::No(no);
     }
-    let settings = lent::store::settings(store);
-    if !brick::up_member(store, settings, home) {
-        return Answer::No(6);
-    }
-    let Found::At(target) = copied_to(store, settings, ChunkKey(key)) else {
-        let Found::At(_) = source(store, settings, ChunkKey(key)) else {
-            return Answer::No(11);
-        };
-        return Answer::Yes(0);
-    };
-    if settings.chunks as u64 <= logs::chunk_count(store, settings, target) {
-        return Answer::No(10);
-    }
-    let Found::At(from) = source(store, settings, ChunkKey(key)) else {
-        return Answer::No(11);
-    };
-    copy_chunk(store, settings, from, target, ChunkKey(key));
+    effect(store, settings, ChunkKey(key));
     Answer::Yes(0)
 }

@@ -1,95 +1,81 @@
 // put,proxy,place,block,data: an unsaved chunk under a new key, and an item; answers the key.
 ghost use mathlib.Core.Path.{_≡_};
-ghost use mathlib.Core.List.{_++_};
-ghost use Prim.Native.Nat.{_≤_, _<_};
+ghost use Prim.Native.Nat.{_+_, _≤_, _<_};
+ghost use lib.Dec.{ltb, leb};
 ghost use lib.ListN.{length};
-ghost use Rattle.lists.specs.Runs.{on-run};
+ghost use Rattle.lists.specs.Tests.{_or_};
 ghost use Rattle.words.specs.Words.{words};
-ghost use Rattle.rules.specs.Limits.{proxies};
+ghost use Rattle.rules.specs.Limits.{proxies, ceiling-step};
 ghost use Rattle.rules.specs.Numbers.{sequences};
-ghost use Rattle.rules.specs.Entries.{insert};
 ghost use Rattle.rules.specs.Event.{Event};
 ghost use Rattle.rules.specs.Question.{first-no, AllYes};
 ghost use Rattle.rules.specs.Writes.{raised, put-asks};
 ghost use Rattle.codec.specs.Codec.{change};
-ghost use Rattle.layout.specs.Layout.{items-codec, place-codec};
+ghost use Rattle.layout.specs.Layout.{place-codec};
 ghost use Rattle.layout.specs.Store.{decode};
-ghost use Rattle.lent.specs.Performs.{SoundStore, Performs};
+ghost use Rattle.lent.specs.Performs.{Performs};
 ghost use Rattle.lent.specs.Stores.{StoreOf};
-ghost use Rattle.writes.specs.Puts.{field-asks, store-asks, put-in, PutFits, items-of, ItemsTake, Put};
-use crate::logs;
+ghost use Rattle.writes.specs.Puts.{field-asks, store-asks, put-in, PutFits, Put};
+use crate::grow;
 use layout::sizes;
 use lent::Answer;
 use lent::place;
+use lent::place::Span;
+use lent::proxy;
 use parts::status::Status;
 use rules::constants;
 use rules::numbers::BlockNumber;
 use rules::numbers::ChunkKey;
 use rules::settings::Settings;
 
-// a put raises the ceiling by so much
-const CEILING_STEP: u64 = 1024;
-
-// words of a proxy's items
-const ITEMS_WORDS: usize = sizes::PROXY_WORDS - sizes::ITEMS_AT;
-
 // ---- questions
 
 // Of the fields: the number of the first no, or 0.
-fn fields_no(settings: Settings, proxy: u64, place: u64, block: u64, bytes: &[u8]) -> u64
+fn field_asks(settings: Settings, proxy: u64, place: u64, block: u64, bytes: &[u8]) -> u64
     ensures { λ r. ⌜ r ≡ first-no (field-asks settings proxy place block (now (bytes .entry))) ⌝ }
 {
-    if constants::PROXIES as u64 <= proxy {
-        return 3;
-    }
     if settings.places as u64 <= place {
-        return 3;
-    }
-    if constants::BLOCKS <= block {
         return 3;
     }
     if bytes.len() != settings.size {
         return 3;
     }
-    if BlockNumber(block).proxy() == proxy {
-        return 0;
-    }
-    4
+    proxy::block_asks(proxy, block)
 }
 
-// How many items the proxy has.
-fn item_count(store: &[u8], settings: Settings, proxy: usize) -> u64
-    requires { ⌜ StoreOf settings (now store) × (proxy < proxies) ⌝ }
-    ensures { λ r. ⌜ r ≡ length (decode (words (now (store .entry))) .items proxy) ⌝ }
+// Has the brick a sequence number left?
+fn has_number(next: u64, ceiling: u64) -> bool
+    requires { ⌜ ceiling ≤ sequences ⌝ }
+    ensures { λ r. ⌜ r ≡ (ltb next ceiling or leb (ceiling + ceiling-step) sequences) ⌝ }
 {
-    words::read(
-        store,
-        sizes::PROXIES_AT + proxy * sizes::PROXY_WORDS + sizes::ITEMS_AT,
-    )
+    (next < ceiling) | (ceiling + constants::CEILING_STEP <= constants::SEQUENCES)
 }
 
 // Of the store.
-fn store_no(store: &[u8], settings: Settings, proxy: usize, place: usize, block: BlockNumber) -> u64
+fn store_asks(
+    store: &[u8],
+    settings: Settings,
+    proxy: usize,
+    place: usize,
+    block: BlockNumber,
+) -> u64
     requires { ⌜ StoreOf settings (now store) × (proxy < proxies) × (place < settings .places) ⌝ }
     ensures { λ r. ⌜ r ≡ first-no (store-asks (decode (words (now (store .entry)))) proxy place (block .0)) ⌝ }
 {
     if !place::up_member(store, settings, place) {
         return 6;
     }
-    if lent::proxy::has_item(store, proxy, block) {
+    if proxy::has_item(store, settings, proxy, block) {
         return 9;
     }
-    if constants::MAX_ITEMS as u64 <= item_count(store, settings, proxy) {
+    if constants::MAX_ITEMS as u64 <= proxy::item_count(store, settings, proxy) {
         return 10;
     }
-    if settings.chunks as u64 <= logs::chunk_count(store, settings, place) {
+    if settings.chunks as u64 <= place::chunk_count(store, settings, place) {
         return 10;
     }
     let status = place::status(store, settings, place);
-    if status.next < status.ceiling {
-        return 0;
-    }
-    if status.ceiling + CEILING_STEP <= constants::SEQUENCES {
+    if has_number(status.next, status.ceiling) {
         return 0;
     }
     12
@@ -103,7 +89,7 @@ fn raised(next: u64, ceiling: u64) -> u64
     ensures { λ r. ⌜ r ≡ raised next ceiling ⌝ }
 {
     if next == ceiling {
-        return ceiling + CEILING_STEP;
+        return ceiling + constants::CEILING_STEP;
     }
     ceiling
 }
@@ -122,34 +108,11 @@ fn put_place(part: &mut [u8], settings: Settings, key: ChunkKey, bytes: &[u8])
         ceiling: raised(old.next, old.ceiling),
     };
     parts::place::write_status(part, settings, new);
-    let at = 8 * sizes::log_at(settings);
-    let end = part.len();
-    log::append(
-        &mut part[at..end],
-        settings.chunks,
-        settings.size / sizes::WORD_BYTES,
-        key,
-        false,
-        bytes,
-    );
+    grow::append(part, settings, key, bytes);
 }
 
-// The proxy gets an item.
-fn add_item(store: &mut [u8], proxy: usize, block: BlockNumber, key: ChunkKey)
-    requires { ⌜ ItemsTake proxy (block .0) (words (now store)) (length (now store)) ⌝ }
-    ensures { λ _. ⌜ words (now (store .exit))
-        ≡ on-run (items-of proxy) (items-codec .size) (change items-codec (λ l. insert l (block .0) (key .0))) (words (now (store .entry))) ⌝ }
-{
-    let at = 8 * (sizes::PROXIES_AT + proxy * sizes::PROXY_WORDS + sizes::ITEMS_AT);
-    entries::insert(
-        &mut store[at..at + 8 * ITEMS_WORDS],
-        constants::MAX_ITEMS,
-        block,
-        key,
-    );
-}
-
-fn put_chunk(
+// Then the proxy gets an item.
+fn effect(
     store: &mut [u8],
     settings: Settings,
     proxy: usize,
@@ -163,24 +126,30 @@ fn put_chunk(
     let id = place::id(store, settings, place);
     let status = place::status(store, settings, place);
     let key = ChunkKey::new(id, status.next);
-    let span = lent::span::span_of(settings, place);
-    let from = span.from;
-    let to = span.to;
+    let Span { from, to } = place::span_of(settings, place);
     put_place(&mut store[from..to], settings, key, bytes);
-    add_item(store, proxy, block, key);
+    let at = 8 * proxy::items_at(settings, proxy);
+    let end = at + 8 * sizes::ITEMS_WORDS;
+    entries::insert(&mut store[at..end], constants::MAX_ITEMS, block, key);
     key
 }
 
-pub fn put(store: &mut [u8], proxy: u64, place: u64, block: u64, bytes: &[u8]) -> Answer
-    requires { ⌜ SoundStore (now store) ⌝ }
+pub fn put(
+    store: &mut [u8],
+    settings: Settings,
+    proxy: u64,
+    place: u64,
+    block: u64,
+    bytes: &[u8],
+) -> Answer
+    requires { ⌜ StoreOf settings (now store) ⌝ }
     ensures { λ r. ⌜ Performs (Event.put proxy place block (now (bytes .entry))) (words (now (store .entry))) r (words (now (store .exit))) ⌝ }
 {
-    let settings = lent::store::settings(store);
-    let no = fields_no(settings, proxy, place, block, bytes);
+    let no = field_asks(settings, proxy, place, block, bytes);
     if no != 0 {
         return Answer::No(no);
     }
-    let no = store_no(
+    let no = store_asks(
         store,
         settings,
         proxy as usize,
@@ -190,7 +159,7 @@ pub fn put(store: &mut [u8], proxy: u64, place: u64, block: u64, bytes: &[u8]) -
     if no != 0 {
         return Answer::No(no);
     }
-    let key = put_chunk(
+    let key = effect(
         store,
         settings,
         proxy as usize,

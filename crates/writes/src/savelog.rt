@@ -6,12 +6,13 @@ ghost use Rattle.rules.specs.Event.{Event};
 ghost use Rattle.rules.specs.Chunks.{save-all};
 ghost use Rattle.codec.specs.Codec.{change};
 ghost use Rattle.layout.specs.Layout.{place-codec};
-ghost use Rattle.lent.specs.Performs.{SoundStore, Performs};
-ghost use Rattle.lent.specs.PlaceParts.{HoldsBrick};
-ghost use Rattle.writes.specs.Places.{on-log};
+ghost use Rattle.lent.specs.Performs.{Performs};
+ghost use Rattle.lent.specs.Places.{HoldsBrick, on-log};
+ghost use Rattle.lent.specs.Stores.{StoreOf};
 use layout::sizes;
 use lent::Answer;
 use lent::place;
+use lent::place::Span;
 use rules::settings::Settings;
 
 fn save_place(part: &mut [u8], settings: Settings)
@@ -27,20 +28,15 @@ fn save_place(part: &mut [u8], settings: Settings)
     );
 }
 
-pub fn savelog(store: &mut [u8], place: u64) -> Answer
-    requires { ⌜ SoundStore (now store) ⌝ }
+pub fn savelog(store: &mut [u8], settings: Settings, place: u64) -> Answer
+    requires { ⌜ StoreOf settings (now store) ⌝ }
     ensures { λ r. ⌜ Performs (Event.savelog place) (words (now (store .entry))) r (words (now (store .exit))) ⌝ }
 {
-    let settings = lent::store::settings(store);
-    if settings.places as u64 <= place {
-        return Answer::No(3);
+    let no = place::asks(store, settings, place);
+    if no != 0 {
+        return Answer::No(no);
     }
-    if place::up_member(store, settings, place as usize) {
-        let span = lent::span::span_of(settings, place as usize);
-        let from = span.from;
-        let to = span.to;
-        save_place(&mut store[from..to], settings);
-        return Answer::Yes(0);
-    }
-    Answer::No(6)
+    let Span { from, to } = place::span_of(settings, place as usize);
+    save_place(&mut store[from..to], settings);
+    Answer::Yes(0)
 }

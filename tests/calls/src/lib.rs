@@ -1,4 +1,5 @@
 //! The proved calls behind safe functions, and an independent implementation of each to compare them with.
+pub mod lent;
 pub mod moves;
 pub mod random;
 pub mod store;

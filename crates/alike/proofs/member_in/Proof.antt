@@ -21,7 +21,8 @@ up-member-requires c κs = search needs
 returns : tie.Need-returns
 returns c =
     let s = c .before .before .before .before .before .before in
-    c .up-member .ensures ∙ sym (member-up _ _ (s .pre .0 .second) _) ∙ ap (λ (i : ℕ). decode (words (s .args .other .now)) .bricks .member i) (c .before .id .ensures)
+    c .up-member .ensures ∙ sym (member-up _ _ (s .pre .0 .second) _) ∙ ap (λ (i : ℕ). decode (words (s .args .other .now)) .bricks .member i)
+    (c .before .id .ensures)
     ∙ sym (or-no _ _ (ap not (sym (c .before .before .before .is-member .ensures) ∙ c .before .before .if1 .taken)))
 
 returns-2 : tie.Need-returns-2

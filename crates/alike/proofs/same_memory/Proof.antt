@@ -21,8 +21,10 @@ enum-known-second c = search needs
 
 memory-requires : tie.Need-memory-requires
 memory-requires c κs =
-    let k = stands (c .before .before .before .before .before .first .given .1) (c .before .before .before .before .before .before .before .primary-place .ensures) in
-    let s = c .before .before .before .before .before .before .before .before .before .before in
+    let at-first = c .before .before .before .before .before in
+    let at-primary-place = at-first .before .before in
+    let k = stands (at-first .first .given .1) (at-primary-place .primary-place .ensures) in
+    let s = at-primary-place .before .before .before in
     (s .pre .0 .first, k .inside, holds k, s .pre .1)
 
 memory-requires-2 : tie.Need-memory-requires-2
@@ -63,41 +65,51 @@ enum-told-3 c = search needs
 
 returns : tie.Need-returns
 returns c =
-    let b = c .before .before .before .before .before .before .before .before .before .before .before .before .before in
+    let at-primary-place2 = c .before .before .before .before .before .before in
+    let at-first = at-primary-place2 .before .before in
+    let at-primary-place = at-first .before .before in
+    let b = at-primary-place .before .before .before in
     let one = decode (words (b .args .one .now)) in
     let other = decode (words (b .args .other .now)) in
     c .same .ensures ∙ ap₂ same-entries (c .before .before .memory .ensures .same) (c .before .memory2 .ensures .same)
-    ∙ both-stand one other (b .args .bucket) (c .before .before .before .before .before .before .before .before .first .given .0 .0) (c .before .before .before .before .second .given .0 .0)
-    (stands (c .before .before .before .before .before .before .before .before .first .given .1) (c .before .before .before .before .before .before .before .before .before .before .primary-place .ensures) .here) (stands (c .before .before .before .before .second .given .1) (c .before .before .before .before .before .before .primary-place2 .ensures) .here)
+    ∙ both-stand one other (b .args .bucket) (at-first .first .given .0 .0) (c .before .before .before .before .second .given .0 .0)
+    (stands (at-first .first .given .1) (at-primary-place .primary-place .ensures) .here) (stands (c .before .before .before .before .second .given .1)
+    (at-primary-place2 .primary-place2 .ensures) .here)
 
 returns-2 : tie.Need-returns-2
 returns-2 c =
-    let b = c .before .before .before .before .before .before .before .before .before .before in
+    let at-first = c .before .before .before .before .before in
+    let at-primary-place = at-first .before .before in
+    let b = at-primary-place .before .before .before in
     let one = decode (words (b .args .one .now)) in
     let other = decode (words (b .args .other .now)) in
     let g = b .args .bucket in
     c .none-there .ensures
-    ∙ first-stands one other g (c .before .before .before .before .before .first .given .0 .0) (stands (c .before .before .before .before .before .first .given .1) (c .before .before .before .before .before .before .before .primary-place .ensures) .here)
+    ∙ first-stands one other g (at-first .first .given .0 .0) (stands (at-first .first .given .1) (at-primary-place .primary-place .ensures) .here)
     (nowhere (b .args .settings) other (other .bucket g .primary) (c .before .enum-told .given .1) (c .before .before .before .primary-place2 .ensures))
 
 returns-3 : tie.Need-returns-3
 returns-3 c =
-    let b = c .before .before .before .before .before .before .before .before .before .before in
+    let at-enum-told2 = c .before .before .before .before .before in
+    let at-primary-place = at-enum-told2 .before .before in
+    let b = at-primary-place .before .before .before in
     let one = decode (words (b .args .one .now)) in
     let other = decode (words (b .args .other .now)) in
     let g = b .args .bucket in
     c .none-there2 .ensures
     ∙ second-stands one other g (c .before .before .second2 .given .0 .0)
-    (nowhere (b .args .settings) one (one .bucket g .primary) (c .before .before .before .before .before .enum-told2 .given .1) (c .before .before .before .before .before .before .before .primary-place .ensures))
+    (nowhere (b .args .settings) one (one .bucket g .primary) (at-enum-told2 .enum-told2 .given .1) (at-primary-place .primary-place .ensures))
     (stands (c .before .before .second2 .given .1) (c .before .before .before .before .primary-place3 .ensures) .here)
 
 returns-4 : tie.Need-returns-4
 returns-4 c =
-    let b = c .before .before .before .before .before .before .before .before in
+    let at-primary-place = c .before .before .before .before .before in
+    let b = at-primary-place .before .before .before in
     let one = decode (words (b .args .one .now)) in
     let other = decode (words (b .args .other .now)) in
     let g = b .args .bucket in
-    none-stand one other g (nowhere (b .args .settings) one (one .bucket g .primary) (c .before .before .before .enum-told2 .given .1) (c .before .before .before .before .before .primary-place .ensures))
+    none-stand one other g (nowhere (b .args .settings) one (one .bucket g .primary) (c .before .before .before .enum-told2 .given .1)
+    (at-primary-place .primary-place .ensures))
     (nowhere (b .args .settings) other (other .bucket g .primary) (c .enum-told3 .given .1) (c .before .before .primary-place3 .ensures))
 
 pub same-memory-spec : {M : Type 1} → statement M

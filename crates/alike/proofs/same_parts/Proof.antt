@@ -28,7 +28,8 @@ returns-2 c =
     (no-first _ _ (sym (c .before .members-in .ensures) ∙ not-true _ (c .if2 .taken))))
 
 members-in-requires-2 : tie.Need-members-in-requires-2
-members-in-requires-2 c κs = record { first = c .before .before .before .before .before .before .before .pre .second; second = c .before .before .before .before .before .before .before .pre .first }
+members-in-requires-2 c κs =
+    record { first = c .before .before .before .before .before .before .before .pre .second; second = c .before .before .before .before .before .before .before .pre .first }
 
 returns-3 : tie.Need-returns-3
 returns-3 c =
@@ -41,10 +42,13 @@ same-memories-requires c κs = search needs
 
 returns-4 : tie.Need-returns-4
 returns-4 c =
-    let b = c .before .before .before .before .before .before .before .before .before .before in
+    let at-if1 = c .before .before .before .before .before in
+    let at-view2 = at-if1 .before in
+    let at-view = at-view2 .before in
+    let b = at-view .before .before .before in
     c .same-memories .ensures
     ∙ same-else (b .args .settings) (b .args .one .now) (b .args .other .now) (b .pre)
-    (sym (c .before .before .before .before .before .before .before .view .ensures) ∙ c .before .before .before .before .before .if1 .left ∙ c .before .before .before .before .before .before .view2 .ensures)
+    (sym (at-view .view .ensures) ∙ at-if1 .if1 .left ∙ at-view2 .view2 .ensures)
     (sym (c .before .before .before .before .members-in .ensures) ∙ not-false _ (c .before .before .before .if2 .left))
     (sym (c .before .before .members-in2 .ensures) ∙ not-false _ (c .before .if3 .left))
 

@@ -14,44 +14,41 @@ use Rattle.collect.proofs.all_calm.Statement.{statement}
 use Rattle.collect.proofs.all_calm.Tie as tie
 
 abbrev Inv-loop : tie.InvT-loop
-Inv-loop store settings bucket₀ bucket =
-    (bucket ≤ 16) × ((g : ℕ) → g < bucket → calm (decode (words store) .bucket g) ≡ true)
+Inv-loop store settings count bucket₀ bucket =
+    (bucket ≤ count) × (count ≡ buckets settings) × ((g : ℕ) → g < bucket → calm (decode (words store) .bucket g) ≡ true)
 
 abbrev μ-loop : tie.MeasureT-loop
-μ-loop store settings bucket₀ bucket = 16 - bucket
+μ-loop store settings count bucket₀ bucket = count - bucket
+
+buckets-requires : tie.Need-buckets-requires Inv-loop μ-loop
+buckets-requires c κs = search needs
 
 loop-holds : tie.Need-loop-holds Inv-loop μ-loop
-unfolding buckets
-loop-holds c = (search needs, below-none _)
+loop-holds c = (search needs, search needs, below-none _)
 
 calm-requires : tie.Need-calm-requires Inv-loop μ-loop
-unfolding buckets
 calm-requires c κs = search needs
 
 returns : tie.Need-returns Inv-loop μ-loop
-unfolding buckets
 returns c =
     sym (all-false _ _ (c .before .before .before .loop .bucket) (omega arith) (sym (c .before .calm .ensures) ∙ not-true _ (c .if1 .taken)))
 
 add-bucket : tie.Need-add-bucket Inv-loop μ-loop
-unfolding buckets
 add-bucket c = search needs
 
 loop-less : tie.Need-loop-less Inv-loop μ-loop
-unfolding buckets
 loop-less c = search needs
 
 loop-again : tie.Need-loop-again Inv-loop μ-loop
-unfolding buckets
 loop-again c = (
   search needs,
-  below-more _ (c .before .before .before .loop .bucket) (c .before .before .before .loop .inv .1)
+  search needs,
+  below-more _ (c .before .before .before .loop .bucket) (c .before .before .before .loop .inv .2)
       (sym (c .before .calm .ensures) ∙ not-false _ (c .if1 .left)),
 )
 
 returns-2 : tie.Need-returns-2 Inv-loop μ-loop
-unfolding buckets
-returns-2 c = sym (all-true _ _ (λ k h. c .before .loop .inv .1 k (omega arith)))
+returns-2 c = sym (all-true _ _ (λ k h. c .before .loop .inv .2 k (omega arith)))
 
 pub all-calm-spec : {M : Type 1} → statement M
 all-calm-spec =
@@ -59,6 +56,7 @@ all-calm-spec =
     (tie.spec
     Inv-loop
     μ-loop
+    buckets-requires
     loop-holds
     calm-requires
     returns

@@ -1,117 +1,70 @@
-use mathlib.Core.Path.{sym, _∙_}
-use Prim.Native.Nat.{_<_}
-use native.Mathlib.Omega.{arith}
-use borrow.Author.Tests.{not-true, not-false}
-use Rattle.collect.proofs.Answers.{far, down, some-down, some-pending, some-items, done, stands}
+use mathlib.Core.Path.{refl, sym, ap, _∙_}
+use Rattle.lists.specs.Tests.{_and_, all-below}
+use Rattle.words.specs.Words.{words}
+use Rattle.rules.specs.declared.settings.Settings.{Settings}
+use Rattle.rules.specs.Event.{Event}
+use Rattle.rules.specs.Limits.{buckets}
+use Rattle.rules.specs.Parts.{calm}
+use Rattle.rules.specs.Step.{rule}
+use Rattle.rules.specs.Upkeep.{collect-asks}
+use Rattle.rules.proofs.Questions.{all-yes, front-none}
+use Rattle.layout.specs.Store.{decode}
+use Rattle.lent.specs.Asks.{place-asks}
+use Rattle.lent.proofs.Performs.{refused, accepted}
+use Rattle.lent.proofs.Places.{place-yes}
+use Rattle.lent.proofs.Stores.{settings-are}
 use borrow.Author.Needs.{needs}
 use Rattle.collect.proofs.collect.Statement.{statement}
 use Rattle.collect.proofs.collect.Tie as tie
 
-settings-requires : tie.Need-settings-requires
-settings-requires c κs = search needs
+asks-requires : tie.Need-asks-requires
+asks-requires c κs = search needs
 
 same-length : tie.Need-same-length
 same-length c = search needs
 
 returns : tie.Need-returns
+unfolding rule
 returns c =
-    let g = c .before in
-    let a = g .before .before .before .args in
-    far (g .settings .result) (a .store .now) (g .settings .ensures) (a .place) (omega arith)
+    let b = c .before .before .before .before in
+    refused (Event.collect (b .args .place)) (words (b .args .store .now)) (b .pre .sound) _ (c .before .asks .ensures) (c .if1 .taken)
 
-up-member-requires : tie.Need-up-member-requires
-up-member-requires c κs = search needs
+collect-log-requires : tie.Need-collect-log-requires
+unfolding _and_
+collect-log-requires c κs =
+    let b = c .before .before .before .before .before in
+    let k = b .args .settings in
+    let bs = b .args .store .now in
+    let s = decode (words bs) in
+    let none = sym (c .before .before .asks .ensures) ∙ c .before .if1 .left in
+    let y = place-yes k bs (b .pre) (b .args .place) (front-none (place-asks s (b .args .place)) _ none) in
+    record {
+      store = b .pre;
+      inside = y .inside;
+      some = y .filled;
+      calm = ap (λ (d : Settings). all-below (buckets d) (λ g. calm (s .bucket g))) (sym (settings-are k bs (b .pre)))
+          ∙ all-yes (collect-asks s (b .args .place)) refl none .1 .1 .1 .0;
+    }
 
 same-length-2 : tie.Need-same-length-2
 same-length-2 c = search needs
 
 returns-2 : tie.Need-returns-2
+unfolding rule
 returns-2 c =
-    let g = c .before .before .before .before in
-    let a = g .before .before .before .args in
-    let near : a .place < g .settings .result .places = omega arith in
-    down (g .settings .result) (a .store .now) (g .settings .ensures) (a .place) near (sym (c .before .up-member .ensures) ∙ not-true _ (c .if2 .taken))
-
-all-up-requires : tie.Need-all-up-requires
-all-up-requires c κs = search needs
-
-same-length-3 : tie.Need-same-length-3
-same-length-3 c = search needs
-
-returns-3 : tie.Need-returns-3
-returns-3 c =
-    let g = c .before .before .before .before .before .before .before in
-    let a = g .before .before .before .args in
-    let near : a .place < g .settings .result .places = omega arith in
-    some-down (g .settings .result) (a .store .now) (g .settings .ensures) (a .place) near (sym (c .before .before .before .before .up-member .ensures) ∙ not-false _ (c .before .before .before .if2 .left)) (sym (c .before .all-up .ensures) ∙ not-true _ (c .if3 .taken))
-
-all-calm-requires : tie.Need-all-calm-requires
-all-calm-requires c κs = search needs
-
-same-length-4 : tie.Need-same-length-4
-same-length-4 c = search needs
-
-returns-4 : tie.Need-returns-4
-returns-4 c =
-    let g = c .before .before .before .before .before .before .before .before .before .before in
-    let a = g .before .before .before .args in
-    let near : a .place < g .settings .result .places = omega arith in
-    some-pending (g .settings .result) (a .store .now) (g .settings .ensures) (a .place) near (sym (c .before .before .before .before .before .before .before .up-member .ensures) ∙ not-false _ (c .before .before .before .before .before .before .if2 .left)) (sym (c .before .before .before .before .all-up .ensures) ∙ not-false _ (c .before .before .before .if3 .left)) (sym (c .before .all-calm .ensures) ∙ not-true _ (c .if4 .taken))
-
-no-items-requires : tie.Need-no-items-requires
-no-items-requires c κs = search needs
-
-same-length-5 : tie.Need-same-length-5
-same-length-5 c = search needs
-
-returns-5 : tie.Need-returns-5
-returns-5 c =
-    let g = c .before .before .before .before .before .before .before .before .before .before .before .before .before in
-    let a = g .before .before .before .args in
-    let near : a .place < g .settings .result .places = omega arith in
-    some-items (g .settings .result) (a .store .now) (g .settings .ensures) (a .place) near (sym (c .before .before .before .before .before .before .before .before .before .before .up-member .ensures) ∙ not-false _ (c .before .before .before .before .before .before .before .before .before .if2 .left)) (sym (c .before .before .before .before .before .before .before .all-up .ensures) ∙ not-false _ (c .before .before .before .before .before .before .if3 .left)) (sym (c .before .before .before .before .all-calm .ensures) ∙ not-false _ (c .before .before .before .if4 .left)) (sym (c .before .no-items .ensures) ∙ not-true _ (c .if5 .taken))
-
-collect-log-requires : tie.Need-collect-log-requires
-collect-log-requires c κs =
-    let g = c .before .before .before .before .before .before .before .before .before .before .before .before .before .before in
-    let a = g .before .before .before .args in
-    let near : a .place < g .settings .result .places = omega arith in
-    record {
-      store = g .settings .ensures;
-      inside = near;
-      some = stands (g .settings .result) (a .store .now) (g .settings .ensures) (a .place) near (sym (c .before .before .before .before .before .before .before .before .before .before .before .up-member .ensures) ∙ not-false _ (c .before .before .before .before .before .before .before .before .before .before .if2 .left));
-      calm = (sym (c .before .before .before .before .before .all-calm .ensures) ∙ not-false _ (c .before .before .before .before .if4 .left));
-    }
-
-same-length-6 : tie.Need-same-length-6
-same-length-6 c = search needs
-
-returns-6 : tie.Need-returns-6
-returns-6 c =
-    let g = c .before .before .before .before .before .before .before .before .before .before .before .before .before .before .before .before .before in
-    let a = g .before .before .before .args in
-    let near : a .place < g .settings .result .places = omega arith in
-    done (g .settings .result) (a .store .now) (g .settings .ensures) (a .place) near (sym (c .before .before .before .before .before .before .before .before .before .before .before .before .before .before .up-member .ensures) ∙ not-false _ (c .before .before .before .before .before .before .before .before .before .before .before .before .before .if2 .left)) (sym (c .before .before .before .before .before .before .before .before .before .before .before .all-up .ensures) ∙ not-false _ (c .before .before .before .before .before .before .before .before .before .before .if3 .left)) (sym (c .before .before .before .before .before .before .before .before .all-calm .ensures) ∙ not-false _ (c .before .before .before .before .before .before .before .if4 .left)) (sym (c .before .before .before .before .before .no-items .ensures) ∙ not-false _ (c .before .before .before .before .if5 .left)) _ (c .before .before .collect-log .ensures)
+    let asked = c .before .before .before .before in
+    let b = asked .before .before .before .before in
+    let done = c .before .before .collect-log in
+    accepted (Event.collect (b .args .place)) (words (b .args .store .now)) (words (done .last .0)) (sym (asked .before .asks .ensures) ∙ asked .if1 .left)
+    (done .ensures)
 
 pub collect-spec : {M : Type 1} → statement M
 collect-spec =
     tie.close
     (tie.spec
-    settings-requires
+    asks-requires
     same-length
     returns
-    up-member-requires
-    same-length-2
-    returns-2
-    all-up-requires
-    same-length-3
-    returns-3
-    all-calm-requires
-    same-length-4
-    returns-4
-    no-items-requires
-    same-length-5
-    returns-5
     collect-log-requires
-    same-length-6
-    returns-6)
+    same-length-2
+    returns-2)

@@ -1,8 +1,8 @@
 -- done and get keep the invariant of the ageing rule: the mark of a block that is not pending becomes the number of the one key that all four copies give.
 -- And what a get answers obeys the rule.
 use mathlib.Core.Path.{_≡_, refl, sym, ap, _∙_}
-use mathlib.Core.List.{List·Memᴰ}
-use mathlib.Core.Bool.{true}
+use mathlib.Core.List.{List, List·Memᴰ}
+use mathlib.Core.Bool.{true, cond}
 use mathlib.Core.Logic.{inl, inr}
 use Prim.Native.Nat.{ℕ, _≤_, _<_}
 use native.Mathlib.Omega.{arith}
@@ -25,7 +25,7 @@ use Rattle.rules.specs.Step.{Answer, rule}
 use Rattle.rules.proofs.Step.{Yes}
 use Rattle.rules.proofs.Parts.{bucket-below, agrees, seek-held}
 use Rattle.rules.proofs.Sound.{Sound}
-use Rattle.history.specs.Claim.{History, number, meaning, hears, Shown}
+use Rattle.history.specs.Claim.{Write, History, number, meaning, hears, Shown}
 use Rattle.history.proofs.History.{number-most}
 use Rattle.history.proofs.Copies.{ReliedOn, Copies, copies-map, primary-relied, copies-agreed}
 use Rattle.history.proofs.Sound.Groups.{member-here}
@@ -33,6 +33,10 @@ use Rattle.history.proofs.Facts.{zero-number, item-newest}
 use Rattle.history.proofs.Invariant.{Readable, AgeOf, Aged}
 use Rattle.history.proofs.Ageing.Writes.{honest-held}
 use Rattle.history.proofs.Ageing.Maps.{item-goes-aged}
+
+-- the mark that a get leaves
+no-later : (w : List Write) (k : ℕ) → cond (eqb k 0) 0 (number w k) ≤ number w k
+no-later w k = by-eq k 0 (λ q _. rw q (omega arith)) (λ q _. rw q (omega arith))
 
 module _ (s : State) (h : History) (v : Aged s h) where
   module _ (b m : ℕ) (ready : bucket-at s b .ready ≡ true) (one-key : agree (bucket-at s b) b ≡ true) (top : m ≤ number (h .writes b) (mapped s b)) where
@@ -92,7 +96,7 @@ module _ (s : State) (h : History) (v : Aged s h) where
   get-aged p b y =
       let ready : bucket-at s b .ready ≡ true = search in
       let settled : not-pending s b ≡ true = search in
-      marked-aged b _ ready (agrees (bucket-at s b) b ready settled) (omega arith)
+      marked-aged b _ ready (agrees (bucket-at s b) b ready settled) (omega (arith, no-later (h .writes b) (mapped s b)))
 
   pub done-aged : (p b : ℕ) (a : Answer) → Yes s (Event.done p b) → Aged (rule s (Event.done p b) .after) (hears h (meaning (Event.done p b)) a)
   unfolding rule meaning

@@ -1,128 +1,88 @@
-use mathlib.Core.Path.{_≡_, refl, sym, _∙_}
-use Prim.Native.Nat.{_<_}
+use mathlib.Core.Path.{_≡_, sym, _∙_}
 use native.Mathlib.Omega.{arith}
-use lib.ListN.{length}
-use borrow.Author.Tests.{not-true, not-false}
-use Rattle.rules.specs.Limits.{buckets}
-use Rattle.mend.proofs.Answers.{far, down, full, done, room}
+use Rattle.words.specs.Words.{words}
+use Rattle.rules.specs.Event.{Event}
+use Rattle.rules.specs.Question.{first-no}
+use Rattle.rules.specs.Step.{rule}
+use Rattle.rules.proofs.Questions.{stops-there}
+use Rattle.layout.specs.Store.{decode}
+use Rattle.lent.specs.Asks.{place-asks}
+use Rattle.lent.proofs.Performs.{refused}
+use Rattle.lent.proofs.Places.{place-yes}
+use Rattle.layout.proofs.Bounds.{few-buckets}
+use Rattle.mend.proofs.Answers.{full, done}
 use borrow.Author.Needs.{needs}
 use Rattle.mend.proofs.mend.Statement.{statement}
 use Rattle.mend.proofs.mend.Tie as tie
 
-settings-requires : tie.Need-settings-requires
-unfolding buckets
-settings-requires c κs = search needs
+-- the place holds an up member
+asked : (c : tie.Else1) → let b = c .before .before .before .before in first-no (place-asks (decode (words (b .args .store .now))) (b .args .place)) ≡ 0
+asked c = sym (c .before .asks .ensures) ∙ c .if1 .left
+
+asks-requires : tie.Need-asks-requires
+asks-requires c κs = search needs
 
 same-length : tie.Need-same-length
-unfolding buckets
 same-length c = search needs
 
 returns : tie.Need-returns
-unfolding buckets
+unfolding rule
 returns c =
-    let g = c .before in
-    let a = g .before .before .before .args in
-    far (g .settings .result) (a .store .now) (g .settings .ensures) (a .place) (omega arith)
+    let b = c .before .before .before .before in
+    let s = decode (words (b .args .store .now)) in
+    refused (Event.mend (b .args .place)) (words (b .args .store .now)) (b .pre .sound) _
+    (stops-there (place-asks s (b .args .place)) _ (c .before .asks .ensures) (c .if1 .taken)) (c .if1 .taken)
 
-up-member-requires : tie.Need-up-member-requires
-unfolding buckets
-up-member-requires c κs = search needs
+buckets-requires : tie.Need-buckets-requires
+buckets-requires c κs = search needs
+
+sub-mend-in : tie.Need-sub-mend-in
+sub-mend-in c = search needs
+
+part-tables-start : tie.Need-part-tables-start
+part-tables-start c = search needs
+
+part-tables-end : tie.Need-part-tables-end
+part-tables-end c = omega (arith, few-buckets (c .before .before .before .before .before .before .args .settings), c .before .buckets .ensures)
+
+mend-in-requires : tie.Need-mend-in-requires
+mend-in-requires c κs =
+    let else = c .before .before .before in
+    let b = else .before .before .before .before in
+    let y = place-yes (b .args .settings) (b .args .store .now) (b .pre) (b .args .place) (asked else) in
+    (record { store = b .pre; inside = y .inside; up = y .up }, search needs)
 
 same-length-2 : tie.Need-same-length-2
-unfolding buckets
 same-length-2 c = search needs
 
 returns-2 : tie.Need-returns-2
-unfolding buckets
 returns-2 c =
-    let g = c .before .before .before .before in
-    let a = g .before .before .before .args in
-    let near : a .place < g .settings .result .places = omega arith in
-    down (g .settings .result) (a .store .now) (g .settings .ensures) (a .place) near (sym (c .before .up-member .ensures) ∙ not-true _ (c .if2 .taken))
-
-slice-aggregate-all-named : tie.Need-slice-aggregate-all-named
-unfolding buckets
-slice-aggregate-all-named c = search needs
-
-all-named-requires : tie.Need-all-named-requires
-unfolding buckets
-all-named-requires c κs = (c .before .before .before .before .before .before .settings .ensures, refl)
-
-slice-aggregate-has-room : tie.Need-slice-aggregate-has-room
-unfolding buckets
-slice-aggregate-has-room c = search needs
-
-has-room-requires : tie.Need-has-room-requires
-unfolding buckets
-has-room-requires c κs =
-    let g = c .before .before .before .before .before .before .before .before .before .before in
-    let a = g .before .before .before .args in
-    let near : a .place < g .settings .result .places = omega arith in
-    let t = c .before .before .before .all-named .last .1 .1 .0 in
-    let many : length t ≡ 16 = omega arith in
-    record { there = record { store = g .settings .ensures; inside = near; up = (sym (c .before .before .before .before .before .before .before .up-member .ensures) ∙ not-false _ (c .before .before .before .before .before .before .if2 .left)) }; many = many; lie = c .before .before .before .all-named .ensures }
+    let m = c .before .before .before .before in
+    let else = m .before .before .before .before in
+    done _ _ (else .before .before .before .before .pre) _ (asked else) _ (m .mend-in .ensures .0) _ (m .mend-in .ensures .1) (c .if2 .taken)
 
 same-length-3 : tie.Need-same-length-3
-unfolding buckets
 same-length-3 c = search needs
 
 returns-3 : tie.Need-returns-3
-unfolding buckets
 returns-3 c =
-    let g = c .before .before .before .before .before .before .before .before .before .before .before .before in
-    let a = g .before .before .before .args in
-    let near : a .place < g .settings .result .places = omega arith in
-    full (g .settings .result) (a .store .now) (g .settings .ensures) (a .place) near (sym (c .before .before .before .before .before .before .before .before .before .up-member .ensures) ∙ not-false _ (c .before .before .before .before .before .before .before .before .if2 .left)) (sym (c .before .has-room .ensures) ∙ not-true _ (c .if3 .taken))
-
-slice-aggregate-mend-all : tie.Need-slice-aggregate-mend-all
-unfolding buckets
-slice-aggregate-mend-all c = search needs
-
-mend-all-requires : tie.Need-mend-all-requires
-unfolding buckets
-mend-all-requires c κs =
-    let g = c .before .before .before .before .before .before .before .before .before .before .before .before .before .before in
-    let a = g .before .before .before .args in
-    let near : a .place < g .settings .result .places = omega arith in
-    let t = c .before .before .before .before .before .before .before .all-named .last .1 .1 .0 in
-    let many : length t ≡ 16 = omega arith in
-    let up = (sym (c .before .before .before .before .before .before .before .before .before .before .before .up-member .ensures) ∙ not-false _ (c .before .before .before .before .before .before .before .before .before .before .if2 .left)) in
-    record {
-      there = record { store = g .settings .ensures; inside = near; up = up };
-      many = many;
-      lie = c .before .before .before .before .before .before .before .all-named .ensures;
-      room = room (g .settings .result) (a .store .now) (g .settings .ensures) (a .place) near up (sym (c .before .before .before .has-room .ensures) ∙ not-false _ (c .before .before .if3 .left));
-    }
-
-same-length-4 : tie.Need-same-length-4
-unfolding buckets
-same-length-4 c = search needs
-
-returns-4 : tie.Need-returns-4
-unfolding buckets
-returns-4 c =
-    let g = c .before .before .before .before .before .before .before .before .before .before .before .before .before .before .before .before .before in
-    let a = g .before .before .before .args in
-    let near : a .place < g .settings .result .places = omega arith in
-    done (g .settings .result) (a .store .now) (g .settings .ensures) (a .place) near (sym (c .before .before .before .before .before .before .before .before .before .before .before .before .before .before .up-member .ensures) ∙ not-false _ (c .before .before .before .before .before .before .before .before .before .before .before .before .before .if2 .left)) (sym (c .before .before .before .before .before .before .has-room .ensures) ∙ not-false _ (c .before .before .before .before .before .if3 .left)) _ (c .before .before .mend-all .ensures)
+    let m = c .before .before .before .before in
+    let else = m .before .before .before .before in
+    full _ _ (else .before .before .before .before .pre) _ (asked else) _ (m .mend-in .ensures .0) _ (m .mend-in .ensures .1) (c .if2 .left)
 
 pub mend-spec : {M : Type 1} → statement M
 mend-spec =
     tie.close
     (tie.spec
-    settings-requires
+    asks-requires
     same-length
     returns
-    up-member-requires
+    buckets-requires
+    sub-mend-in
+    part-tables-start
+    part-tables-end
+    mend-in-requires
     same-length-2
     returns-2
-    slice-aggregate-all-named
-    all-named-requires
-    slice-aggregate-has-room
-    has-room-requires
     same-length-3
-    returns-3
-    slice-aggregate-mend-all
-    mend-all-requires
-    same-length-4
-    returns-4)
+    returns-3)

@@ -1,5 +1,5 @@
 use Prim.Native.Nat.{ℕ, _-_, _≤_, _<_}
-use mathlib.Core.Path.{_≡_, refl}
+use mathlib.Core.Path.{_≡_, refl, _∙_}
 use native.Mathlib.Omega.{arith}
 use lib.ListN.{length, getD}
 use borrow.Author.Count.{below-none}
@@ -13,55 +13,54 @@ use Rattle.named.proofs.all_named.Statement.{statement}
 use Rattle.named.proofs.all_named.Tie as tie
 
 abbrev Inv-loop : tie.InvT-loop
-Inv-loop store settings tables₀ bucket₀ tables bucket =
-    (bucket ≤ 16) × (length tables ≡ length tables₀)
+Inv-loop store settings tables₀ count bucket₀ tables bucket =
+    (bucket ≤ count) × (count ≡ buckets settings) × (length tables ≡ length tables₀)
     × ((g : ℕ) → g < bucket → EntriesAt settings (words store) g (named (decode (words store)) g) (getD tables g 0))
 
 abbrev μ-loop : tie.MeasureT-loop
-μ-loop store settings tables₀ bucket₀ tables bucket = 16 - bucket
+μ-loop store settings tables₀ count bucket₀ tables bucket = count - bucket
+
+buckets-requires : tie.Need-buckets-requires Inv-loop μ-loop
+buckets-requires c κs = search needs
 
 loop-holds : tie.Need-loop-holds Inv-loop μ-loop
-unfolding buckets
-loop-holds c = (search needs, refl, below-none _)
+loop-holds c = (search needs, search needs, refl, below-none _)
 
 named-at-requires : tie.Need-named-at-requires Inv-loop μ-loop
-unfolding buckets
 named-at-requires c κs = search needs
 
 mul-tables : tie.Need-mul-tables Inv-loop μ-loop
-unfolding buckets
 mul-tables c = search needs
 
 slice-write-tables : tie.Need-slice-write-tables Inv-loop μ-loop
-unfolding buckets
 slice-write-tables c = search needs
 
 add-bucket : tie.Need-add-bucket Inv-loop μ-loop
-unfolding buckets
 add-bucket c = search needs
 
 loop-less : tie.Need-loop-less Inv-loop μ-loop
-unfolding buckets
 loop-less c = search needs
 
 loop-again : tie.Need-loop-again Inv-loop μ-loop
-unfolding buckets
 loop-again c =
     let l = c .before .before in
-    let s = l .before .before .before in
+    let s = l .before .before .before .before in
     let a = s .args in (
       search needs,
       search needs,
-      named-more (a .settings) (words (a .store .now)) (decode (words (a .store .now))) (l .loop .tables) (l .loop .bucket) _ (omega arith) (l .loop .inv .2) (c .named-at .ensures),
+      search needs,
+      named-more (a .settings) (words (a .store .now)) (decode (words (a .store .now))) (l .loop .tables) (l .loop .bucket) _ (omega arith) (l .loop .inv .3)
+          (c .named-at .ensures),
     )
 
 same-length : tie.Need-same-length Inv-loop μ-loop
-unfolding buckets
 same-length c = search needs
 
 returns : tie.Need-returns Inv-loop μ-loop
-unfolding buckets
-returns c = λ g p. c .before .loop .inv .2 g (omega arith)
+returns c =
+    let l = c .before in
+    let s = l .before .before .before .before in
+    record { store = s .pre .0; many = l .loop .inv .2 ∙ s .pre .1; lie = λ g p. l .loop .inv .3 g (omega arith) }
 
 pub all-named-spec : {M : Type 1} → statement M
 all-named-spec =
@@ -69,6 +68,7 @@ all-named-spec =
     (tie.spec
     Inv-loop
     μ-loop
+    buckets-requires
     loop-holds
     named-at-requires
     mul-tables

@@ -2,7 +2,6 @@ use mathlib.Core.Path.{_≡_}
 use native.Mathlib.Omega.{arith}
 use Rattle.words.specs.Words.{words}
 use Rattle.layout.specs.Disk.{blank-brick}
-use Rattle.layout.specs.Layout.{place-at}
 use Rattle.layout.specs.Store.{brick-in, decode}
 use Rattle.layout.proofs.Bounds.{store-small}
 use Rattle.lent.specs.Places.{Stands}
@@ -38,7 +37,8 @@ returns c =
     let m = c .before .before .before in
     let s = m .before .before .before .before in
     let a = s .args in
-    let h : Stands (a .settings) (decode (words (a .store .now))) (a .id) (m .place .given .0 .0) = rw (m .place .given .1) at (m .before .before .place-of .ensures) in
+    let h : Stands (a .settings) (decode (words (a .store .now))) (a .id) (m .place .given .0 .0) = rw (m .place .given .1) at
+    (m .before .before .place-of .ensures) in
     memory-lies (a .settings) (a .store .now) (s .pre .0) (a .bucket) (s .pre .1) (a .id) (m .place .given .0 .0) _ h
     (omega (arith, c .before .place-at .ensures .0, c .memory-at .ensures .0))
 

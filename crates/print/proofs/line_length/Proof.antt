@@ -4,7 +4,7 @@ use mathlib.Core.Path.{_≡_, sym, _∙_}
 use Prim.Native.Nat.{_≤_}
 use native.Mathlib.Omega.{arith}
 use Rattle.rules.specs.Event.{kind-count, kind-at}
-use Rattle.print.specs.Answers.{parts-from}
+use Rattle.rules.specs.Event.{parts-from}
 use Rattle.print.proofs.Laws.{unformed, formed, kind-of, loaded-size, loaded-length, plain-length, below-all, Known, known, few-numbers}
 use borrow.Author.Needs.{needs}
 use Rattle.print.proofs.line_length.Statement.{statement}

@@ -1,6 +1,6 @@
 -- `print::print` meets its contract.
 use native.Mathlib.Omega.{arith}
-use Rattle.print.specs.Answers.{parts-from}
+use Rattle.rules.specs.Event.{parts-from}
 use Rattle.print.proofs.Laws.{not-printed, is-printed, not-formed, is-formed, no-room, room-enough, kind-of}
 use Rattle.text.proofs.RoundTrip.{well-formed}
 use borrow.Author.Needs.{needs}

@@ -1,7 +1,8 @@
+use mathlib.Core.List.{[]}
 use native.Mathlib.Omega.{arith}
 use borrow.Author.Needs.{needs}
-use Rattle.rules.specs.Event.{kinds, kind-at, event-of}
-use Rattle.step.specs.Asked.{asked, asked-one}
+use Rattle.rules.specs.Event.{event-from}
+use Rattle.rules.proofs.Event.{kinds-open}
 use Rattle.step.proofs.KindLaws.{at-kind}
 use Rattle.step.proofs.change_brick.Statement.{statement}
 use Rattle.step.proofs.change_brick.Tie as tie
@@ -22,37 +23,51 @@ same-length : tie.Need-same-length
 same-length c = search needs
 
 returns : tie.Need-returns
-unfolding asked event-of kind-at kinds
+unfolding kinds-open
 returns c =
     let s = c .before .before .before .before .before .before in
-    at-kind {k = 14} (λ k. asked-one k (s .args .place)) (c .before .before .before .before .match .keys1) (c .before .before .crash .ensures)
+    at-kind {k = 14} (λ k. event-from k (s .args .place) 0 0 []) (c .before .before .before .before .match .keys1) (c .before .before .crash .ensures)
 
 same-length-2 : tie.Need-same-length-2
 same-length-2 c = search needs
 
 returns-2 : tie.Need-returns-2
-unfolding asked event-of kind-at kinds
+unfolding kinds-open
 returns-2 c =
     let s = c .before .before .before .before .before .before in
-    at-kind {k = 15} (λ k. asked-one k (s .args .place)) (c .before .before .before .before .match .keys2) (c .before .before .lose .ensures)
+    at-kind {k = 15} (λ k. event-from k (s .args .place) 0 0 []) (c .before .before .before .before .match .keys2) (c .before .before .lose .ensures)
 
 same-length-3 : tie.Need-same-length-3
 same-length-3 c = search needs
 
 returns-3 : tie.Need-returns-3
-unfolding asked event-of kind-at kinds
+unfolding kinds-open
 returns-3 c =
     let s = c .before .before .before .before .before .before in
-    at-kind {k = 16} (λ k. asked-one k (s .args .place)) (c .before .before .before .before .match .keys3) (c .before .before .rise .ensures)
+    at-kind {k = 16} (λ k. event-from k (s .args .place) 0 0 []) (c .before .before .before .before .match .keys3) (c .before .before .rise .ensures)
 
 same-length-4 : tie.Need-same-length-4
 same-length-4 c = search needs
 
 returns-4 : tie.Need-returns-4
-unfolding asked event-of kind-at kinds
+unfolding kinds-open
 returns-4 c =
     let s = c .before .before .before .before .before .before in
-    at-kind {k = 17} {kind = s .args .kind} (λ k. asked-one k (s .args .place)) (omega arith) (c .before .before .join .ensures)
+    at-kind {k = 17} {kind = s .args .kind} (λ k. event-from k (s .args .place) 0 0 []) (omega arith) (c .before .before .join .ensures)
 
 pub change-brick-spec : {M : Type 1} → statement M
-change-brick-spec = tie.close (tie.spec crash-requires lose-requires rise-requires join-requires same-length returns same-length-2 returns-2 same-length-3 returns-3 same-length-4 returns-4)
+change-brick-spec =
+    tie.close
+    (tie.spec
+    crash-requires
+    lose-requires
+    rise-requires
+    join-requires
+    same-length
+    returns
+    same-length-2
+    returns-2
+    same-length-3
+    returns-3
+    same-length-4
+    returns-4)

@@ -1,7 +1,8 @@
+use mathlib.Core.List.{[]}
 use native.Mathlib.Omega.{arith}
 use borrow.Author.Needs.{needs}
-use Rattle.rules.specs.Event.{kinds, kind-at, event-of}
-use Rattle.step.specs.Asked.{asked, asked-one}
+use Rattle.rules.specs.Event.{event-from}
+use Rattle.rules.proofs.Event.{kinds-open}
 use Rattle.step.proofs.KindLaws.{at-kind}
 use Rattle.step.proofs.change_view.Statement.{statement}
 use Rattle.step.proofs.change_view.Tie as tie
@@ -19,28 +20,39 @@ same-length : tie.Need-same-length
 same-length c = search needs
 
 returns : tie.Need-returns
-unfolding asked event-of kind-at kinds
+unfolding kinds-open
 returns c =
     let s = c .before .before .before .before .before .before in
-    at-kind {k = 18} (λ k. asked-one k (s .args .bucket)) (c .before .before .before .before .match .keys1) (c .before .before .view .ensures)
+    at-kind {k = 18} (λ k. event-from k (s .args .bucket) 0 0 []) (c .before .before .before .before .match .keys1) (c .before .before .view .ensures)
 
 same-length-2 : tie.Need-same-length-2
 same-length-2 c = search needs
 
 returns-2 : tie.Need-returns-2
-unfolding asked event-of kind-at kinds
+unfolding kinds-open
 returns-2 c =
     let s = c .before .before .before .before .before .before in
-    at-kind {k = 19} (λ k. asked-one k (s .args .bucket)) (c .before .before .before .before .match .keys2) (c .before .before .fetch .ensures)
+    at-kind {k = 19} (λ k. event-from k (s .args .bucket) 0 0 []) (c .before .before .before .before .match .keys2) (c .before .before .fetch .ensures)
 
 same-length-3 : tie.Need-same-length-3
 same-length-3 c = search needs
 
 returns-3 : tie.Need-returns-3
-unfolding asked event-of kind-at kinds
+unfolding kinds-open
 returns-3 c =
     let s = c .before .before .before .before .before .before in
-    at-kind {k = 20} {kind = s .args .kind} (λ k. asked-one k (s .args .bucket)) (omega arith) (c .before .before .ready .ensures)
+    at-kind {k = 20} {kind = s .args .kind} (λ k. event-from k (s .args .bucket) 0 0 []) (omega arith) (c .before .before .ready .ensures)
 
 pub change-view-spec : {M : Type 1} → statement M
-change-view-spec = tie.close (tie.spec view-requires fetch-requires ready-requires same-length returns same-length-2 returns-2 same-length-3 returns-3)
+change-view-spec =
+    tie.close
+    (tie.spec
+    view-requires
+    fetch-requires
+    ready-requires
+    same-length
+    returns
+    same-length-2
+    returns-2
+    same-length-3
+    returns-3)

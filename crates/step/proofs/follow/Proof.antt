@@ -1,7 +1,8 @@
+use mathlib.Core.List.{[]}
 use native.Mathlib.Omega.{arith}
 use borrow.Author.Needs.{needs}
-use Rattle.rules.specs.Event.{kinds, kind-at, event-of}
-use Rattle.step.specs.Asked.{asked, asked-one}
+use Rattle.rules.specs.Event.{event-from}
+use Rattle.rules.proofs.Event.{kinds-open}
 use Rattle.step.proofs.KindLaws.{at-kind}
 use Rattle.step.proofs.follow.Statement.{statement}
 use Rattle.step.proofs.follow.Tie as tie
@@ -16,19 +17,27 @@ same-length : tie.Need-same-length
 same-length c = search needs
 
 returns : tie.Need-returns
-unfolding asked event-of kind-at kinds
+unfolding kinds-open
 returns c =
     let s = c .before .before .before .before .before .before in
-    at-kind {k = 12} (λ k. asked-one k (s .args .proxy)) (c .before .before .before .before .match .keys1) (c .before .before .learn .ensures)
+    at-kind {k = 12} (λ k. event-from k (s .args .proxy) 0 0 []) (c .before .before .before .before .match .keys1) (c .before .before .learn .ensures)
 
 same-length-2 : tie.Need-same-length-2
 same-length-2 c = search needs
 
 returns-2 : tie.Need-returns-2
-unfolding asked event-of kind-at kinds
+unfolding kinds-open
 returns-2 c =
     let s = c .before .before .before .before .before .before in
-    at-kind {k = 13} {kind = s .args .kind} (λ k. asked-one k (s .args .proxy)) (omega arith) (c .before .before .reset .ensures)
+    at-kind {k = 13} {kind = s .args .kind} (λ k. event-from k (s .args .proxy) 0 0 []) (omega arith) (c .before .before .reset .ensures)
 
 pub follow-spec : {M : Type 1} → statement M
-follow-spec = tie.close (tie.spec learn-requires reset-requires same-length returns same-length-2 returns-2)
+follow-spec =
+    tie.close
+    (tie.spec
+    learn-requires
+    reset-requires
+    same-length
+    returns
+    same-length-2
+    returns-2)

@@ -1,7 +1,8 @@
+use mathlib.Core.List.{[]}
 use native.Mathlib.Omega.{arith}
 use borrow.Author.Needs.{needs}
-use Rattle.rules.specs.Event.{kinds, kind-at, event-of}
-use Rattle.step.specs.Asked.{asked, asked-one}
+use Rattle.rules.specs.Event.{event-from}
+use Rattle.rules.proofs.Event.{kinds-open}
 use Rattle.step.proofs.KindLaws.{at-kind}
 use Rattle.step.proofs.keep_up.Statement.{statement}
 use Rattle.step.proofs.keep_up.Tie as tie
@@ -16,19 +17,27 @@ same-length : tie.Need-same-length
 same-length c = search needs
 
 returns : tie.Need-returns
-unfolding asked event-of kind-at kinds
+unfolding kinds-open
 returns c =
     let s = c .before .before .before .before .before .before in
-    at-kind {k = 21} (λ k. asked-one k (s .args .place)) (c .before .before .before .before .match .keys1) (c .before .before .mend .ensures)
+    at-kind {k = 21} (λ k. event-from k (s .args .place) 0 0 []) (c .before .before .before .before .match .keys1) (c .before .before .mend .ensures)
 
 same-length-2 : tie.Need-same-length-2
 same-length-2 c = search needs
 
 returns-2 : tie.Need-returns-2
-unfolding asked event-of kind-at kinds
+unfolding kinds-open
 returns-2 c =
     let s = c .before .before .before .before .before .before in
-    at-kind {k = 22} {kind = s .args .kind} (λ k. asked-one k (s .args .place)) (omega arith) (c .before .before .collect .ensures)
+    at-kind {k = 22} {kind = s .args .kind} (λ k. event-from k (s .args .place) 0 0 []) (omega arith) (c .before .before .collect .ensures)
 
 pub keep-up-spec : {M : Type 1} → statement M
-keep-up-spec = tie.close (tie.spec mend-requires collect-requires same-length returns same-length-2 returns-2)
+keep-up-spec =
+    tie.close
+    (tie.spec
+    mend-requires
+    collect-requires
+    same-length
+    returns
+    same-length-2
+    returns-2)

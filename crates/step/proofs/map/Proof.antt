@@ -1,7 +1,8 @@
+use mathlib.Core.List.{[]}
 use native.Mathlib.Omega.{arith}
 use borrow.Author.Needs.{needs}
-use Rattle.rules.specs.Event.{kinds, kind-at, event-of}
-use Rattle.step.specs.Asked.{asked, asked-two}
+use Rattle.rules.specs.Event.{event-from}
+use Rattle.rules.proofs.Event.{kinds-open}
 use Rattle.step.proofs.KindLaws.{at-kind}
 use Rattle.step.proofs.map.Statement.{statement}
 use Rattle.step.proofs.map.Tie as tie
@@ -25,46 +26,63 @@ same-length : tie.Need-same-length
 same-length c = search needs
 
 returns : tie.Need-returns
-unfolding asked event-of kind-at kinds
+unfolding kinds-open
 returns c =
     let s = c .before .before .before .before .before .before in
-    at-kind {k = 4} (λ k. asked-two k (s .args .a) (s .args .b)) (c .before .before .before .before .match .keys1) (c .before .before .map .ensures)
+    at-kind {k = 4} (λ k. event-from k (s .args .a) (s .args .b) 0 []) (c .before .before .before .before .match .keys1) (c .before .before .map .ensures)
 
 same-length-2 : tie.Need-same-length-2
 same-length-2 c = search needs
 
 returns-2 : tie.Need-returns-2
-unfolding asked event-of kind-at kinds
+unfolding kinds-open
 returns-2 c =
     let s = c .before .before .before .before .before .before in
-    at-kind {k = 5} (λ k. asked-two k (s .args .a) (s .args .b)) (c .before .before .before .before .match .keys2) (c .before .before .send .ensures)
+    at-kind {k = 5} (λ k. event-from k (s .args .a) (s .args .b) 0 []) (c .before .before .before .before .match .keys2) (c .before .before .send .ensures)
 
 same-length-3 : tie.Need-same-length-3
 same-length-3 c = search needs
 
 returns-3 : tie.Need-returns-3
-unfolding asked event-of kind-at kinds
+unfolding kinds-open
 returns-3 c =
     let s = c .before .before .before .before .before .before in
-    at-kind {k = 6} (λ k. asked-two k (s .args .a) (s .args .b)) (c .before .before .before .before .match .keys3) (c .before .before .deliver .ensures)
+    at-kind {k = 6} (λ k. event-from k (s .args .a) (s .args .b) 0 []) (c .before .before .before .before .match .keys3) (c .before .before .deliver .ensures)
 
 same-length-4 : tie.Need-same-length-4
 same-length-4 c = search needs
 
 returns-4 : tie.Need-returns-4
-unfolding asked event-of kind-at kinds
+unfolding kinds-open
 returns-4 c =
     let s = c .before .before .before .before .before .before in
-    at-kind {k = 7} (λ k. asked-two k (s .args .a) (s .args .b)) (c .before .before .before .before .match .keys4) (c .before .before .drop .ensures)
+    at-kind {k = 7} (λ k. event-from k (s .args .a) (s .args .b) 0 []) (c .before .before .before .before .match .keys4) (c .before .before .drop .ensures)
 
 same-length-5 : tie.Need-same-length-5
 same-length-5 c = search needs
 
 returns-5 : tie.Need-returns-5
-unfolding asked event-of kind-at kinds
+unfolding kinds-open
 returns-5 c =
     let s = c .before .before .before .before .before .before in
-    at-kind {k = 8} {kind = s .args .kind} (λ k. asked-two k (s .args .a) (s .args .b)) (omega arith) (c .before .before .savemap .ensures)
+    at-kind {k = 8} {kind = s .args .kind} (λ k. event-from k (s .args .a) (s .args .b) 0 []) (omega arith) (c .before .before .savemap .ensures)
 
 pub map-spec : {M : Type 1} → statement M
-map-spec = tie.close (tie.spec map-requires send-requires deliver-requires drop-requires savemap-requires same-length returns same-length-2 returns-2 same-length-3 returns-3 same-length-4 returns-4 same-length-5 returns-5)
+map-spec =
+    tie.close
+    (tie.spec
+    map-requires
+    send-requires
+    deliver-requires
+    drop-requires
+    savemap-requires
+    same-length
+    returns
+    same-length-2
+    returns-2
+    same-length-3
+    returns-3
+    same-length-4
+    returns-4
+    same-length-5
+    returns-5)

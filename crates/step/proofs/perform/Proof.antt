@@ -1,13 +1,61 @@
+use mathlib.Core.Path.{_≡_, refl}
+use mathlib.Core.List.{List, []}
+use Prim.Native.Nat.{ℕ, _≤_, _<_}
 use native.Mathlib.Omega.{arith}
+use lib.ListN.{length, getD}
 use borrow.Author.Needs.{needs}
-use Rattle.rules.specs.Event.{kinds, kind-at, event-of}
-use Rattle.step.specs.Asked.{asked}
-use Rattle.step.proofs.KindLaws.{at-kind, for-event, two-numbers, one-number, kind-none, kind-past, unknown-refused}
+use Rattle.lists.proofs.Runs.{below-of}
+use Rattle.words.specs.Words.{words}
+use Rattle.rules.specs.Event.{Event, event-from}
+use Rattle.rules.specs.Call.{Call, get-kind}
+use Rattle.rules.proofs.Event.{kinds-open, two-numbers, one-number, kind-none, kind-past}
+use Rattle.layout.specs.Store.{decode-bytes}
+use Rattle.lent.specs.declared.Answer.{Answer}
+use Rattle.lent.specs.declared.Answer.the-variants.{No}
+use Rattle.lent.specs.Performs.{Performs}
+use Rattle.lent.proofs.Stores.{sound-store}
+use Rattle.calls.specs.Outcome.{call-with, outcome, outcome-of}
+use Rattle.step.proofs.KindLaws.{unknown-refused}
+use Rattle.step.proofs.Outcomes.{other-steps, get-steps}
 use Rattle.step.proofs.perform.Statement.{statement}
 use Rattle.step.proofs.perform.Tie as tie
 
+-- ---- the call, and what is left to show for a kind that is not get's
+abbrev store : tie.After-slice-known2 → List ℕ
+store c = c .before .before .before .before .args .store .now
+
+abbrev call : tie.After-slice-known2 → Call
+call c =
+    let s = c .before .before .before .before .args in
+    call-with (s .kind) (s .a) (s .b) (s .c) (s .«data» .now) (s .blank .now) (s .area .now)
+
+abbrev event : tie.After-slice-known2 → Event
+event c = let k = call c in event-from (k .kind) (k .a) (k .b) (k .c) (k .bytes)
+
+other : (c : tie.After-slice-known2) → (call c .kind ≡ get-kind → ⊥) → {e : Event} → event c ≡ e → (r : Answer) (after : List ℕ)
+    → ((i : ℕ) → getD after i 0 < 256) → length after ≡ length (store c) → Performs e (words (store c)) r (words after)
+    → outcome-of r (call c .area) after ≡ outcome (store c) (call c)
+other c u {e} q r after b h p = other-steps (call c) (store c) (sound-store _ (store c) (c .before .before .before .before .pre)) u r after (below-of 256 _ b) h e q p
+
+-- fields that the kind doesn't have
+two : (c : tie.After-slice-known2) → 4 ≤ call c .kind → call c .kind ≤ 8 → event c ≡ event-from (call c .kind) (call c .a) (call c .b) 0 []
+two c l h = let k = call c in two-numbers (k .a) (k .b) (k .c) (k .bytes) (k .kind) l h
+
+one : (c : tie.After-slice-known2) → 12 ≤ call c .kind → call c .kind ≤ 22 → event c ≡ event-from (call c .kind) (call c .a) 0 0 []
+one c l h = let k = call c in one-number (k .a) (k .b) (k .c) (k .bytes) (k .kind) l h
+
+-- a number of no kind
+none : (c : tie.After-slice-known2) → (call c .kind ≡ get-kind → ⊥) → event c ≡ Event.unknown
+    → outcome-of (No 3) (call c .area) (store c) ≡ outcome (store c) (call c)
+none c u q =
+    other c u q (No 3) (store c) (λ i. omega (arith, c .before .before .before .slice-known .given i)) refl
+    (unknown-refused _ (c .before .before .before .before .pre .sound))
+
 done-requires : tie.Need-done-requires
 done-requires c κs = search needs
+
+get-into-requires : tie.Need-get-into-requires
+get-into-requires c κs = search needs
 
 abandon-requires : tie.Need-abandon-requires
 abandon-requires c κs = search needs
@@ -34,80 +82,132 @@ same-length : tie.Need-same-length
 same-length c = search needs
 
 returns : tie.Need-returns
-unfolding asked event-of kind-at kinds
+unfolding kinds-open
 returns c =
-    let s = c .before .before .before .before .before .before .before in
-    at-kind (λ k. asked k (s .args .a) (s .args .b) (s .args .c) (s .args .«data» .now)) (c .before .before .before .before .match .keys1) (c .before .before .done .ensures)
+    let s = c .before .before .before .before .before in
+    let r = c .before .before .done in
+    other s (λ z. omega arith) (rw (c .before .before .before .before .match .keys1) refl) (r .result) _
+    (λ i. omega (arith, c .slice-known3 .given i)) (r .kept .0) (r .ensures)
 
 same-length-2 : tie.Need-same-length-2
 same-length-2 c = search needs
 
-returns-2 : tie.Need-returns-2
-unfolding asked event-of kind-at kinds
-returns-2 c =
-    let s = c .before .before .before .before .before .before .before in
-    at-kind (λ k. asked k (s .args .a) (s .args .b) (s .args .c) (s .args .«data» .now)) (c .before .before .before .before .match .keys2) (c .before .before .abandon .ensures)
-
 same-length-3 : tie.Need-same-length-3
 same-length-3 c = search needs
 
-returns-3 : tie.Need-returns-3
-returns-3 c = search needs
+returns-2 : tie.Need-returns-2
+unfolding decode-bytes
+returns-2 c =
+    let s = c .before .before .before .before .before .before in
+    get-steps (store s) (sound-store _ (store s) (s .before .before .before .before .pre)) (below-of 256 _ (λ i. omega (arith, s .before .before .before .slice-known .given i))) (call s)
+    (c .before .before .before .before .before .match .keys2) (c .before .before .get-into .result) _ (c .before .before .get-into .ensures)
 
 same-length-4 : tie.Need-same-length-4
 same-length-4 c = search needs
 
-returns-4 : tie.Need-returns-4
-returns-4 c =
-    let s = c .before .before .before .before .before .before .before .before .before .before in
-    for-event (two-numbers (s .args .a) (s .args .b) (s .args .c) (s .args .«data» .now) (s .args .kind) (omega arith) (omega arith)) (c .before .before .map .ensures)
+returns-3 : tie.Need-returns-3
+unfolding kinds-open
+returns-3 c =
+    let s = c .before .before .before .before .before in
+    let r = c .before .before .abandon in
+    other s (λ z. omega arith) (rw (c .before .before .before .before .match .keys3) refl) (r .result) _
+    (λ i. omega (arith, c .slice-known5 .given i)) (r .kept .0) (r .ensures)
 
 same-length-5 : tie.Need-same-length-5
 same-length-5 c = search needs
 
-returns-5 : tie.Need-returns-5
-returns-5 c =
-    let s = c .before .before .before .before .before .before .before .before .before .before .before .before in
-    for-event (one-number (s .args .a) (s .args .b) (s .args .c) (s .args .«data» .now) (s .args .kind) (omega arith) (omega arith)) (c .before .before .follow .ensures)
+returns-4 : tie.Need-returns-4
+returns-4 c =
+    let s = c .before .before .before .before .before .before .before in
+    let r = c .before .before .write in
+    other s (λ z. omega arith) refl (r .result) _ (λ i. omega (arith, c .slice-known6 .given i)) (r .kept .0) (r .ensures)
 
 same-length-6 : tie.Need-same-length-6
 same-length-6 c = search needs
 
-returns-6 : tie.Need-returns-6
-returns-6 c =
-    let s = c .before .before .before .before .before .before .before .before .before .before .before .before .before in
-    for-event (one-number (s .args .a) (s .args .b) (s .args .c) (s .args .«data» .now) (s .args .kind) (omega arith) (omega arith)) (c .before .before .change-brick .ensures)
+returns-5 : tie.Need-returns-5
+returns-5 c =
+    let s = c .before .before .before .before .before .before .before .before in
+    let r = c .before .before .map in
+    other s (λ z. omega arith) (two s (omega arith) (omega arith)) (r .result) _ (λ i. omega (arith, c .slice-known7 .given i)) (r .kept .0) (r .ensures)
 
 same-length-7 : tie.Need-same-length-7
 same-length-7 c = search needs
 
-returns-7 : tie.Need-returns-7
-returns-7 c =
-    let s = c .before .before .before .before .before .before .before .before .before .before .before .before .before .before in
-    for-event (one-number (s .args .a) (s .args .b) (s .args .c) (s .args .«data» .now) (s .args .kind) (omega arith) (omega arith)) (c .before .before .change-view .ensures)
+returns-6 : tie.Need-returns-6
+returns-6 c =
+    let s = c .before .before .before .before .before .before .before .before .before in
+    let r = c .before .before .follow in
+    other s (λ z. omega arith) (one s (omega arith) (omega arith)) (r .result) _ (λ i. omega (arith, c .slice-known8 .given i)) (r .kept .0) (r .ensures)
 
 same-length-8 : tie.Need-same-length-8
 same-length-8 c = search needs
 
+returns-7 : tie.Need-returns-7
+returns-7 c =
+    let s = c .before .before .before .before .before .before .before .before .before .before in
+    let r = c .before .before .change-brick in
+    other s (λ z. omega arith) (one s (omega arith) (omega arith)) (r .result) _ (λ i. omega (arith, c .slice-known9 .given i)) (r .kept .0) (r .ensures)
+
+same-length-9 : tie.Need-same-length-9
+same-length-9 c = search needs
+
 returns-8 : tie.Need-returns-8
 returns-8 c =
-    let s = c .before .before .before .before .before .before .before .before .before .before .before .before .before .before .before in
-    for-event (one-number (s .args .a) (s .args .b) (s .args .c) (s .args .«data» .now) (s .args .kind) (omega arith) (omega arith)) (c .before .before .keep-up .ensures)
+    let s = c .before .before .before .before .before .before .before .before .before .before .before in
+    let r = c .before .before .change-view in
+    other s (λ z. omega arith) (one s (omega arith) (omega arith)) (r .result) _ (λ i. omega (arith, c .slice-known10 .given i)) (r .kept .0) (r .ensures)
+
+same-length-10 : tie.Need-same-length-10
+same-length-10 c = search needs
 
 returns-9 : tie.Need-returns-9
 returns-9 c =
-    let s = c .before .before .before .before in
-    for-event (kind-none (s .args .a) (s .args .b) (s .args .c) (s .args .«data» .now) (s .args .kind) (omega arith)) (unknown-refused _ (s .pre .0 .sound))
+    let s = c .before .before .before .before .before .before .before .before .before .before .before .before in
+    let r = c .before .before .keep-up in
+    other s (λ z. omega arith) (one s (omega arith) (omega arith)) (r .result) _ (λ i. omega (arith, c .slice-known11 .given i)) (r .kept .0) (r .ensures)
 
 returns-10 : tie.Need-returns-10
 returns-10 c =
-    let s = c .before .before .before .before .before .before .before in
-    absurd (s .pre .1 (omega arith))
+    let s = c .before .before in
+    none s (λ z. omega arith) (kind-none (call s .a) (call s .b) (call s .c) (call s .bytes) (call s .kind) (omega arith))
 
 returns-11 : tie.Need-returns-11
 returns-11 c =
-    let s = c .before .before .before .before .before .before .before .before .before .before .before in
-    for-event (kind-past (s .args .a) (s .args .b) (s .args .c) (s .args .«data» .now) (s .args .kind) (omega arith)) (unknown-refused _ (s .pre .0 .sound))
+    let s = c .before .before .before .before .before .before .before .before in
+    none s (λ z. omega arith) (kind-past (call s .a) (call s .b) (call s .c) (call s .bytes) (call s .kind) (omega arith))
 
 pub perform-spec : {M : Type 1} → statement M
-perform-spec = tie.close (tie.spec done-requires abandon-requires write-requires map-requires follow-requires change-brick-requires change-view-requires keep-up-requires same-length returns same-length-2 returns-2 same-length-3 returns-3 same-length-4 returns-4 same-length-5 returns-5 same-length-6 returns-6 same-length-7 returns-7 same-length-8 returns-8 returns-9 returns-10 returns-11)
+perform-spec =
+    tie.close
+    (tie.spec
+    done-requires
+    get-into-requires
+    abandon-requires
+    write-requires
+    map-requires
+    follow-requires
+    change-brick-requires
+    change-view-requires
+    keep-up-requires
+    same-length
+    returns
+    same-length-2
+    same-length-3
+    returns-2
+    same-length-4
+    returns-3
+    same-length-5
+    returns-4
+    same-length-6
+    returns-5
+    same-length-7
+    returns-6
+    same-length-8
+    returns-7
+    same-length-9
+    returns-8
+    same-length-10
+    returns-9
+    returns-10
+    returns-11)

@@ -1,7 +1,7 @@
 use mathlib.Core.Path.{sym, _∙_}
 use borrow.Author.Needs.{needs}
+use Rattle.calls.specs.Outcome.{call-with}
 use Rattle.calls.proofs.Performed.{store-sound}
-use Rattle.step.specs.Step.{brought}
 use Rattle.step.proofs.Outcomes.{unsound-steps}
 use Rattle.step.proofs.step.Statement.{statement}
 use Rattle.step.proofs.step.Tie as tie
@@ -9,8 +9,11 @@ use Rattle.step.proofs.step.Tie as tie
 is-sound-requires : tie.Need-is-sound-requires
 is-sound-requires c κs = search needs
 
-perform-or-read-requires : tie.Need-perform-or-read-requires
-perform-or-read-requires c κs = store-sound _ (sym (c .before .before .before .is-sound .ensures) ∙ c .before .before .if1 .taken)
+settings-requires : tie.Need-settings-requires
+settings-requires c κs = store-sound _ (sym (c .before .before .is-sound .ensures) ∙ c .before .if1 .taken)
+
+perform-requires : tie.Need-perform-requires
+perform-requires c κs = search needs
 
 same-length : tie.Need-same-length
 same-length c = search needs
@@ -26,15 +29,17 @@ same-length-3 c = search needs
 
 returns-2 : tie.Need-returns-2
 returns-2 c =
-    let s = c .before .before .before .before .before .before .before in
-    unsound-steps (brought (s .args .kind) (s .args .a) (s .args .b) (s .args .c) (s .args .«data» .now) (s .args .blank .now) (s .args .area .now)) (s .args .store .now) (sym (c .before .is-sound .ensures) ∙ c .if1 .left)
+    let s = c .before .before .before .before .before .before .before .args in
+    unsound-steps (call-with (s .kind) (s .a) (s .b) (s .c) (s .«data» .now) (s .blank .now) (s .area .now)) (s .store .now)
+    (sym (c .before .is-sound .ensures) ∙ c .if1 .left)
 
 pub step-spec : {M : Type 1} → statement M
 step-spec =
     tie.close
     (tie.spec
     is-sound-requires
-    perform-or-read-requires
+    settings-requires
+    perform-requires
     same-length
     same-length-2
     returns

@@ -1,7 +1,7 @@
 use native.Mathlib.Omega.{arith}
 use borrow.Author.Needs.{needs}
-use Rattle.rules.specs.Event.{kinds, kind-at, event-of}
-use Rattle.step.specs.Asked.{asked}
+use Rattle.rules.specs.Event.{event-from}
+use Rattle.rules.proofs.Event.{kinds-open}
 use Rattle.step.proofs.KindLaws.{at-kind}
 use Rattle.step.proofs.write.Statement.{statement}
 use Rattle.step.proofs.write.Tie as tie
@@ -19,28 +19,42 @@ same-length : tie.Need-same-length
 same-length c = search needs
 
 returns : tie.Need-returns
-unfolding asked event-of kind-at kinds
+unfolding kinds-open
 returns c =
     let s = c .before .before .before .before .before .before .before in
-    at-kind {k = 1} (λ k. asked k (s .args .a) (s .args .b) (s .args .c) (s .args .«data» .now)) (c .before .before .before .before .match .keys1) (c .before .before .put .ensures)
+    at-kind {k = 1} (λ k. event-from k (s .args .a) (s .args .b) (s .args .c) (s .args .«data» .now))
+    (c .before .before .before .before .match .keys1) (c .before .before .put .ensures)
 
 same-length-2 : tie.Need-same-length-2
 same-length-2 c = search needs
 
 returns-2 : tie.Need-returns-2
-unfolding asked event-of kind-at kinds
+unfolding kinds-open
 returns-2 c =
     let s = c .before .before .before .before .before .before .before in
-    at-kind {k = 2} (λ k. asked k (s .args .a) (s .args .b) (s .args .c) (s .args .«data» .now)) (c .before .before .before .before .match .keys2) (c .before .before .copy .ensures)
+    at-kind {k = 2} (λ k. event-from k (s .args .a) (s .args .b) (s .args .c) (s .args .«data» .now))
+    (c .before .before .before .before .match .keys2) (c .before .before .copy .ensures)
 
 same-length-3 : tie.Need-same-length-3
 same-length-3 c = search needs
 
 returns-3 : tie.Need-returns-3
-unfolding asked event-of kind-at kinds
+unfolding kinds-open
 returns-3 c =
     let s = c .before .before .before .before .before .before .before in
-    at-kind {k = 3} {kind = s .args .kind} (λ k. asked k (s .args .a) (s .args .b) (s .args .c) (s .args .«data» .now)) (omega arith) (c .before .before .savelog .ensures)
+    at-kind {k = 3} {kind = s .args .kind} (λ k. event-from k (s .args .a) (s .args .b) (s .args .c) (s .args .«data» .now))
+    (omega arith) (c .before .before .savelog .ensures)
 
 pub write-spec : {M : Type 1} → statement M
-write-spec = tie.close (tie.spec put-requires copy-requires savelog-requires same-length returns same-length-2 returns-2 same-length-3 returns-3)
+write-spec =
+    tie.close
+    (tie.spec
+    put-requires
+    copy-requires
+    savelog-requires
+    same-length
+    returns
+    same-length-2
+    returns-2
+    same-length-3
+    returns-3)

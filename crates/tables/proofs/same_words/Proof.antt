@@ -1,10 +1,8 @@
-use mathlib.Core.Path.{_≡_, sym, _∙_}
-use mathlib.Core.Bool.{true}
-use Prim.Native.Nat.{ℕ, _-_, _≤_, _<_}
+use mathlib.Core.Path.{_≡_, refl, _∙_}
+use Prim.Native.Nat.{_-_, _≤_}
+use native.Mathlib.Numerals.{add-one}
 use native.Mathlib.Omega.{arith}
-use borrow.Author.Count.{below-more, below-none}
-use borrow.Author.Tests.{eq-eqb, ne-eqb}
-use Rattle.lists.proofs.Tests.{all-true, all-false}
+use Rattle.lists.specs.Tests.{_and_, all-below}
 use Rattle.words.specs.Words.{words}
 use Rattle.tables.specs.Tables.{same-at}
 use borrow.Author.Needs.{needs}
@@ -12,13 +10,14 @@ use Rattle.tables.proofs.same_words.Statement.{statement}
 use Rattle.tables.proofs.same_words.Tie as tie
 
 abbrev Inv-loop : tie.InvT-loop
-Inv-loop a b n i₀ i = (i ≤ n) × ((k : ℕ) → k < i → same-at (words a) (words b) k ≡ true)
+Inv-loop a b n same₀ i₀ same i = (i ≤ n) × (same ≡ all-below i (same-at (words a) (words b)))
 
 abbrev μ-loop : tie.MeasureT-loop
-μ-loop a b n i₀ i = n - i
+μ-loop a b n same₀ i₀ same i = n - i
 
 loop-holds : tie.Need-loop-holds Inv-loop μ-loop
-loop-holds c = (search needs, below-none _)
+unfolding all-below
+loop-holds c = (search needs, refl)
 
 add-read : tie.Need-add-read Inv-loop μ-loop
 add-read c = search needs
@@ -32,15 +31,6 @@ add-read-2 c = search needs
 read-requires-2 : tie.Need-read-requires-2 Inv-loop μ-loop
 read-requires-2 c κs = search needs
 
-returns : tie.Need-returns Inv-loop μ-loop
-returns c =
-    let s = c .before .before .before .before .before .before .before in
-    let i = c .before .before .before .before .loop .i in
-    let x = words (s .args .a .now) in
-    let y = words (s .args .b .now) in
-    sym (all-false (s .args .n) (same-at x y) i (omega arith)
-    (ne-eqb _ _ (λ e. c .if1 .taken (c .before .before .read .ensures ∙ e ∙ sym (c .before .read2 .ensures)))))
-
 add-i : tie.Need-add-i Inv-loop μ-loop
 add-i c = search needs
 
@@ -48,21 +38,16 @@ loop-less : tie.Need-loop-less Inv-loop μ-loop
 loop-less c = search needs
 
 loop-again : tie.Need-loop-again Inv-loop μ-loop
+unfolding all-below _and_
 loop-again c =
-    let s = c .before .before .before .before .before .before .before in
-    let l = c .before .before .before .before .loop in
-    let x = words (s .args .a .now) in
-    let y = words (s .args .b .now) in (
-      search needs,
-      below-more (λ k. same-at x y k ≡ true) (l .i) (l .inv .1)
-          (eq-eqb _ _ (sym (c .before .before .read .ensures) ∙ c .if1 .left ∙ c .before .read2 .ensures)),
-    )
+    let l = c .before .before .before .loop in
+    (search needs, rw (add-one (l .i), l .inv .1, c .before .read .ensures, c .read2 .ensures))
 
-returns-2 : tie.Need-returns-2 Inv-loop μ-loop
-returns-2 c =
-    let s = c .before .before .before .before in
+returns : tie.Need-returns Inv-loop μ-loop
+returns c =
     let l = c .before .loop in
-    sym (all-true (s .args .n) (same-at (words (s .args .a .now)) (words (s .args .b .now))) (λ k p. l .inv .1 k (omega arith)))
+    let e : l .i ≡ c .before .before .before .before .args .n = omega arith in
+    l .inv .1 ∙ rw e
 
 pub same-words-spec : {M : Type 1} → statement M
 same-words-spec =
@@ -75,8 +60,7 @@ same-words-spec =
     read-requires
     add-read-2
     read-requires-2
-    returns
     add-i
     loop-less
     loop-again
-    returns-2)
+    returns)

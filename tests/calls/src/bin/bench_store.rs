@@ -1,10 +1,11 @@
-//! Side by side with the independent implementation, in one run: check at 0, 10 and 100 % use, check by the number of chunks, and format;
+//! Side by side with the independent implementation, in one run: check at 0, 10 and 100 % use, of a store with blocks mapped, and by the number of
+//! chunks; format;
 //! and a move of words side by side with memmove.
 use call_tests::moves::{memmove, move_words};
 use call_tests::store::model::{self, Settings};
 use call_tests::random::Random;
 use call_tests::time::{compare, heading};
-use call_tests::store::random::sound_store;
+use call_tests::store::random::{mapped_store, sound_store};
 use std::cell::RefCell;
 
 fn main() {
@@ -14,6 +15,11 @@ fn main() {
     for percent in [0, 10, 100] {
         let store = sound_store(&mut r, s, percent);
         compare(&format!("check, {percent} % in use"), || call_tests::store::check(&store), || model::check(&store));
+    }
+    for blocks in [100, 1000] {
+        let store = mapped_store(Settings::new(4, 512, 256, 1024), blocks);
+        assert_eq!(model::check(&store), 0);
+        compare(&format!("check, {blocks} blocks mapped"), || call_tests::store::check(&store), || model::check(&store));
     }
     for chunks in [1000, 60000] {
         let s = Settings::new(3, 8, 2, chunks);

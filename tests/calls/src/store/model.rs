@@ -308,3 +308,35 @@ fn is_sound(store: &[u8]) -> bool {
             v.at(at) == 0 || v.brick(at)
         })
 }
+
+/// The member ids, ascending.
+fn members(store: &[u8], s: Settings) -> Vec<u64> {
+    let places = (0..s.places as usize).map(|p| AT_PLACES + p * s.place());
+    let mut ids: Vec<u64> = places.filter(|&at| get(store, at) != 0 && get(store, at + 2) == 1).map(|at| get(store, at)).collect();
+    ids.sort_unstable();
+    ids
+}
+
+/// What a bucket's primary has in memory: a count, blocks and keys. A lost one has nothing.
+fn primary_memory(store: &[u8], s: Settings, bucket: usize) -> Vec<u64> {
+    let id = get(store, AT_BUCKETS + bucket * BUCKET);
+    match (0..s.places as usize).map(|p| AT_PLACES + p * s.place()).find(|&at| get(store, at) == id) {
+        Some(at) => {
+            let memory = at + AT_COPIES + 2 * bucket * s.copy();
+            (0..1 + 2 * get(store, memory) as usize).map(|i| get(store, memory + i)).collect()
+        }
+        None => vec![0],
+    }
+}
+
+/// 0 where two stores are alike, 1 where they are not, 2 where one of them is not sound.
+pub fn alike(store: &[u8], other: &[u8]) -> u64 {
+    if !is_sound(store) || !is_sound(other) {
+        return 2;
+    }
+    let s = Settings::new(get(store, 0), get(store, 1), get(store, 2), get(store, 3));
+    let same = (0..=4).all(|i| get(store, i) == get(other, i))
+        && members(store, s) == members(other, s)
+        && (0..BUCKETS).all(|g| primary_memory(store, s, g) == primary_memory(other, s, g));
+    !same as u64
+}

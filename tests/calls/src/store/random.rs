@@ -158,3 +158,40 @@ pub fn sound_store(r: &mut Random, s: Settings, percent: u64) -> Vec<u8> {
     }
     m.store
 }
+
+/// A store in use: so many blocks, spread over the buckets, written at their primary, copied to the backup and saved, all four copies the same.
+pub fn mapped_store(s: Settings, blocks: u64) -> Vec<u8> {
+    let mut store = vec![0; s.bytes()];
+    format(&mut store, s);
+    for i in 0..blocks {
+        let g = i % BUCKETS as u64;
+        let block = g << 10 | (i / 16 & 1023) | (i >> 14 << 14);
+        let pair = AT_BUCKETS + g as usize * BUCKET;
+        let places = [get(&store, pair) - 1, get(&store, pair + 1) - 1].map(|id| AT_PLACES + id as usize * s.place());
+        let key = get(&store, pair) * SEQUENCES + get(&store, places[0] + 4);
+        put(&mut store, places[0] + 4, key % SEQUENCES + 1);
+        put(&mut store, places[0] + 5, (key % SEQUENCES / 1024 + 1) * 1024);
+        for at in places {
+            for copy in 0..2 {
+                let table = at + AT_COPIES + (2 * g as usize + copy) * s.copy();
+                append(&mut store, table, [block, key]);
+            }
+            append(&mut store, at + s.at_log(), [key, 1]);
+        }
+    }
+    for p in 0..s.places as usize {
+        let log = AT_PLACES + p * s.place() + s.at_log();
+        let mut order: Vec<u64> = (0..get(&store, log)).collect();
+        order.sort_unstable_by_key(|&i| get(&store, log + 1 + 2 * i as usize));
+        order.iter().enumerate().for_each(|(j, &i)| put(&mut store, log + 1 + 2 * s.chunks as usize + j, i));
+    }
+    store
+}
+
+/// A row of two words at the end of a table.
+fn append(store: &mut [u8], table: usize, row: [u64; 2]) {
+    let n = get(store, table) as usize;
+    put(store, table, n as u64 + 1);
+    put(store, table + 1 + 2 * n, row[0]);
+    put(store, table + 2 + 2 * n, row[1]);
+}

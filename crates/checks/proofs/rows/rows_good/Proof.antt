@@ -1,23 +1,28 @@
-use mathlib.Core.Path.{_≡_, refl, sym, _∙_}
-use Prim.Native.Nat.{_-_, _≤_}
+use mathlib.Core.Path.{_≡_, refl, sym, ap, _∙_}
+use mathlib.Core.Bool.{Bool}
+use Prim.Native.Nat.{ℕ, suc, _-_, _≤_, _<_}
+use native.Mathlib.Omega.{arith}
 use borrow.Author.Tests.{not-true, not-false}
+use Rattle.rules.specs.Numbers.{blocks}
 use Rattle.words.specs.Words.{words}
-use Rattle.checks.specs.Rows.{key-below, rows-good, first-entries}
-use Rattle.checks.proofs.RowLaws.{rows-left, rows-begin, rows-end, rows-low, rows-bad, rows-next, entry-small}
+use Rattle.checks.specs.Rows.{key-below}
+use Rattle.checks.proofs.RowLaws.{rows-under, under-none, under-high, under-bad, under-next, rows-are}
 use borrow.Author.Needs.{needs}
 use Rattle.checks.proofs.rows.rows_good.Statement.{statement}
 use Rattle.checks.proofs.rows.rows_good.Tie as tie
 
 abbrev Inv-loop : tie.InvT-loop
-Inv-loop settings limits whose table n floor₀ i₀ floor i =
-    (i ≤ n) × (rows-good settings (key-below limits) whose 0 (first-entries n (words table)) ≡ rows-left settings (key-below limits) whose n
-    (words table) floor i)
+Inv-loop settings limits whose table n ceiling₀ i₀ ceiling i =
+    let under = rows-under settings (key-below limits) whose (words table) in (i ≤ n) × (under blocks n ≡ under ceiling i)
 
 abbrev μ-loop : tie.MeasureT-loop
-μ-loop settings limits whose table n floor₀ i₀ floor i = n - i
+μ-loop settings limits whose table n ceiling₀ i₀ ceiling i = i
 
 loop-holds : tie.Need-loop-holds Inv-loop μ-loop
-loop-holds c = (search needs, rows-begin _ _ _ _ _)
+loop-holds c = (search needs, refl)
+
+sub-i : tie.Need-sub-i Inv-loop μ-loop
+sub-i c = search needs
 
 mul-read : tie.Need-mul-read Inv-loop μ-loop
 mul-read c = search needs
@@ -28,10 +33,19 @@ add-read c = search needs
 read-requires : tie.Need-read-requires Inv-loop μ-loop
 read-requires c κs = search needs
 
+-- what the loop has left to test, with its last row by itself
+one-more : (under : ℕ → ℕ → Bool) (all ceiling i : ℕ) → 0 < i → under blocks all ≡ under ceiling i → under blocks all ≡ under ceiling (suc (i - 1))
+one-more under all ceiling i h e = let q : i ≡ suc (i - 1) = omega arith in e ∙ ap (under ceiling) q
+
 returns : tie.Need-returns Inv-loop μ-loop
 returns c =
     let l = c .before .before .before .loop in
-    sym (l .inv .1 ∙ rows-low _ _ _ _ _ (l .floor) (l .i) (c .before .read .result) _ (search needs) (c .before .read .ensures) refl (c .if1 .taken))
+    let a = c .before .before .before .before .before .before .args in
+    let k = key-below (a .limits .now) in
+    let ws = words (a .table .now) in
+    sym (sym (rows-are (a .settings) k (a .whose) ws (a .n))
+    ∙ one-more (rows-under (a .settings) k (a .whose) ws) (a .n) (l .ceiling) (l .i) (omega arith) (l .inv .1)
+    ∙ under-high (a .settings) k (a .whose) ws (l .ceiling) (l .i - 1) (c .before .read .result) _ (c .before .read .ensures) refl (c .if1 .taken))
 
 mul-read-2 : tie.Need-mul-read-2 Inv-loop μ-loop
 mul-read-2 c = search needs
@@ -42,36 +56,48 @@ add-read-2 c = search needs
 read-requires-2 : tie.Need-read-requires-2 Inv-loop μ-loop
 read-requires-2 c κs = search needs
 
-entry-good-requires : tie.Need-entry-good-requires Inv-loop μ-loop
-entry-good-requires c κs = search needs
+entry-fits-requires : tie.Need-entry-fits-requires Inv-loop μ-loop
+entry-fits-requires c κs = search needs
 
 returns-2 : tie.Need-returns-2 Inv-loop μ-loop
 returns-2 c =
-    let l = c .before .before .before .before .before .before .loop in
-    sym (l .inv .1 ∙ rows-bad _ _ _ _ _ (l .floor) (l .i) (c .before .before .before .before .read .result) (c .before .before .read2 .result) (search needs)
-    (c .before .before .before .before .read .ensures) (c .before .before .read2 .ensures) (sym (c .before .entry-good .ensures) ∙ not-true _ (c .if2 .taken)))
+    let r = c .before .before .before .before in
+    let l = r .before .before .loop in
+    let a = r .before .before .before .before .before .args in
+    let k = key-below (a .limits .now) in
+    let ws = words (a .table .now) in
+    sym (sym (rows-are (a .settings) k (a .whose) ws (a .n))
+    ∙ one-more (rows-under (a .settings) k (a .whose) ws) (a .n) (l .ceiling) (l .i) (omega arith) (l .inv .1)
+    ∙ under-bad (a .settings) k (a .whose) ws (l .ceiling) (l .i - 1) (r .read .result) (c .before .before .read2 .result) (r .read .ensures)
+    (c .before .before .read2 .ensures) (sym (c .before .entry-fits .ensures) ∙ not-true _ (c .if2 .taken)))
 
-floor-after-requires : tie.Need-floor-after-requires Inv-loop μ-loop
-floor-after-requires c κs = entry-small _ _ _ _ _ (sym (c .before .entry-good .ensures) ∙ not-false _ (c .if2 .left))
-
-add-i : tie.Need-add-i Inv-loop μ-loop
-add-i c = search needs
+ceiling-below-requires : tie.Need-ceiling-below-requires Inv-loop μ-loop
+ceiling-below-requires c κs = search needs
 
 loop-less : tie.Need-loop-less Inv-loop μ-loop
 loop-less c = search needs
 
 loop-again : tie.Need-loop-again Inv-loop μ-loop
 loop-again c =
-    let l = c .before .before .before .before .before .before .before .loop in
-    let r = c .before .before .before .before .before in (
+    let r = c .before .before .before .before .before in
+    let l = r .before .before .loop in
+    let a = r .before .before .before .before .before .args in
+    let k = key-below (a .limits .now) in
+    let ws = words (a .table .now) in
+    let fits = sym (c .before .before .entry-fits .ensures) ∙ not-false _ (c .before .if2 .left) in (
       search needs,
-      l .inv .1 ∙ rows-next _ _ _ _ _ (l .floor) (l .i) (r .read .result) (c .before .before .before .read2 .result) (search needs)
-          (r .read .ensures) (c .before .before .before .read2 .ensures) (c .before .before .before .before .if1 .left)
-          (sym (c .before .before .entry-good .ensures) ∙ not-false _ (c .before .if2 .left)) ∙ rw (c .floor-after .ensures),
+      one-more (rows-under (a .settings) k (a .whose) ws) (a .n) (l .ceiling) (l .i) (omega arith) (l .inv .1)
+          ∙ under-next (a .settings) k (a .whose) ws (l .ceiling) (l .i - 1) (r .read .result) (c .before .before .before .read2 .result) (r .read .ensures)
+          (c .before .before .before .read2 .ensures) (c .before .before .before .before .if1 .left) fits ∙ rw (c .ceiling-below .ensures),
     )
 
 returns-3 : tie.Need-returns-3 Inv-loop μ-loop
-returns-3 c = let l = c .before .loop in sym (l .inv .1 ∙ rows-end _ _ _ _ _ (l .floor) (l .i) (search needs) (search needs))
+returns-3 c =
+    let l = c .before .loop in
+    let a = c .before .before .before .before .args in
+    let e : l .i ≡ 0 = omega arith in
+    sym (sym (rows-are (a .settings) (key-below (a .limits .now)) (a .whose) (words (a .table .now)) (a .n)) ∙ rw e at (l .inv .1)
+    ∙ under-none (a .settings) (key-below (a .limits .now)) (a .whose) (words (a .table .now)) (l .ceiling))
 
 pub rows-good-spec : {M : Type 1} → statement M
 rows-good-spec =
@@ -80,6 +106,7 @@ rows-good-spec =
     Inv-loop
     μ-loop
     loop-holds
+    sub-i
     mul-read
     add-read
     read-requires
@@ -87,10 +114,9 @@ rows-good-spec =
     mul-read-2
     add-read-2
     read-requires-2
-    entry-good-requires
+    entry-fits-requires
     returns-2
-    floor-after-requires
-    add-i
+    ceiling-below-requires
     loop-less
     loop-again
     returns-3)

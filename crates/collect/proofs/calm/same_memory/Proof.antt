@@ -65,10 +65,12 @@ memory-requires c κs =
 
 memory-requires-2 : tie.Need-memory-requires-2
 memory-requires-2 c κs =
-    let s = c .before .before .before .before .before .before .before .before .before .before in
+    let at-first = c .before .before .before .before .before .before in
+    let at-place-of = at-first .before .before in
+    let s = at-place-of .before .before in
     let a = s .args in
-    let f : Stands (a .settings) (decode (words (a .store .now))) (a .one) (c .before .before .before .before .before .before .first .given .0 .0) =
-    rw (c .before .before .before .before .before .before .first .given .1) at (c .before .before .before .before .before .before .before .before .place-of .ensures) in
+    let f : Stands (a .settings) (decode (words (a .store .now))) (a .one) (at-first .first .given .0 .0) =
+    rw (at-first .first .given .1) at (at-place-of .place-of .ensures) in
     let h : Stands (a .settings) (decode (words (a .store .now))) (a .two) (c .before .before .second .given .0 .0) =
     rw (c .before .before .second .given .1) at (c .before .before .before .before .place-of2 .ensures) in
     (s .pre .0, h .inside, subst (λ (n : ℕ). 0 < n) (sym (h .here)) (h .some), s .pre .1)
@@ -78,12 +80,15 @@ same-requires c κs = search needs
 
 returns-3 : tie.Need-returns-3
 returns-3 c =
-    let s = c .before .before .before .before .before .before .before .before .before .before .before .before in
+    let at-place-of2 = c .before .before .before .before .before .before in
+    let at-first = at-place-of2 .before .before in
+    let at-place-of = at-first .before .before in
+    let s = at-place-of .before .before in
     let a = s .args in
-    let f : Stands (a .settings) (decode (words (a .store .now))) (a .one) (c .before .before .before .before .before .before .before .before .first .given .0 .0) =
-    rw (c .before .before .before .before .before .before .before .before .first .given .1) at (c .before .before .before .before .before .before .before .before .before .before .place-of .ensures) in
+    let f : Stands (a .settings) (decode (words (a .store .now))) (a .one) (at-first .first .given .0 .0) =
+    rw (at-first .first .given .1) at (at-place-of .place-of .ensures) in
     let h : Stands (a .settings) (decode (words (a .store .now))) (a .two) (c .before .before .before .before .second .given .0 .0) =
-    rw (c .before .before .before .before .second .given .1) at (c .before .before .before .before .before .before .place-of2 .ensures) in
+    rw (c .before .before .before .before .second .given .1) at (at-place-of2 .place-of2 .ensures) in
     let k = decode (words (a .store .now)) .bucket (a .bucket) in
     lent-same _ _ _ (k .memory (a .one)) (k .memory (a .two)) (c .same .ensures) (c .before .before .memory .ensures .same ∙ ap (k .memory) (f .here))
     (c .before .memory2 .ensures .same ∙ ap (k .memory) (h .here))

@@ -8,14 +8,11 @@ use borrow.Author.Needs.{needs}
 use Rattle.lent.proofs.bucket.agreed.Statement.{statement}
 use Rattle.lent.proofs.bucket.agreed.Tie as tie
 
+agreed-at-requires : tie.Need-agreed-at-requires
+agreed-at-requires c κs = search needs
+
 mul-at : tie.Need-mul-at
 mul-at c = search needs
-
-add-at : tie.Need-add-at
-add-at c = search needs
-
-mul-at-2 : tie.Need-mul-at-2
-mul-at-2 c = search needs
 
 mul-read : tie.Need-mul-read
 mul-read c = search needs
@@ -37,23 +34,11 @@ read-requires c κs = search needs
 
 returns : tie.Need-returns
 returns c =
-    let s = c .before .before .before in
-    let bs = s .args .store .now in
-    let at = 8 * (7 + s .args .bucket * 8) in
-    c .read .ensures ∙ ap (agreed-codec .dec) (lent bs at (at + 64) (agreed-at (s .args .bucket)) agreed-words (omega arith) (omega arith) (omega arith))
-    ∙ sym (agreed-is _ bs (s .pre .0) (s .args .bucket) (s .pre .1))
+    let b = c .before .before .before .before in
+    let at = 8 * c .before .before .agreed-at .result in
+    c .read .ensures
+    ∙ ap (agreed-codec .dec) (lent (b .args .store .now) at (at + 64) (agreed-at (b .args .bucket)) agreed-words (omega arith) (omega arith) (omega arith))
+    ∙ sym (agreed-is (b .args .settings) (b .args .store .now) (b .pre .0) (b .args .bucket) (b .pre .1))
 
 pub agreed-spec : {M : Type 1} → statement M
-agreed-spec =
-    tie.close
-    (tie.spec
-    mul-at
-    add-at
-    mul-at-2
-    mul-read
-    add-read
-    sub-read
-    part-read-start
-    part-read-end
-    read-requires
-    returns)
+agreed-spec = tie.close (tie.spec agreed-at-requires mul-at mul-read add-read sub-read part-read-start part-read-end read-requires returns)

@@ -1,27 +1,21 @@
-use mathlib.Core.Path.{refl}
+use Prim.Native.Nat.{_+_, _*_}
 use native.Mathlib.Omega.{arith}
-use Rattle.lent.proofs.Proxies.{items-sorted, item-gone}
+use Rattle.lent.proofs.Proxies.{items-part, item-gone}
 use borrow.Author.Needs.{needs}
 use Rattle.lent.proofs.proxy.remove_item.Statement.{statement}
 use Rattle.lent.proofs.proxy.remove_item.Tie as tie
 
+items-at-requires : tie.Need-items-at-requires
+items-at-requires c κs = search needs
+
 mul-at : tie.Need-mul-at
 mul-at c = search needs
 
-add-at : tie.Need-add-at
-add-at c = search needs
+mul-end : tie.Need-mul-end
+mul-end c = search needs
 
-add-at-2 : tie.Need-add-at-2
-add-at-2 c = search needs
-
-mul-at-2 : tie.Need-mul-at-2
-mul-at-2 c = search needs
-
-mul-remove : tie.Need-mul-remove
-mul-remove c = search needs
-
-add-remove : tie.Need-add-remove
-add-remove c = search needs
+add-end : tie.Need-add-end
+add-end c = search needs
 
 sub-remove : tie.Need-sub-remove
 sub-remove c = search needs
@@ -33,28 +27,30 @@ part-remove-end : tie.Need-part-remove-end
 part-remove-end c = search needs
 
 remove-requires : tie.Need-remove-requires
-remove-requires c κs = let b = c .before .before in items-sorted (b .args .store .now) (b .pre .0) (b .args .proxy) (b .pre .1) _ _ refl refl (omega arith)
+remove-requires c κs =
+    let b = c .before .before .before in
+    let at = 8 * c .before .items-at .result in
+    items-part (b .args .settings) (b .args .store .now) (b .pre .0) (b .args .proxy) (b .pre .1) at (at + 520) (omega arith) (omega arith) (omega arith) .sorted
 
 same-length : tie.Need-same-length
 same-length c = search needs
 
 returns : tie.Need-returns
 returns c =
-    let b = c .before .before .before .before .before in
+    let b = c .before .before .before .before .before .before in
+    let at = 8 * c .before .before .before .before .items-at .result in
     let remove = c .before .before .remove in
-    item-gone (b .args .store .now) (b .pre .0) (b .args .proxy) (b .pre .1) _ _ refl refl (b .args .block .0) (remove .last .0) (omega arith)
-    (remove .ensures)
+    item-gone (b .args .settings) (b .args .store .now) (b .pre .0) (b .args .proxy) (b .pre .1) at (at + 520) (omega arith) (omega arith)
+    (b .args .block .0) (remove .last .0) (omega arith) (remove .ensures)
 
 pub remove-item-spec : {M : Type 1} → statement M
 remove-item-spec =
     tie.close
     (tie.spec
+    items-at-requires
     mul-at
-    add-at
-    add-at-2
-    mul-at-2
-    mul-remove
-    add-remove
+    mul-end
+    add-end
     sub-remove
     part-remove-start
     part-remove-end

@@ -6,21 +6,36 @@ use Rattle.layout.specs.Disk.{blank-brick}
 use Rattle.layout.specs.Store.{brick-in, decode, render}
 use Rattle.parts.specs.Parts.{agreed-of}
 use Rattle.lent.specs.Places.{Stands}
-use Rattle.lent.proofs.Stores.{sound-store}
-use Rattle.maps.proofs.Asking.{bucket-is, record-is, entries-are}
+use Rattle.mappings.proofs.Buckets.{InBucket, in-bucket}
 use Rattle.maps.proofs.Mapping.{primary-stands, copy-takes, buffer-takes, mapped-entry, mapped-waiting}
 use borrow.Author.Needs.{needs}
 use Rattle.maps.proofs.map.enter.Statement.{statement}
 use Rattle.maps.proofs.map.enter.Tie as tie
+
+-- the record that was read is that of the block's bucket
+read : (c : tie.After-agreed)
+    → let b = c .before .before .before .before .before .before in
+    InBucket (decode (words (b .args .store .now))) (b .args .settings .entries) (b .args .block .0) (c .before .before .number .result)
+    (agreed-of (c .agreed .result))
+read c =
+    let b = c .before .before .before .before .before .before in
+    in-bucket (b .args .settings) (b .args .store .now) (b .pre .0) (b .args .block .0) _ (c .before .before .number .ensures .0) _ (c .agreed .ensures)
+
+-- the place holds the primary
+stands : (c : tie.After-place)
+    → let a = c .before .before .before .before in
+    let b = a .before .before .before .before .before .before in
+    Stands (b .args .settings) (decode (words (b .args .store .now))) (a .agreed .result .primary) (c .place .given .0 .0)
+stands c = rw (c .place .given .1) at (c .before .before .place-of .ensures)
+
+item-requires : tie.Need-item-requires
+item-requires c κs = search needs
 
 number-requires : tie.Need-number-requires
 number-requires c κs = search needs
 
 agreed-requires : tie.Need-agreed-requires
 agreed-requires c κs = search needs
-
-item-requires : tie.Need-item-requires
-item-requires c κs = let b = c .before .before .before .before .before in (sound-store (b .args .settings) (b .args .store .now) (b .pre .0), b .pre .1)
 
 place-of-requires : tie.Need-place-of-requires
 place-of-requires c κs = search needs
@@ -36,33 +51,17 @@ same-length c = search needs
 
 returns : tie.Need-returns
 returns c =
-    let b = c .before .before .before .before .before .before .before .before .before .before in
-    let place-of = c .before .before .place-of in
-    let bs = b .args .store .now in
-    let g = c .before .before .before .before .before .before .before .before .number in
-    let a = c .before .before .before .before .before .before .agreed in
-    let h : brick-in (decode (words bs)) (a .result .primary) ≡ blank-brick = rw (c .enum-told .given .1) at (place-of .ensures) in
-    absurd (primary-stands (decode (words bs)) (b .args .block .0) (b .pre .2) (agreed-of (a .result))
-    (record-is (b .args .settings) bs (b .pre .0) (b .args .block .0) (g .result) (g .ensures .0) (agreed-of (a .result)) (a .ensures)) h)
+    let read-at = c .before .before .before .before in
+    let h : brick-in (decode (words (c .before .before .before .before .before .before .before .before .before .before .args .store .now))) (read-at .agreed .result .primary) ≡ blank-brick =
+    rw (c .enum-told .given .1) at (c .before .before .place-of .ensures) in
+    absurd (primary-stands _ _ (c .before .before .before .before .before .before .before .before .before .before .pre .2) _ _ _ (read read-at) h)
 
 insert-requires : tie.Need-insert-requires
 insert-requires c κs =
     let b = c .before .before .before .before .before .before .before .before .before .before .before .before .before in
-    let place-of = c .before .before .before .before .before .place-of in
-    let place = c .before .before .before .place in
-    let bs = b .args .store .now in
-    let g = c .before .before .before .before .before .before .before .before .before .before .before .number in
-    let a = c .before .before .before .before .before .before .before .before .before .agreed in
-    let h : Stands (b .args .settings) (decode (words bs)) (a .result .primary) (place .given .0 .0) = rw (place .given .1) at (place-of .ensures) in (
-      b .pre .0,
-      h .inside,
-      g .ensures .1,
-      omega (arith, h .some, h .here),
-      copy-takes (decode (words bs)) (b .args .block .0) (b .pre .2) (agreed-of (a .result))
-          (record-is (b .args .settings) bs (b .pre .0) (b .args .block .0) (g .result) (g .ensures .0) (agreed-of (a .result)) (a .ensures))
-          (b .args .settings .entries) (g .result) (entries-are (b .args .settings) bs (b .pre .0))
-          (bucket-is (b .args .settings) bs (b .pre .0) (b .args .block .0) (g .result) (g .ensures .0)) _ (h .here) (c .before .if1 .taken),
-    )
+    let h = stands (c .before .before .before) in
+    let k = read (c .before .before .before .before .before .before .before) in
+    (b .pre .0, h .inside, c .before .before .before .before .before .before .before .before .before .number .ensures .1, omega (arith, h .some, h .here), copy-takes _ _ (b .pre .2) _ _ _ k _ (h .here) (c .before .if1 .taken))
 
 same-length-2 : tie.Need-same-length-2
 same-length-2 c = search needs
@@ -70,38 +69,16 @@ same-length-2 c = search needs
 returns-2 : tie.Need-returns-2
 returns-2 c =
     let b = c .before .before .before .before .before .before .before .before .before .before .before .before .before .before .before .before in
-    let item = c .before .before .before .before .before .before .before .before .before .before .item in
-    let place-of = c .before .before .before .before .before .before .before .before .place-of in
-    let place = c .before .before .before .before .before .before .place in
-    let if1 = c .before .before .before .before .if1 in
-    let insert = c .before .before .insert in
-    let bs = b .args .store .now in
-    let g = c .before .before .before .before .before .before .before .before .before .before .before .before .before .before .number in
-    let a = c .before .before .before .before .before .before .before .before .before .before .before .before .agreed in
-    let h : Stands (b .args .settings) (decode (words bs)) (a .result .primary) (place .given .0 .0) = rw (place .given .1) at (place-of .ensures) in
-    insert .ensures ∙ ap (λ (t : State). render t (words bs)) (mapped-entry (decode (words bs)) (b .args .block .0) (b .pre .2) (agreed-of (a .result))
-    (record-is (b .args .settings) bs (b .pre .0) (b .args .block .0) (g .result) (g .ensures .0) (agreed-of (a .result)) (a .ensures))
-    (b .args .settings .entries) (g .result) (entries-are (b .args .settings) bs (b .pre .0))
-    (bucket-is (b .args .settings) bs (b .pre .0) (b .args .block .0) (g .result) (g .ensures .0)) _ (h .here)
-    (b .args .proxy) (item .result .0) (item .ensures) (if1 .taken))
+    let item = c .before .before .before .before .before .before .before .before .before .before .before .before .before .item in
+    c .before .before .insert .ensures
+    ∙ ap (λ (t : State). render t (words (b .args .store .now)))
+    (mapped-entry _ _ (b .pre .2) _ _ _ (read (c .before .before .before .before .before .before .before .before .before .before)) _ (stands (c .before .before .before .before .before .before) .here) (b .args .proxy) (item .result .0) (item .ensures) (c .before .before .before .before .if1 .taken))
 
-wait-requires : tie.Need-wait-requires
-wait-requires c κs =
+append-requires : tie.Need-append-requires
+append-requires c κs =
     let b = c .before .before .before .before .before .before .before .before .before .before .before .before .before in
-    let place-of = c .before .before .before .before .before .place-of in
-    let place = c .before .before .before .place in
-    let bs = b .args .store .now in
-    let g = c .before .before .before .before .before .before .before .before .before .before .before .number in
-    let a = c .before .before .before .before .before .before .before .before .before .agreed in
-    let h : Stands (b .args .settings) (decode (words bs)) (a .result .primary) (place .given .0 .0) = rw (place .given .1) at (place-of .ensures) in (
-      b .pre .0,
-      h .inside,
-      omega (arith, h .some, h .here),
-      buffer-takes (decode (words bs)) (b .args .block .0) (b .pre .2) (agreed-of (a .result))
-          (record-is (b .args .settings) bs (b .pre .0) (b .args .block .0) (g .result) (g .ensures .0) (agreed-of (a .result)) (a .ensures))
-          (b .args .settings .entries) (g .result) (entries-are (b .args .settings) bs (b .pre .0))
-          (bucket-is (b .args .settings) bs (b .pre .0) (b .args .block .0) (g .result) (g .ensures .0)) _ (h .here) (c .before .if1 .left),
-    )
+    let h = stands (c .before .before .before) in
+    (b .pre .0, h .inside, omega (arith, h .some, h .here), buffer-takes _ _ (b .pre .2) _ _ _ (read (c .before .before .before .before .before .before .before)) _ (h .here) (c .before .if1 .left))
 
 same-length-3 : tie.Need-same-length-3
 same-length-3 c = search needs
@@ -109,28 +86,18 @@ same-length-3 c = search needs
 returns-3 : tie.Need-returns-3
 returns-3 c =
     let b = c .before .before .before .before .before .before .before .before .before .before .before .before .before .before .before .before in
-    let item = c .before .before .before .before .before .before .before .before .before .before .item in
-    let place-of = c .before .before .before .before .before .before .before .before .place-of in
-    let place = c .before .before .before .before .before .before .place in
-    let if1 = c .before .before .before .before .if1 in
-    let wait = c .before .before .wait in
-    let bs = b .args .store .now in
-    let g = c .before .before .before .before .before .before .before .before .before .before .before .before .before .before .number in
-    let a = c .before .before .before .before .before .before .before .before .before .before .before .before .agreed in
-    let h : Stands (b .args .settings) (decode (words bs)) (a .result .primary) (place .given .0 .0) = rw (place .given .1) at (place-of .ensures) in
-    wait .ensures ∙ ap (λ (t : State). render t (words bs)) (mapped-waiting (decode (words bs)) (b .args .block .0) (b .pre .2) (agreed-of (a .result))
-    (record-is (b .args .settings) bs (b .pre .0) (b .args .block .0) (g .result) (g .ensures .0) (agreed-of (a .result)) (a .ensures))
-    (b .args .settings .entries) (g .result) (entries-are (b .args .settings) bs (b .pre .0))
-    (bucket-is (b .args .settings) bs (b .pre .0) (b .args .block .0) (g .result) (g .ensures .0)) _ (h .here)
-    (b .args .proxy) (item .result .0) (item .ensures) (if1 .left))
+    let item = c .before .before .before .before .before .before .before .before .before .before .before .before .before .item in
+    c .before .before .append .ensures
+    ∙ ap (λ (t : State). render t (words (b .args .store .now)))
+    (mapped-waiting _ _ (b .pre .2) _ _ _ (read (c .before .before .before .before .before .before .before .before .before .before)) _ (stands (c .before .before .before .before .before .before) .here) (b .args .proxy) (item .result .0) (item .ensures) (c .before .before .before .before .if1 .left))
 
 pub enter-spec : {M : Type 1} → statement M
 enter-spec =
     tie.close
     (tie.spec
+    item-requires
     number-requires
     agreed-requires
-    item-requires
     place-of-requires
     enum-known-place
     enum-told
@@ -139,6 +106,6 @@ enter-spec =
     insert-requires
     same-length-2
     returns-2
-    wait-requires
+    append-requires
     same-length-3
     returns-3)

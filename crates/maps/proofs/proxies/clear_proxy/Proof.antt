@@ -1,18 +1,15 @@
-use mathlib.Core.Path.{refl}
+use Prim.Native.Nat.{_+_, _*_}
 use native.Mathlib.Omega.{arith}
 use Rattle.maps.proofs.ProxySteps.{cleared}
 use borrow.Author.Needs.{needs}
 use Rattle.maps.proofs.proxies.clear_proxy.Statement.{statement}
 use Rattle.maps.proofs.proxies.clear_proxy.Tie as tie
 
+proxy-at-requires : tie.Need-proxy-at-requires
+proxy-at-requires c κs = search needs
+
 mul-at : tie.Need-mul-at
 mul-at c = search needs
-
-add-at : tie.Need-add-at
-add-at c = search needs
-
-mul-at-2 : tie.Need-mul-at-2
-mul-at-2 c = search needs
 
 mul-clear : tie.Need-mul-clear
 mul-clear c = search needs
@@ -37,17 +34,17 @@ same-length c = search needs
 
 returns : tie.Need-returns
 returns c =
-    let b = c .before .before .before .before .before in
-    let clear = c .before .before .clear in
-    cleared (b .args .store .now) (b .pre .0) (b .args .proxy) (b .pre .1) (clear .last .0) _ _ refl refl (omega arith) (clear .ensures)
+    let b = c .before .before .before .before .before .before in
+    let at = 8 * c .before .before .before .before .proxy-at .result in
+    cleared (b .args .settings) (b .args .store .now) (b .pre .0) (b .args .proxy) (b .pre .1) (c .before .before .clear .last .0) at (at + 528)
+    (omega arith) (omega arith) (omega arith) (c .before .before .clear .ensures)
 
 pub clear-proxy-spec : {M : Type 1} → statement M
 clear-proxy-spec =
     tie.close
     (tie.spec
+    proxy-at-requires
     mul-at
-    add-at
-    mul-at-2
     mul-clear
     add-clear
     sub-clear

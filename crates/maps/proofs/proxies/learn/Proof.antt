@@ -1,24 +1,34 @@
+use mathlib.Core.Path.{_∙_}
+use native.Mathlib.Omega.{arith}
+use borrow.Author.Tests.{lt-ltb, le-ltb}
 use Rattle.words.specs.Words.{words}
-use Rattle.maps.proofs.ProxySteps.{learn-yes, learn-no}
+use Rattle.rules.specs.Event.{Event}
+use Rattle.rules.specs.Limits.{proxies}
+use Rattle.rules.specs.Step.{rule}
+use Rattle.rules.proofs.Questions.{first-yes, first-stop, none-asked}
+use Rattle.lent.proofs.Performs.{refuses, accepted}
 use borrow.Author.Needs.{needs}
 use Rattle.maps.proofs.proxies.learn.Statement.{statement}
 use Rattle.maps.proofs.proxies.learn.Tie as tie
 
+returns : tie.Need-returns
+unfolding rule
+returns c =
+    let b = c .before .before in refuses (Event.learn (b .args .proxy)) (words (b .args .store .now)) (b .pre .sound) 2 (first-stop 3 _ (le-ltb (b .args .proxy) proxies (c .if1 .taken)))
+
 take-view-requires : tie.Need-take-view-requires
-take-view-requires c κs = search needs
+take-view-requires c κs = (c .before .before .before .pre, omega arith)
 
 same-length : tie.Need-same-length
 same-length c = search needs
 
-returns : tie.Need-returns
-returns c =
-    let b = c .before .before .before .before .before .before in
-    let if1 = c .before .before .before .before .if1 in
-    let take-view = c .before .before .take-view in
-    learn-yes (words (b .args .store .now)) (words (take-view .last .0)) (b .args .proxy) (if1 .taken) (take-view .ensures)
-
 returns-2 : tie.Need-returns-2
-returns-2 c = let b = c .before .before in learn-no (b .args .store .now) (b .pre) (b .args .proxy) (c .if1 .left)
+unfolding rule
+returns-2 c =
+    let b = c .before .before .before .before .before .before in
+    let done = c .before .before .take-view in
+    accepted (Event.learn (b .args .proxy)) (words (b .args .store .now)) (words (done .last .0))
+    (first-yes 3 _ (lt-ltb (b .args .proxy) proxies (omega arith)) ∙ none-asked) (done .ensures)
 
 pub learn-spec : {M : Type 1} → statement M
-learn-spec = tie.close (tie.spec take-view-requires same-length returns returns-2)
+learn-spec = tie.close (tie.spec returns take-view-requires same-length returns-2)

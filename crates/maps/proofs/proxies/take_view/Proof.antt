@@ -1,21 +1,18 @@
-use mathlib.Core.Path.{refl}
+use Prim.Native.Nat.{_+_, _*_}
 use native.Mathlib.Omega.{arith}
 use Rattle.maps.proofs.ProxySteps.{learned}
 use borrow.Author.Needs.{needs}
 use Rattle.maps.proofs.proxies.take_view.Statement.{statement}
 use Rattle.maps.proofs.proxies.take_view.Tie as tie
 
-read-requires : tie.Need-read-requires
-read-requires c κs = search needs
+view-requires : tie.Need-view-requires
+view-requires c κs = search needs
+
+proxy-at-requires : tie.Need-proxy-at-requires
+proxy-at-requires c κs = search needs
 
 mul-at : tie.Need-mul-at
 mul-at c = search needs
-
-add-at : tie.Need-add-at
-add-at c = search needs
-
-mul-at-2 : tie.Need-mul-at-2
-mul-at-2 c = search needs
 
 mul-set-known : tie.Need-mul-set-known
 mul-set-known c = search needs
@@ -40,20 +37,18 @@ same-length c = search needs
 
 returns : tie.Need-returns
 returns c =
-    let b = c .before .before .before .before .before .before .before in
-    let set-known = c .before .before .set-known in
-    let r = c .before .before .before .before .read in
-    learned (b .args .store .now) (b .pre .0) (b .args .proxy) (b .pre .1) (set-known .last .0) _ _ refl refl (omega arith)
-    (r .result) (r .ensures) (set-known .ensures)
+    let b = c .before .before .before .before .before .before .before .before in
+    let at = 8 * c .before .before .before .before .proxy-at .result in
+    learned (b .args .settings) (b .args .store .now) (b .pre .0) (b .args .proxy) (b .pre .1) (c .before .before .set-known .last .0) at (at + 528)
+    (omega arith) (omega arith) (omega arith) (c .before .before .before .before .before .view .result) (c .before .before .before .before .before .view .ensures) (c .before .before .set-known .ensures)
 
 pub take-view-spec : {M : Type 1} → statement M
 take-view-spec =
     tie.close
     (tie.spec
-    read-requires
+    view-requires
+    proxy-at-requires
     mul-at
-    add-at
-    mul-at-2
     mul-set-known
     add-set-known
     sub-set-known

@@ -1,22 +1,35 @@
-use mathlib.Core.Path.{_≡_, sym, ap, _∙_}
-use mathlib.Core.Bool.{not}
-use Prim.Native.Nat.{_<_}
-use native.Mathlib.Omega.{arith}
-use borrow.Author.Tests.{eq-eqb, ne-eqb}
+use mathlib.Core.Path.{_≡_, sym, _∙_}
 use Rattle.words.specs.Words.{words}
 use Rattle.rules.specs.Event.{Event}
+use Rattle.rules.specs.Question.{first-no}
+use Rattle.rules.specs.Membership.{lose-asks}
 use Rattle.rules.specs.Step.{rule}
 use Rattle.layout.specs.Store.{decode}
-use Rattle.lent.proofs.Performs.{refuses, accepts}
-use Rattle.lent.proofs.Questions.{first-yes, first-stop}
-use Rattle.lent.proofs.LentPlace.{no-place, is-place-yes, lent-place, part-inside, part-stands, part-brick, part-changed}
+use Rattle.lent.specs.Places.{Stands}
+use Rattle.lent.proofs.Performs.{refused, accepted}
+use Rattle.lent.proofs.LentPlace.{LentPlace, lent-place, part-inside, part-filled, part-brick, part-changed}
+use Rattle.membership.proofs.Asked.{lose-yes}
 use Rattle.membership.proofs.Places.{lose-changes}
 use borrow.Author.Needs.{needs}
 use Rattle.membership.proofs.lose.lose.Statement.{statement}
 use Rattle.membership.proofs.lose.lose.Tie as tie
 
-settings-requires : tie.Need-settings-requires
-settings-requires c κs = search needs
+asked : (c : tie.Else1) → let b = c .before .before .before .before in first-no (lose-asks (decode (words (b .args .store .now))) (b .args .place)) ≡ 0
+asked c = sym (c .before .asks .ensures) ∙ c .if1 .left
+
+stands : (c : tie.Else1)
+    → let b = c .before .before .before .before in
+    let s = decode (words (b .args .store .now)) in
+    Stands (b .args .settings) s (s .ids (b .args .place)) (b .args .place)
+stands c = let b = c .before .before .before .before in lose-yes (b .args .settings) (b .args .store .now) (b .pre) (b .args .place) (asked c)
+
+place : (c : tie.After-span-of)
+    → let b = c .before .before .before .before .before in
+    LentPlace (b .args .store .now) (b .args .settings) (b .args .place) (c .span-of .result .from) (c .span-of .result .to)
+place c = lent-place (c .before .before .before .before .before .pre) (c .span-of .ensures) (stands (c .before) .inside)
+
+asks-requires : tie.Need-asks-requires
+asks-requires c κs = search needs
 
 same-length : tie.Need-same-length
 same-length c = search needs
@@ -25,28 +38,10 @@ returns : tie.Need-returns
 unfolding rule
 returns c =
     let b = c .before .before .before .before in
-    refuses (Event.lose (b .args .place)) (words (b .args .store .now)) (b .pre .sound) 2
-    (first-stop 3 _ (no-place (c .before .settings .ensures) (b .args .place) (c .if1 .taken)))
-
-id-requires : tie.Need-id-requires
-id-requires c κs = (c .before .before .settings .ensures, omega arith)
-
-same-length-2 : tie.Need-same-length-2
-same-length-2 c = search needs
-
-returns-2 : tie.Need-returns-2
-unfolding rule
-returns-2 c =
-    let c4 = c .before .before .before .before in
-    let b = c4 .before .before .before in
-    let ws = words (b .args .store .now) in
-    let id : decode ws .ids (b .args .place) ≡ 0 = sym (c .before .id .ensures) ∙ c .if2 .taken in
-    refuses (Event.lose (b .args .place)) ws (b .pre .sound) 12
-    (first-yes 3 _ (is-place-yes (c4 .settings .ensures) (b .args .place) (omega arith))
-    ∙ first-stop 13 _ (ap not (eq-eqb (decode ws .ids (b .args .place)) 0 id)))
+    refused (Event.lose (b .args .place)) (words (b .args .store .now)) (b .pre .sound) _ (c .before .asks .ensures) (c .if1 .taken)
 
 span-of-requires : tie.Need-span-of-requires
-span-of-requires c κs = (c .before .before .before .before .settings .ensures .limits, omega arith)
+span-of-requires c κs = (c .before .before .before .before .pre .limits, stands c .inside)
 
 sub-set-id : tie.Need-sub-set-id
 sub-set-id c = search needs
@@ -55,54 +50,35 @@ part-set-id-start : tie.Need-part-set-id-start
 part-set-id-start c = search needs
 
 part-set-id-end : tie.Need-part-set-id-end
-part-set-id-end c = part-inside (lent-place (c .before .before .before .before .before .settings .ensures) (c .span-of .ensures) (omega arith))
+part-set-id-end c = part-inside (place c)
 
 set-id-requires : tie.Need-set-id-requires
-set-id-requires c κs =
-    let c2 = c .before .before in
-    let c3 = c2 .before in
-    let c6 = c3 .before .before .before in
-    let place = lent-place (c6 .settings .ensures) (c .before .span-of .ensures) (omega arith) in
-    let id = c3 .id .ensures in
-    let other = c2 .if2 .left in
-    let brick = part-brick place (omega arith) in
-    (brick .size, brick .filled, brick .clean)
+set-id-requires c κs = let brick = part-brick (place (c .before)) (stands (c .before .before) .some) in (brick .size, brick .filled, brick .clean)
 
-same-length-3 : tie.Need-same-length-3
-same-length-3 c = search needs
+same-length-2 : tie.Need-same-length-2
+same-length-2 c = search needs
 
-returns-3 : tie.Need-returns-3
+returns-2 : tie.Need-returns-2
 unfolding rule
-returns-3 c =
-    let c2 = c .before .before in
-    let c4 = c2 .before .before in
-    let c5 = c4 .before in
-    let c6 = c5 .before in
-    let c9 = c6 .before .before .before in
-    let b = c9 .before .before .before in
-    let ws = words (b .args .store .now) in
-    let place = lent-place (c9 .settings .ensures) (c4 .span-of .ensures) (omega arith) in
-    let id = c6 .id .ensures in
-    let other = c5 .if2 .left in
-    let filled : 0 < decode ws .ids (b .args .place) = omega arith in
-    accepts (Event.lose (b .args .place)) ws _
-    (is-place-yes (c9 .settings .ensures) (b .args .place) (omega arith), (ap not (ne-eqb (decode ws .ids (b .args .place)) 0 (λ z. omega arith)), tt))
-    (part-changed place (c2 .set-id .last .0) (lose-changes (decode ws) (b .args .place) (part-stands place filled)) (c2 .set-id .kept .0) (c2 .set-id .ensures))
+returns-2 c =
+    let k = c .before .before .before .before in
+    let b = k .before .before .before .before .before in
+    let changed = lose-changes (decode (words (b .args .store .now))) (b .args .place) (part-filled (place k) (stands (k .before) .some)) in
+    let done = c .before .before .set-id in
+    accepted (Event.lose (b .args .place)) (words (b .args .store .now)) _ (asked (k .before))
+    (part-changed (place k) (done .last .0) changed (done .kept .0) (done .ensures))
 
 pub lose-spec : {M : Type 1} → statement M
 lose-spec =
     tie.close
     (tie.spec
-    settings-requires
+    asks-requires
     same-length
     returns
-    id-requires
-    same-length-2
-    returns-2
     span-of-requires
     sub-set-id
     part-set-id-start
     part-set-id-end
     set-id-requires
-    same-length-3
-    returns-3)
+    same-length-2
+    returns-2)

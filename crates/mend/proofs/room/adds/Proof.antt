@@ -1,121 +1,82 @@
-use mathlib.Core.Path.{sym, ap, _∙_}
-use mathlib.Core.Bool.{not}
-use native.Mathlib.Omega.{arith}
-use borrow.Author.Tests.{not-true, not-false}
+use mathlib.Core.Path.{_≡_}
+use mathlib.Core.Bool.{true, false}
+use Rattle.lists.proofs.Runs.{below-of}
 use Rattle.words.specs.Words.{words}
+use Rattle.rules.specs.Chunks.{held}
 use Rattle.layout.specs.Store.{decode}
-use Rattle.mend.proofs.Counting.{key-is, row-fits, in-use-at, first-is, not-lacking, earlier-bucket, last-test}
+use Rattle.mend.specs.Fit.{log-of}
+use Rattle.mend.specs.Keys.{wants}
+use Rattle.mend.specs.Acts.{Lacking}
+use Rattle.mend.proofs.Flagged.{meets-none, meets-held, holds-it, meets-it}
+use borrow.Author.Needs.{needs}
 use Rattle.mend.proofs.room.adds.Statement.{statement}
 use Rattle.mend.proofs.room.adds.Tie as tie
 
-mul-from : tie.Need-mul-from
-mul-from c =
-    let s = c .before .before in omega (arith, s .pre .known .many, s .pre .in-bucket)
+for-key-requires : tie.Need-for-key-requires
+for-key-requires c κs = search needs
 
-shared-slice-read-from : tie.Need-shared-slice-read-from
-shared-slice-read-from c =
-    let s = c .before .before .before in omega (arith, s .pre .known .many, s .pre .in-bucket)
+enum-told : tie.Need-enum-told
+enum-told c = search needs
 
-mul-read : tie.Need-mul-read
-mul-read c =
-    let s = c .before .before .before in
-    let a = s .args in
-    let k = s .pre .known in
-    let q = s .pre .in-bucket in
-    let f = row-fits (a .settings) (a .store .now) (k .there .store) (a .bucket) _ q (k .lie (a .bucket) q) (a .i) (s .pre .in-use) in
-    omega arith
+enum-told-2 : tie.Need-enum-told-2
+enum-told-2 c = search needs
 
-add-read : tie.Need-add-read
-add-read c =
-    let s = c .before .before .before in
-    let a = s .args in
-    let k = s .pre .known in
-    let q = s .pre .in-bucket in
-    let f = row-fits (a .settings) (a .store .now) (k .there .store) (a .bucket) _ q (k .lie (a .bucket) q) (a .i) (s .pre .in-use) in
-    omega arith
+enum-known-from : tie.Need-enum-known-from
+enum-known-from c = search needs
 
-add-read-2 : tie.Need-add-read-2
-add-read-2 c =
-    let s = c .before .before .before in
-    let a = s .args in
-    let k = s .pre .known in
-    let q = s .pre .in-bucket in
-    let f = row-fits (a .settings) (a .store .now) (k .there .store) (a .bucket) _ q (k .lie (a .bucket) q) (a .i) (s .pre .in-use) in
-    omega arith
+-- the chunk would come from a place
+lacking : (c : tie.After-from)
+    → let a = c .before .before .before .before .before .args in
+    let t = decode (words (a .store .now)) in
+    Lacking (a .settings) t (t .ids (a .place)) (a .key .0) (c .from .given .0 .0)
+lacking c =
+    rw (c .from .given .1) at (c .before .before .for-key .ensures)
 
-read-requires : tie.Need-read-requires
-read-requires c κs =
-    let s = c .before .before .before in
-    let a = s .args in
-    let k = s .pre .known in
-    let q = s .pre .in-bucket in
-    let f = row-fits (a .settings) (a .store .now) (k .there .store) (a .bucket) _ q (k .lie (a .bucket) q) (a .i) (s .pre .in-use) in
-    omega arith
-
-lacks-requires : tie.Need-lacks-requires
-lacks-requires c κs = c .before .before .before .before .pre .known .there
+raise-at-requires : tie.Need-raise-at-requires
+raise-at-requires c κs =
+    let f = c .before .before in
+    let s = f .before .before .before .before .before in
+    (holds-it (s .args .settings) (s .args .store .now) (s .pre .0 .store) _ _ (lacking f .from), s .pre .1)
 
 returns : tie.Need-returns
 returns c =
-    let s = c .before .before .before .before .before .before in
+    let s = c .before .before .before .before .before in
     let a = s .args in
-    let k = s .pre .known in
-    let q = s .pre .in-bucket in
     let t = decode (words (a .store .now)) in
-    let e = c .before .before .read .ensures ∙ key-is (a .settings) (a .store .now) (k .there .store) (a .bucket) _ q (k .lie (a .bucket) q) (a .i) (s .pre .in-use) in
-    sym (not-lacking t (t .ids (a .place)) (a .bucket) (a .i) _ e (sym (c .before .lacks .ensures) ∙ not-true _ (c .if1 .taken)))
-
-named-before-requires : tie.Need-named-before-requires
-named-before-requires c κs =
-    let s = c .before .before .before .before .before .before in
-    let k = s .pre .known in
-    (record { store = k .there .store; many = k .many; lie = k .lie }, s .pre .in-bucket)
+    let n : wants t (t .ids (a .place)) (a .key .0) ≡ false = rw (c .enum-told .given .1) at (c .before .before .for-key .ensures) in
+    meets-none (a .settings) (a .store .now) (s .pre .0 .store) _ (a .key .0) (a .flags .now) n
 
 returns-2 : tie.Need-returns-2
 returns-2 c =
-    let s = c .before .before .before .before .before .before .before .before in
+    let s = c .before .before .before .before .before in
     let a = s .args in
-    let k = s .pre .known in
-    let q = s .pre .in-bucket in
     let t = decode (words (a .store .now)) in
-    let e = c .before .before .before .before .read .ensures ∙ key-is (a .settings) (a .store .now) (k .there .store) (a .bucket) _ q (k .lie (a .bucket) q) (a .i) (s .pre .in-use) in
-    sym (earlier-bucket t (t .ids (a .place)) (a .bucket) (a .i) _ e (sym (c .before .named-before .ensures) ∙ c .if2 .taken))
+    let y : (wants t (t .ids (a .place)) (a .key .0) ≡ true) × (held (log-of (a .place) (words (a .store .now))) (a .key .0) ≡ true) =
+    rw (c .enum-told2 .given .1) at (c .before .before .for-key .ensures) in
+    meets-held (a .settings) (a .store .now) (s .pre .0 .store) _ (a .key .0) (a .flags .now) (y .1)
 
-names-first-requires : tie.Need-names-first-requires
-names-first-requires c κs =
-    let s = c .before .before .before .before .before .before .before .before in
-    let a = s .args in
-    let k = s .pre .known in
-    let q = s .pre .in-bucket in
-    let f = row-fits (a .settings) (a .store .now) (k .there .store) (a .bucket) _ q (k .lie (a .bucket) q) (a .i) (s .pre .in-use) in
-    omega arith
+same-length : tie.Need-same-length
+same-length c = search needs
 
 returns-3 : tie.Need-returns-3
 returns-3 c =
-    let s = c .before .before .before .before .before .before .before .before .before in
+    let f = c .before .before .before .before .before in
+    let k = f .before .before .before in
+    let s = f .before .before .before .before .before in
     let a = s .args in
-    let k = s .pre .known in
-    let q = s .pre .in-bucket in
-    let t = decode (words (a .store .now)) in
-    let e = c .before .before .before .before .before .read .ensures ∙ key-is (a .settings) (a .store .now) (k .there .store) (a .bucket) _ q (k .lie (a .bucket) q) (a .i) (s .pre .in-use) in
-    let z = in-use-at (a .settings) (a .store .now) (k .there .store) (a .bucket) _ q (k .lie (a .bucket) q) (a .i) (s .pre .in-use) in
-    ap not (c .names-first .ensures ∙ first-is (a .settings) (a .store .now) (k .there .store) (a .bucket) _ q (k .lie (a .bucket) q) (a .i) _ (omega (arith, s .pre .in-use)) z)
-    ∙ sym (last-test t (t .ids (a .place)) (a .bucket) (a .i) _ e (sym (c .before .before .before .before .lacks .ensures) ∙ not-false _ (c .before .before .before .if1 .left))
-    (sym (c .before .before .named-before .ensures) ∙ c .before .if2 .left))
+    meets-it (a .settings) (a .store .now) (s .pre .0 .store) _ (a .key .0) _ (lacking f) (a .flags .now) _ _
+    (below-of 256 (a .flags .now) (λ i. k .slice-known .given i .fits)) (c .before .before .raise-at .ensures)
 
 pub adds-spec : {M : Type 1} → statement M
 adds-spec =
     tie.close
     (tie.spec
-    mul-from
-    shared-slice-read-from
-    mul-read
-    add-read
-    add-read-2
-    read-requires
-    lacks-requires
+    for-key-requires
+    enum-told
+    enum-told-2
+    enum-known-from
+    raise-at-requires
     returns
-    named-before-requires
     returns-2
-    names-first-requires
+    same-length
     returns-3)

@@ -1,85 +1,84 @@
 use mathlib.Core.Path.{_≡_, sym, ap, _∙_}
-use Prim.Native.Nat.{_*_, _-_, _≤_}
+use Prim.Native.Nat.{_+_, _-_, _≤_}
 use native.Mathlib.Omega.{arith}
 use Rattle.words.specs.Words.{words}
 use Rattle.rules.specs.Limits.{buckets}
 use Rattle.layout.specs.Store.{decode}
+use Rattle.layout.proofs.Bounds.{few-buckets}
 use Rattle.mend.specs.Counts.{named-below}
-use Rattle.mend.proofs.Counting.{table-fit, named-few, names-start, names-more, bucket-count}
+use Rattle.mend.proofs.Counting.{table-fit, names-start, names-more, bucket-count, named-at-most}
 use borrow.Author.Needs.{needs}
 use Rattle.mend.proofs.room.named_count.Statement.{statement}
 use Rattle.mend.proofs.room.named_count.Tie as tie
 
 abbrev Inv-loop : tie.InvT-loop
-Inv-loop store settings tables count₀ bucket₀ count bucket =
-    (bucket ≤ 16) × (count ≡ named-below (decode (words store)) bucket) × (count ≤ bucket * 1024)
+Inv-loop store settings tables n count₀ bucket₀ count bucket =
+    (bucket ≤ n) × (n ≡ buckets settings) × (count ≡ named-below (decode (words store)) bucket)
 
 abbrev μ-loop : tie.MeasureT-loop
-μ-loop store settings tables count₀ bucket₀ count bucket = 16 - bucket
+μ-loop store settings tables n count₀ bucket₀ count bucket = n - bucket
+
+buckets-requires : tie.Need-buckets-requires Inv-loop μ-loop
+buckets-requires c κs = search needs
 
 loop-holds : tie.Need-loop-holds Inv-loop μ-loop
-unfolding buckets
-loop-holds c =
-    (search needs, sym (names-start (decode (words (c .before .before .args .store .now)))), search needs)
+loop-holds c = (search needs, search needs, sym (names-start (decode (words (c .before .before .before .args .store .now)))))
 
 mul-count-at : tie.Need-mul-count-at Inv-loop μ-loop
-unfolding buckets
 mul-count-at c = search needs
 
 shared-slice-read-count-at : tie.Need-shared-slice-read-count-at Inv-loop μ-loop
-unfolding buckets
-shared-slice-read-count-at c = omega (arith, c .before .before .before .before .before .pre .many)
+shared-slice-read-count-at c = omega (arith, c .before .before .before .before .before .before .pre .many)
 
 count-at-requires : tie.Need-count-at-requires Inv-loop μ-loop
-unfolding buckets
 count-at-requires c κs =
     let l = c .before .before in
-    let s = l .before .before .before in
+    let s = l .before .before .before .before in
     let a = s .args in
-    table-fit (a .settings) (a .store .now) (s .pre .store) (l .loop .bucket) _ (omega arith) (s .pre .lie (l .loop .bucket) (omega arith))
+    let g = l .loop .bucket in
+    table-fit _ _ _ (s .pre) g (omega arith)
+
+-- one bucket more
+sum : (c : tie.After-count-at Inv-loop μ-loop)
+    → let l = c .before .before .before in
+    l .loop .count + c .count-at .result ≡ named-below (decode (words (l .before .before .before .before .args .store .now))) (l .loop .bucket + 1)
+sum c =
+    let l = c .before .before .before in
+    let s = c .before .before .before .before .before .before .before in
+    let a = s .args in
+    let g = l .loop .bucket in
+    let n = bucket-count _ _ _ (s .pre) g (omega arith) _ (c .count-at .ensures) in
+    omega (arith, l .loop .inv .2, names-more (decode (words (a .store .now))) g)
 
 add-count : tie.Need-add-count Inv-loop μ-loop
-unfolding buckets
 add-count c =
     let l = c .before .before .before in
-    let s = l .before .before .before in
+    let s = c .before .before .before .before .before .before .before in
     let a = s .args in
-    let t = decode (words (a .store .now)) in
-    let g = l .loop .bucket in
-    let f = named-few (a .settings) (a .store .now) (s .pre .store) g _ (omega arith) (s .pre .lie g (omega arith)) in
-    let n = bucket-count (a .settings) (a .store .now) (s .pre .store) g _ (omega arith) (s .pre .lie g (omega arith)) _ (c .count-at .ensures) in
-    omega (arith, s .pre .store .limits .entries-to, l .loop .inv .2)
+    omega (
+      arith,
+      sum c,
+      named-at-most (a .settings) (a .store .now) (a .tables .now) (s .pre) (l .loop .bucket + 1) (omega arith),
+      few-buckets
+          (a .settings),
+      l .loop .inv .1,
+    )
 
 add-bucket : tie.Need-add-bucket Inv-loop μ-loop
-unfolding buckets
 add-bucket c = search needs
 
 loop-less : tie.Need-loop-less Inv-loop μ-loop
-unfolding buckets
 loop-less c = search needs
 
 loop-again : tie.Need-loop-again Inv-loop μ-loop
-unfolding buckets
-loop-again c =
-    let l = c .before .before .before in
-    let s = l .before .before .before in
-    let a = s .args in
-    let t = decode (words (a .store .now)) in
-    let g = l .loop .bucket in
-    let f = named-few (a .settings) (a .store .now) (s .pre .store) g _ (omega arith) (s .pre .lie g (omega arith)) in
-    let n = bucket-count (a .settings) (a .store .now) (s .pre .store) g _ (omega arith) (s .pre .lie g (omega arith)) _ (c .count-at .ensures) in (
-      search needs,
-      omega (arith, l .loop .inv .1, names-more t g),
-      omega (arith, s .pre .store .limits .entries-to, l .loop .inv .2),
-    )
+loop-again c = (search needs, search needs, sum c)
 
 returns : tie.Need-returns Inv-loop μ-loop
-unfolding buckets
 returns c =
     let l = c .before in
-    let t = decode (words (l .before .before .before .args .store .now)) in
-    let e : l .loop .bucket ≡ 16 = omega arith in
-    record { same = l .loop .inv .1 ∙ ap (named-below t) e; small = omega (arith, l .loop .inv .2) }
+    let s = l .before .before .before .before in
+    let e : l .loop .bucket ≡ buckets (s .args .settings) = omega arith in
+    l .loop .inv .2 ∙ ap (named-below (decode (words (s .args .store .now)))) e
 
 pub named-count-spec : {M : Type 1} → statement M
 named-count-spec =
@@ -87,6 +86,7 @@ named-count-spec =
     (tie.spec
     Inv-loop
     μ-loop
+    buckets-requires
     loop-holds
     mul-count-at
     shared-slice-read-count-at

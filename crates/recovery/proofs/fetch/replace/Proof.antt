@@ -1,54 +1,66 @@
-use mathlib.Core.Path.{ap, _∙_}
-use Prim.Native.Nat.{_-_}
-use native.Mathlib.Omega.{arith}
-use borrow.Author.Needs.{needs}
-use Rattle.lists.specs.Runs.{on-run}
+use mathlib.Core.Path.{ap, subst, _∙_}
+use Prim.Native.Nat.{ℕ}
 use Rattle.words.specs.Words.{words}
+use Rattle.rules.specs.Views.{source}
+use Rattle.rules.specs.Parts.{up-member}
 use Rattle.layout.specs.Disk.{Agreed}
-use Rattle.layout.specs.Layout.{agreed-codec, agreed-words, agreed-at}
-use Rattle.parts.specs.Parts.{agreed-of}
-use Rattle.recovery.proofs.FetchLaws.{one-few, two-few, fetch-steps}
+use Rattle.rules.specs.State.{State}
+use Rattle.layout.specs.Store.{decode}
+use Rattle.lent.specs.Places.{Stands}
+use Rattle.recovery.specs.Fetch.{fetched-record}
+use Rattle.recovery.proofs.Questions.{source-up}
+use Rattle.recovery.proofs.FetchLaws.{fetch-few, fetch-steps}
+use borrow.Author.Needs.{needs}
 use Rattle.recovery.proofs.fetch.replace.Statement.{statement}
 use Rattle.recovery.proofs.fetch.replace.Tie as tie
 
-memory-at-requires : tie.Need-memory-at-requires
-memory-at-requires c κs = search needs
+abbrev start : tie.After-place2 → tie.Start
+start c = c .before .before .before .before .before .before .before .before .before
 
-memory-at-requires-2 : tie.Need-memory-at-requires-2
-memory-at-requires-2 c κs = search needs
+abbrev state : tie.After-place2 → State
+state c = decode (words (start c .args .store .now))
 
-disk-at-requires : tie.Need-disk-at-requires
-disk-at-requires c κs = search needs
+from : (c : tie.After-place2) → Stands (start c .args .settings) (state c) (source (state c) (start c .args .bucket)) (c .before .before .place .result)
+from c =
+    subst (λ (i : ℕ). Stands (start c .args .settings) (state c) i (c .before .before .place .result)) (c .before .before .before .before .find-source .ensures)
+    (c .before .before .place .ensures)
 
-copy-requires : tie.Need-copy-requires
-copy-requires c κs =
-    let b = c .before .before .before .before .before in
-    let bs = b .args .store .now in
-    let t = b .args .settings in
+to : (c : tie.After-place2) → Stands (start c .args .settings) (state c) (state c .bucket (start c .args .bucket) .primary) (c .place2 .result)
+to c =
+    let at-agreed = c .before .before .before .before .before .before in
+    subst (λ (i : ℕ). Stands (start c .args .settings) (state c) i (c .place2 .result)) (ap (λ (k : Agreed). k .primary) (at-agreed .agreed .ensures))
+    (c .place2 .ensures)
+
+agreed-requires : tie.Need-agreed-requires
+agreed-requires c κs = let b = c .before .before in (b .pre .0, b .pre .1 .inside)
+
+find-source-requires : tie.Need-find-source-requires
+find-source-requires c κs = let b = c .before .before .before .before in (b .pre .0, b .pre .1 .inside)
+
+place-requires : tie.Need-place-requires
+place-requires c κs =
+    let b = c .before .before .before .before .before .before in
+    let s = decode (words (b .args .store .now)) in
+    (b .pre .0, ap (up-member s) (c .before .find-source .ensures) ∙ source-up s (b .args .bucket) (b .pre .2))
+
+place-requires-2 : tie.Need-place-requires-2
+place-requires-2 c κs =
+    let b = c .before .before .before .before .before .before .before .before in
+    let s = decode (words (b .args .store .now)) in
+    (b .pre .0, ap (λ (k : Agreed). up-member s (k .primary)) (c .before .before .before .before .before .agreed .ensures) ∙ b .pre .1 .primary)
+
+replace-requires : tie.Need-replace-requires
+replace-requires c κs =
+    let b = c .before .before .before .before .before .before .before .before .before .before in
     let v = b .pre .0 in
+    let at = c .before in
     record {
-      first-in = omega (arith, v .size, c .before .before .before .memory-at .ensures .1);
-      second-in = omega (arith, v .size, c .before .before .memory-at2 .ensures .1);
-      few = rw (c .before .before .before .memory-at .ensures .0) (one-few t (words bs) (v .sound) (v .same) (b .args .bucket) (agreed-of (b .args .agreed))
-          (b .args .from) (b .args .to) (b .pre .1));
-    }
-
-copy-requires-2 : tie.Need-copy-requires-2
-copy-requires-2 c κs =
-    let at-disk-at = c .before .before .before .before .before in
-    let at-memory-at2 = at-disk-at .before in
-    let at-memory-at = at-memory-at2 .before in
-    let b = at-memory-at .before .before in
-    let bs = b .args .store .now in
-    let t = b .args .settings in
-    let v = b .pre .0 in
-    let e1 = rw (at-memory-at .memory-at .ensures .0, at-memory-at2 .memory-at2 .ensures .0) at (c .before .before .before .copy .ensures) in
-    record {
-      first-in = omega (arith, v .size, at-memory-at .memory-at .ensures .1);
-      second-in = omega (arith, v .size, at-disk-at .disk-at .ensures .1);
-      few = rw (at-memory-at .memory-at .ensures .0)
-          (two-few t (words bs) (v .sound) (v .same) (b .args .bucket) (agreed-of (b .args .agreed)) (b .args .from) (b .args .to) (b .pre .1)
-          (words (c .before .before .before .copy .last .0)) e1);
+      limits = v .limits;
+      size = v .size;
+      bucket = b .pre .1 .inside;
+      from-in = from at .inside;
+      to-in = to at .inside;
+      few = fetch-few (b .args .settings) (b .args .store .now) v (b .args .bucket) (b .pre .1 .inside) _ _ (from at) (to at);
     }
 
 fetched-requires : tie.Need-fetched-requires
@@ -56,41 +68,29 @@ fetched-requires c κs = search needs
 
 write-requires : tie.Need-write-requires
 write-requires c κs =
-    let b = c .before .before .before .before .before .before .before .before .before .before .before .before .before .before in
-    (omega (arith, b .pre .0 .size), b .pre .1 .bucket)
+    let b = c .before .before .before .before .before .before .before .before .before .before .before .before .before .before .before in
+    (c .before .before .before .before .replace .kept .0 ∙ b .pre .0 .size, b .pre .1 .inside)
 
 same-length : tie.Need-same-length
-same-length c = search needs
+same-length c = c .before .before .write .kept .0 ∙ c .before .before .before .before .before .before .before .replace .kept .0
 
 returns : tie.Need-returns
 returns c =
-    let at-copy2 = c .before .before .before .before .before .before .before in
-    let at-copy = at-copy2 .before .before .before .before in
-    let at-disk-at = at-copy .before .before in
-    let at-memory-at2 = at-disk-at .before in
-    let at-memory-at = at-memory-at2 .before in
-    let b = at-memory-at .before .before in
-    let bs = b .args .store .now in
-    let t = b .args .settings in
-    let v = b .pre .0 in
-    let g = b .args .bucket in
-    let e1 = rw (at-memory-at .memory-at .ensures .0, at-memory-at2 .memory-at2 .ensures .0) at (at-copy .copy .ensures) in
-    let e2 = rw (at-memory-at .memory-at .ensures .0, at-disk-at .disk-at .ensures .0) at (at-copy2 .copy2 .ensures) in
-    let e3 = c .before .before .write .ensures
-    ∙ ap (λ (a : Agreed). on-run (agreed-at g) agreed-words (agreed-codec .enc a) (words (at-copy2 .copy2 .last .0)))
-    (c .before .before .before .fetched .ensures) in
-    fetch-steps t (words bs) (v .sound) (v .same) g (agreed-of (b .args .agreed)) (b .args .from) (b .args .to) (b .pre .1)
-    (words (at-copy .copy .last .0)) e1 (words (at-copy2 .copy2 .last .0)) (words (c .before .before .write .last .0)) e2 e3
+    let at = c .before .before .before .before .before .before .before .before .before in
+    let b = at .before .before .before .before .before .before .before .before .before in
+    fetch-steps (b .args .settings) (b .args .store .now) (b .pre .0) (b .args .bucket) (b .pre .1 .inside) _ _ (from at) (to at) _ _ _
+    (c .before .before .before .fetched .ensures ∙ ap (λ (k : Agreed). fetched-record k) (at .before .before .before .before .before .before .agreed .ensures))
+    (c .before .before .before .before .before .before .before .replace .ensures) (c .before .before .write .ensures)
 
 pub replace-spec : {M : Type 1} → statement M
 replace-spec =
     tie.close
     (tie.spec
-    memory-at-requires
-    memory-at-requires-2
-    disk-at-requires
-    copy-requires
-    copy-requires-2
+    agreed-requires
+    find-source-requires
+    place-requires
+    place-requires-2
+    replace-requires
     fetched-requires
     write-requires
     same-length

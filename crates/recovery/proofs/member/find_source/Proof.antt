@@ -1,47 +1,55 @@
-use mathlib.Core.Bool.{false}
-use mathlib.Core.Path.{_≡_, ap}
-use Prim.Native.Nat.{_-_}
-use borrow.Author.Needs.{needs}
-use Rattle.rules.specs.Parts.{up-member}
+use mathlib.Core.Path.{_≡_, sym, ap, _∙_}
 use Rattle.words.specs.Words.{words}
 use Rattle.layout.specs.Disk.{Agreed}
+use Rattle.rules.specs.State.{State}
 use Rattle.layout.specs.Store.{decode}
-use Rattle.recovery.specs.Members.{MemberAt}
-use Rattle.recovery.proofs.MemberLaws.{source-first, source-second}
+use Rattle.rules.specs.Parts.{up-member}
+use Rattle.recovery.proofs.Questions.{source-first, source-second, source-none}
+use borrow.Author.Needs.{needs}
 use Rattle.recovery.proofs.member.find_source.Statement.{statement}
 use Rattle.recovery.proofs.member.find_source.Tie as tie
 
-find-requires : tie.Need-find-requires
-find-requires c κs = search needs
+abbrev start : tie.After-up-member → tie.Start
+start c = c .before .before .before
 
-enum-known-place : tie.Need-enum-known-place
-enum-known-place c = search needs
+abbrev state : tie.After-up-member → State
+state c = decode (words (start c .args .store .now))
 
-enum-told : tie.Need-enum-told
-enum-told c = search needs
+first : (c : tie.After-up-member) → c .up-member .result ≡ up-member (state c) (state c .bucket (start c .args .bucket) .last-primary)
+first c = c .up-member .ensures ∙ ap (λ (k : Agreed). up-member (state c) (k .last-primary)) (c .before .agreed .ensures)
 
-find-requires-2 : tie.Need-find-requires-2
-find-requires-2 c κs = search needs
+second : (c : tie.After-up-member2) → c .up-member2 .result
+    ≡ up-member (state (c .before .before)) (state (c .before .before) .bucket (start (c .before .before) .args .bucket) .last-backup)
+second c =
+    c .up-member2 .ensures ∙ ap (λ (k : Agreed). up-member (state (c .before .before)) (k .last-backup)) (c .before .before .before .agreed .ensures)
+
+agreed-requires : tie.Need-agreed-requires
+agreed-requires c κs = search needs
+
+up-member-requires : tie.Need-up-member-requires
+up-member-requires c κs = search needs
 
 returns : tie.Need-returns
 returns c =
-    let b = c .before .before .before .before .before in
-    let s = decode (words (b .args .store .now)) in
-    let a = b .args .agreed in
-    let h : MemberAt (b .args .settings) s (a .«last_primary») (c .before .place .given .0 .0) = rw (c .before .place .given .1) at
-    (c .before .before .before .find .ensures) in
-    source-first (b .args .settings) s (b .args .bucket) (a .«last_primary») (a .«last_backup») (ap (λ (k : Agreed). k .last-primary) (b .pre .1))
-    (ap (λ (k : Agreed). k .last-backup) (b .pre .1)) _ h
+    let at = c .before in
+    ap (λ (k : Agreed). k .last-primary) (at .before .agreed .ensures)
+    ∙ source-first (state at) (start at .args .bucket) (sym (first at) ∙ c .if1 .taken)
+
+up-member-requires-2 : tie.Need-up-member-requires-2
+up-member-requires-2 c κs = search needs
 
 returns-2 : tie.Need-returns-2
 returns-2 c =
-    let b = c .before .before .before .before .before in
-    let s = decode (words (b .args .store .now)) in
-    let a = b .args .agreed in
-    let n : up-member s (a .«last_primary») ≡ false = rw (c .before .enum-told .given .1) at (c .before .before .before .find .ensures) in
-    source-second (b .args .settings) s (b .args .bucket) (a .«last_primary») (a .«last_backup») (ap (λ (k : Agreed). k .last-primary) (b .pre .1))
-    (ap (λ (k : Agreed). k .last-backup) (b .pre .1)) n (c .find2 .result) (c .find2 .ensures)
+    let at = c .before .before .before in
+    ap (λ (k : Agreed). k .last-backup) (at .before .agreed .ensures)
+    ∙ source-second (state at) (start at .args .bucket) (sym (first at) ∙ c .before .before .if1 .left) (sym (second (c .before)) ∙ c .if2 .taken)
+
+returns-3 : tie.Need-returns-3
+returns-3 c =
+    let at = c .before .before .before in
+    source-none (state at) (start at .args .bucket) (sym (first at) ∙ c .before .before .if1 .left) (sym (second (c .before)) ∙ c .if2 .left)
 
 pub find-source-spec : {M : Type 1} → statement M
 find-source-spec =
-    tie.close (tie.spec find-requires enum-known-place enum-told find-requires-2 returns returns-2)
+    tie.close
+    (tie.spec agreed-requires up-member-requires returns up-member-requires-2 returns-2 returns-3)

@@ -3,12 +3,12 @@ use mathlib.Core.List.{List, [], _++_}
 use Prim.Native.Nat.{ℕ, _+_, _*_, _-_}
 use native.Mathlib.Omega.{arith}
 use lib.ListN.{length, take, drop}
-use borrow.Author.Needs.{needs}
 use Rattle.words.specs.Words.{words}
 use Rattle.words.proofs.Laws.{length-words, lent-run}
 use Rattle.layout.specs.Layout.{copy-codec, copy-words, copies-at}
 use Rattle.layout.proofs.Lent.{lent-length}
 use Rattle.recovery.proofs.PlaceLaws.{emptied-steps}
+use borrow.Author.Needs.{needs}
 use Rattle.recovery.proofs.others.empty.Statement.{statement}
 use Rattle.recovery.proofs.others.empty.Tie as tie
 
@@ -65,23 +65,22 @@ same-length c = search needs
 
 returns : tie.Need-returns
 returns c =
-    let b = c .before .before .before .before .before .before .before .before .before .before .before .before in
+    let at = c .before .before .before .before .before .before .before .before in
+    let b = at .before .before .before .before in
     let v = b .args .part .now in
     let t = b .args .settings in
     let g = b .args .bucket in
-    let size = 8 * c .before .before .before .before .before .before .before .before .before .before .copy-words .result in
-    let m = 8 * c .before .before .before .before .before .before .before .before .before .memory-at .result in
-    let d = 8 * c .before .before .before .before .before .before .before .before .disk-at .result in
-    let k : ℕ = m + size - m in
-    let l : ℕ = d + size - d in
+    let size = 8 * at .before .before .copy-words .result in
+    let m = 8 * at .before .memory-at .result in
+    let d = 8 * at .disk-at .result in
     let t1 = c .before .before .before .before .before .before .clear .last .0 in
-    let v1 : List ℕ = take m v ++ (t1 ++ drop k (drop m v)) in
-    let l1 : length v1 ≡ length v = lent-length v t1 m k (omega arith) (omega arith) in
-    let e1 = lent-run v t1 m k (copies-at t g) (copy-words t) (copy-codec t .enc []) (omega arith) (omega arith) (omega arith) (omega arith)
+    let v1 : List ℕ = take m v ++ (t1 ++ drop (m + size - m) (drop m v)) in
+    let l1 : length v1 ≡ length v = lent-length v t1 m (m + size - m) (omega arith) (omega arith) in
+    let e1 = lent-run v t1 m (m + size - m) (copies-at t g) (copy-words t) (copy-codec t .enc []) (omega arith) (omega arith) (omega arith) (omega arith)
     (c .before .before .before .before .before .before .clear .ensures) in
-    let e2 = lent-run v1 (c .before .before .clear2 .last .0) d l (copies-at t g + copy-words t) (copy-words t) (copy-codec t .enc [])
+    let e2 = lent-run v1 (c .before .before .clear2 .last .0) d (d + size - d) (copies-at t g + copy-words t) (copy-words t) (copy-codec t .enc [])
     (omega arith) (omega arith) (omega arith) (omega arith) (c .before .before .clear2 .ensures) in
-    emptied-steps t g (b .pre .1) (words v) (length-words v ∙ omega arith) (b .pre .4) (b .pre .3) (words v1) _ e1 e2
+    emptied-steps t g (b .pre .1) (words v) (b .pre .0 .clean) (length-words v ∙ omega arith) (b .pre .2) (words v1) _ e1 e2
 
 pub empty-spec : {M : Type 1} → statement M
 empty-spec =

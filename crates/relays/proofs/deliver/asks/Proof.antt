@@ -1,13 +1,35 @@
-use mathlib.Core.Path.{sym, _∙_}
+use mathlib.Core.Path.{_≡_, sym, _∙_}
+use mathlib.Core.Bool.{Bool, true, false, cond}
+use borrow.Author.Tests.{not-true, not-false}
 use Rattle.words.specs.Words.{words}
 use Rattle.layout.specs.Store.{decode}
 use Rattle.parts.specs.Parts.{agreed-of}
+use Rattle.rules.specs.Question.{first-no}
 use Rattle.relays.specs.Relays.{relay-of}
-use Rattle.maps.proofs.Asking.{bucket-is, record-is, entries-are}
-use Rattle.relays.proofs.Delivering.{backup-down, copy-full, may-take}
+use Rattle.relays.specs.Asks.{take-asks}
+use Rattle.mappings.proofs.Buckets.{InBucket, in-bucket}
+use Rattle.relays.proofs.Delivering.{backup-down, room-decides}
 use borrow.Author.Needs.{needs}
 use Rattle.relays.proofs.deliver.asks.Statement.{statement}
 use Rattle.relays.proofs.deliver.asks.Tie as tie
+
+-- the record that was read is that of the block's bucket
+read : (c : tie.After-agreed)
+    → let b = c .before .before .before in
+    InBucket (decode (words (b .args .store .now))) (b .args .settings .entries) (b .args .relay .block .0) (c .before .number .result)
+    (agreed-of (c .agreed .result))
+read c =
+    let b = c .before .before .before in
+    in-bucket (b .args .settings) (b .args .store .now) (b .pre) (b .args .relay .block .0) _ (c .before .number .ensures .0) _ (c .agreed .ensures)
+
+-- the last question decides
+last : (c : tie.After-takes) (x : Bool) → c .takes .result ≡ x
+    → let b = c .before .before .before .before .before .before in
+    let s = decode (words (b .args .store .now)) in
+    cond x 0 14 ≡ first-no (take-asks s (relay-of s (b .args .relay)))
+last c x y =
+    room-decides _ (c .before .before .before .before .before .before .args .relay) _ _ _ (read (c .before .before .before))
+    (sym (c .before .before .up-member .ensures) ∙ not-false _ (c .before .if1 .left)) x (sym (c .takes .ensures) ∙ y)
 
 number-requires : tie.Need-number-requires
 number-requires c κs = search needs
@@ -18,47 +40,19 @@ agreed-requires c κs = search needs
 up-member-requires : tie.Need-up-member-requires
 up-member-requires c κs = search needs
 
+returns : tie.Need-returns
+returns c =
+    backup-down _ (c .before .before .before .before .before .args .relay) _ _ _ (read (c .before .before)) (sym (c .before .up-member .ensures)
+    ∙ not-true _ (c .if1 .taken))
+
 takes-requires : tie.Need-takes-requires
 takes-requires c κs = search needs
 
-returns : tie.Need-returns
-returns c =
-    let b = c .before .before .before .before .before .before .before in
-    let up-member = c .before .before .before .up-member in
-    let if1 = c .before .before .if1 in
-    let bs = b .args .store .now in
-    let t = b .args .settings in
-    let g = c .before .before .before .before .before .number in
-    let a = c .before .before .before .before .agreed in
-    may-take (decode (words bs)) (relay-of (decode (words bs)) (b .args .relay)) (agreed-of (a .result))
-    (record-is t bs (b .pre) (b .args .relay .block .0) (g .result) (g .ensures .0) (agreed-of (a .result)) (a .ensures))
-    (sym (up-member .ensures) ∙ if1 .taken) (t .entries) (g .result) (entries-are t bs (b .pre))
-    (bucket-is t bs (b .pre) (b .args .relay .block .0) (g .result) (g .ensures .0)) (sym (c .before .takes .ensures) ∙ c .if2 .taken)
-
 returns-2 : tie.Need-returns-2
-returns-2 c =
-    let b = c .before .before .before .before .before .before .before in
-    let up-member = c .before .before .before .up-member in
-    let if1 = c .before .before .if1 in
-    let bs = b .args .store .now in
-    let t = b .args .settings in
-    let g = c .before .before .before .before .before .number in
-    let a = c .before .before .before .before .agreed in
-    copy-full (decode (words bs)) (relay-of (decode (words bs)) (b .args .relay)) (agreed-of (a .result))
-    (record-is t bs (b .pre) (b .args .relay .block .0) (g .result) (g .ensures .0) (agreed-of (a .result)) (a .ensures))
-    (sym (up-member .ensures) ∙ if1 .taken) (t .entries) (g .result) (entries-are t bs (b .pre))
-    (bucket-is t bs (b .pre) (b .args .relay .block .0) (g .result) (g .ensures .0)) (sym (c .before .takes .ensures) ∙ c .if2 .left)
+returns-2 c = last (c .before) true (c .if2 .taken)
 
 returns-3 : tie.Need-returns-3
-returns-3 c =
-    let b = c .before .before .before .before .before in
-    let bs = b .args .store .now in
-    let t = b .args .settings in
-    let g = c .before .before .before .number in
-    let a = c .before .before .agreed in
-    backup-down (decode (words bs)) (relay-of (decode (words bs)) (b .args .relay)) (agreed-of (a .result))
-    (record-is t bs (b .pre) (b .args .relay .block .0) (g .result) (g .ensures .0) (agreed-of (a .result)) (a .ensures))
-    (sym (c .before .up-member .ensures) ∙ c .if1 .left)
+returns-3 c = last (c .before) false (c .if2 .left)
 
 pub asks-spec : {M : Type 1} → statement M
 asks-spec =
@@ -67,7 +61,7 @@ asks-spec =
     number-requires
     agreed-requires
     up-member-requires
-    takes-requires
     returns
+    takes-requires
     returns-2
     returns-3)

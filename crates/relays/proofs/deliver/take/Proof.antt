@@ -1,23 +1,53 @@
-use Rattle.relays.proofs.Bag.{bag-inside, table-stays, counts-stay}
-use mathlib.Core.Path.{_≡_, refl, ap, subst, _∙_}
-use Prim.Native.Nat.{ℕ, _<_}
+use mathlib.Core.Path.{_≡_, ap, _∙_}
+use Prim.Native.Nat.{ℕ, _+_}
 use native.Mathlib.Omega.{arith}
 use Rattle.words.specs.Words.{words}
-use Rattle.rules.specs.declared.settings.Settings.{Settings}
-use Rattle.rules.specs.Limits.{buckets}
-use Rattle.layout.specs.Disk.{Agreed, blank-brick}
-use Rattle.layout.specs.Layout.{settings-of}
-use Rattle.layout.specs.Store.{brick-in, decode, render}
+use Rattle.layout.specs.Disk.{blank-brick}
+use Rattle.layout.specs.Layout.{taken-at}
+use Rattle.layout.specs.Store.{brick-in, decode}
 use Rattle.parts.specs.Parts.{agreed-of}
 use Rattle.lent.specs.Places.{Stands}
-use Rattle.lent.proofs.Stores.{sound-store}
-use Rattle.maps.specs.Copies.{with-entry}
-use Rattle.relays.specs.Relays.{relay-of}
-use Rattle.maps.proofs.Asking.{bucket-is, record-is, entries-are}
-use Rattle.relays.proofs.Delivering.{backup-stands, copy-takes, delivered}
+use Rattle.mappings.proofs.Buckets.{InBucket, in-bucket}
+use Rattle.relays.proofs.Delivering.{backup-stands, copy-takes, Entered, entered-rule, bag-stays, delivered}
 use borrow.Author.Needs.{needs}
 use Rattle.relays.proofs.deliver.take.Statement.{statement}
 use Rattle.relays.proofs.deliver.take.Tie as tie
+
+-- the record that was read is that of the block's bucket
+read : (c : tie.After-agreed)
+    → let b = c .before .before .before .before in
+    InBucket (decode (words (b .args .store .now))) (b .args .settings .entries) (b .args .relay .block .0) (c .before .before .number .result)
+    (agreed-of (c .agreed .result))
+read c =
+    let b = c .before .before .before .before in
+    in-bucket (b .args .settings) (b .args .store .now) (b .pre .0) (b .args .relay .block .0) _ (c .before .before .number .ensures .0) _ (c .agreed .ensures)
+
+-- the place holds the backup
+stands : (c : tie.After-place)
+    → let b = c .before .before .before .before .before .before .before .before in
+    Stands (b .args .settings) (decode (words (b .args .store .now))) (c .before .before .before .before .agreed .result .backup) (c .place .given .0 .0)
+stands c = rw (c .place .given .1) at (c .before .before .place-of .ensures)
+
+-- the entry is in the backup's memory
+entered : (c : tie.After-bag-span)
+    → let b = c .before .before .before .before .before .before .before .before .before .before .before .before .before .before in
+    Entered (b .args .settings) (b .args .store .now) (b .args .index) (b .args .relay)
+    (c .before .before .before .before .before .before .before .before .before .before .before .before .number .result) (c .bag-span .result .from)
+    (c .bag-span .result .to) (c .before .before .before .insert .last .0)
+entered c =
+    let got = c .before .before .before .before .before .before .before .before .before .before in
+    let b = got .before .before .before .before in
+    let k = read got in
+    record {
+      store = b .pre .0;
+      relay = b .pre .1;
+      number = k .number;
+      bucket = got .before .before .number .ensures .1;
+      span = c .bag-span .ensures;
+      entry = entered-rule _ (b .args .relay) _ _ _ k _ (stands (c .before .before .before .before .before .before) .here) (words (b .args .store .now)) _
+          (c .before .before .before .insert .ensures);
+      size = omega (arith, c .before .before .store .given);
+    }
 
 number-requires : tie.Need-number-requires
 number-requires c κs = search needs
@@ -39,38 +69,26 @@ same-length c = search needs
 
 returns : tie.Need-returns
 returns c =
-    let b = c .before .before .before .before .before .before .before .before in
-    let bs = b .args .store .now in
-    let g = c .before .before .before .before .before .before .number in
-    let a = c .before .before .before .before .agreed in
-    let s = decode (words bs) in
-    let h : brick-in s (a .result .backup) ≡ blank-brick = rw (c .enum-told .given .1) at (c .before .before .place-of .ensures) in
-    absurd (backup-stands s (b .args .index) (relay-of s (b .args .relay)) (b .pre .1) (agreed-of (a .result))
-    (record-is (b .args .settings) bs (b .pre .0) (b .args .relay .block .0) (g .result) (g .ensures .0) (agreed-of (a .result)) (a .ensures)) h)
+    let got = c .before .before .before .before in
+    let b = got .before .before .before .before in
+    let h : brick-in (decode (words (b .args .store .now))) (got .agreed .result .backup) ≡ blank-brick =
+    rw (c .enum-told .given .1) at (c .before .before .place-of .ensures) in
+    absurd (backup-stands _ (b .args .relay) _ _ _ (read got) (b .args .index) (b .pre .1) h)
 
 insert-requires : tie.Need-insert-requires
 insert-requires c κs =
-    let b = c .before .before .before .before .before .before .before .before .before .before in
-    let bs = b .args .store .now in
-    let t = b .args .settings in
-    let g = c .before .before .before .before .before .before .before .before .number in
-    let a = c .before .before .before .before .before .before .agreed in
-    let s = decode (words bs) in
-    let h : Stands t s (a .result .backup) (c .before .before .place .given .0 .0) = rw (c .before .before .place .given .1) at (c .before .before .before .before .place-of .ensures) in (
+    let got = c .before .before .before .before .before .before in
+    let b = got .before .before .before .before in
+    let h = stands (c .before .before) in (
       b .pre .0,
       h .inside,
-      g .ensures .1,
+      got .before .before .number .ensures .1,
       omega (arith, h .some, h .here),
-      copy-takes s (b .args .index) (relay-of s (b .args .relay)) (b .pre .1) (agreed-of (a .result))
-          (record-is t bs (b .pre .0) (b .args .relay .block .0) (g .result) (g .ensures .0) (agreed-of (a .result)) (a .ensures)) (t .entries) (g .result) _
-          (entries-are t bs (b .pre .0)) (bucket-is t bs (b .pre .0) (b .args .relay .block .0) (g .result) (g .ensures .0)) (h .here),
+      copy-takes _ (b .args .relay) _ _ _ (read got) (b .args .index) (b .pre .1) _ (h .here),
     )
 
-mul-remove : tie.Need-mul-remove
-mul-remove c = search needs
-
-mul-remove-2 : tie.Need-mul-remove-2
-mul-remove-2 c = search needs
+bag-span-requires : tie.Need-bag-span-requires
+bag-span-requires c κs = search needs
 
 sub-remove : tie.Need-sub-remove
 sub-remove c = search needs
@@ -82,25 +100,16 @@ part-remove-end : tie.Need-part-remove-end
 part-remove-end c = search needs
 
 remove-requires : tie.Need-remove-requires
-unfolding with-entry
 remove-requires c κs =
-    let b = c .before .before .before .before .before .before .before .before .before .before .before .before .before .before in
-    let bs = b .args .store .now in
-    let sd = sound-store (b .args .settings) bs (b .pre .0) in
-    let inside = bag-inside bs sd in
-    let now = c .before .before .before .insert .last .0 in (
-      table-stays bs sd _ refl refl now (c .before .before .before .insert .ensures) (omega arith) (omega arith),
-      omega (arith, b .pre .1 .inside, counts-stay bs sd _ refl refl now (c .before .before .before .insert .ensures) (omega arith)),
-    )
+    let b = c .before .before .before .before .before .before .before .before .before .before .before .before .before .before .before in
+    let k = bag-stays (entered (c .before)) in
+    (k .table, omega (arith, k .count, b .pre .1 .found .inside))
 
-mul-write : tie.Need-mul-write
-mul-write c = search needs
+agreed-at-requires : tie.Need-agreed-at-requires
+agreed-at-requires c κs = search needs
 
 add-write : tie.Need-add-write
 add-write c = search needs
-
-add-write-2 : tie.Need-add-write-2
-add-write-2 c = search needs
 
 write-requires : tie.Need-write-requires
 write-requires c κs = search needs
@@ -110,25 +119,11 @@ same-length-2 c = search needs
 
 returns-2 : tie.Need-returns-2
 returns-2 c =
-    let b = c .before .before .before .before .before .before .before .before .before .before .before .before .before .before .before .before .before .before .before .before .before in
-    let bs = b .args .store .now in
-    let t = b .args .settings in
-    let v = b .pre .0 in
-    let g = c .before .before .before .before .before .before .before .before .before .before .before .before .before .before .before .before .before .before .before .number in
-    let a = c .before .before .before .before .before .before .before .before .before .before .before .before .before .before .before .before .before .agreed in
-    let s = decode (words bs) in
-    let r = relay-of s (b .args .relay) in
-    let sd = sound-store t bs v in
-    let inside = bag-inside bs sd in
-    let h : Stands t s (a .result .backup) (c .before .before .before .before .before .before .before .before .before .before .before .before .before .place .given .0 .0) = rw (c .before .before .before .before .before .before .before .before .before .before .before .before .before .place .given .1) at (c .before .before .before .before .before .before .before .before .before .before .before .before .before .before .before .place-of .ensures) in
-    let n = bucket-is t bs v (r .block) (g .result) (g .ensures .0) in
-    let id = h .here ∙ ap (λ (k : Agreed). k .backup) (record-is t bs v (r .block) (g .result) (g .ensures .0) (agreed-of (a .result)) (a .ensures)) in
-    let w = c .before .before .before .before .before .before .before .before .before .before .insert .ensures ∙ ap (λ (i : ℕ). render (with-entry s i (s .ids (c .before .before .before .before .before .before .before .before .before .before .before .before .before .place .given .0 .0)) (r .block) (r .key)) (words bs)) n
-    ∙ ap (λ (i : ℕ). render (with-entry s (r .bucket) i (r .block) (r .key)) (words bs)) id in
-    let l : r .bucket < buckets (settings-of (words bs)) =
-    subst (λ (x : Settings). r .bucket < buckets x) (v .same) (rw (← n) (g .ensures .1)) in
-    delivered bs sd (b .args .index) r (b .pre .1) (c .before .before .before .before .before .before .before .before .before .before .insert .last .0) w (omega (arith, c .before .before .before .before .before .before .before .before .before .store .given)) (c .before .before .before .before .before .before .remove .last .0) (omega arith) (c .before .before .before .before .before .before .remove .ensures) l
-    (g .result) n (words (c .before .before .write .last .0)) (c .before .before .write .ensures)
+    let at-write = c .before .before in
+    let removed = at-write .before .before .before .before .before .remove in
+    at-write .write .ensures
+    ∙ delivered (entered (at-write .before .before .before .before .before .before .before)) (removed .last .0) (removed .kept .0) (removed .ensures) _
+    (ap (λ (j : ℕ). j + taken-at) (at-write .before .agreed-at .ensures .0))
 
 pub take-spec : {M : Type 1} → statement M
 take-spec =
@@ -142,15 +137,13 @@ take-spec =
     same-length
     returns
     insert-requires
-    mul-remove
-    mul-remove-2
+    bag-span-requires
     sub-remove
     part-remove-start
     part-remove-end
     remove-requires
-    mul-write
+    agreed-at-requires
     add-write
-    add-write-2
     write-requires
     same-length-2
     returns-2)

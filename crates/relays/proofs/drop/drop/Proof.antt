@@ -1,32 +1,52 @@
+use mathlib.Core.Path.{sym}
+use mathlib.Core.List.{[]}
+use Prim.Native.Nat.{_<_}
 use native.Mathlib.Omega.{arith}
+use lib.ListN.{length}
+use borrow.Author.Tests.{lt-ltb, le-ltb}
 use Rattle.words.specs.Words.{words}
-use Rattle.relays.proofs.Bag.{drop-yes, drop-no}
+use Rattle.rules.specs.Event.{Event}
+use Rattle.rules.specs.Step.{rule}
+use Rattle.rules.proofs.Questions.{first-stop}
+use Rattle.layout.specs.Store.{decode}
+use Rattle.lent.proofs.Performs.{refused, accepts}
 use borrow.Author.Needs.{needs}
 use Rattle.relays.proofs.drop.drop.Statement.{statement}
 use Rattle.relays.proofs.drop.drop.Tie as tie
 
-count-requires : tie.Need-count-requires
-count-requires c κs = search needs
+-- there is such a relay
+inside : (c : tie.Else1) → let b = c .before .before .before .before in b .args .index < length (decode (words (b .args .store .now)) .bag)
+inside c = omega (arith, c .before .relay-count .ensures, c .if1 .left)
 
-remove-requires : tie.Need-remove-requires
-remove-requires c κs = search needs
+relay-count-requires : tie.Need-relay-count-requires
+relay-count-requires c κs = search needs
 
 same-length : tie.Need-same-length
 same-length c = search needs
 
 returns : tie.Need-returns
+unfolding rule
 returns c =
-    let b = c .before .before .before .before .before .before .before .before in
-    let count = c .before .before .before .before .before .count in
-    let remove = c .before .before .remove in
-    drop-yes (b .args .store .now) (b .args .index) (omega (arith, count .ensures)) (words (remove .last .0)) (remove .ensures)
+    let b = c .before .before .before .before in
+    let s = decode (words (b .args .store .now)) in
+    refused (Event.drop (b .args .index)) (words (b .args .store .now)) (b .pre .sound) 3
+    (sym (first-stop 3 [] (le-ltb (b .args .index) (length (s .bag)) (omega (arith, c .before .relay-count .ensures, c .if1 .taken))))) (λ z. omega arith)
+
+remove-requires : tie.Need-remove-requires
+remove-requires c κs = (c .before .before .before .before .before .pre, inside (c .before))
 
 same-length-2 : tie.Need-same-length-2
 same-length-2 c = search needs
 
 returns-2 : tie.Need-returns-2
-returns-2 c = let b = c .before .before .before .before in drop-no (b .args .store .now) (b .args .index) (b .pre) (omega (arith, c .before .count .ensures))
+unfolding rule
+returns-2 c =
+    let b = c .before .before .before .before .before .before .before .before in
+    let removed = c .before .before .remove in
+    accepts (Event.drop (b .args .index)) (words (b .args .store .now)) (words (removed .last .0))
+    (lt-ltb (b .args .index) _ (inside (c .before .before .before .before)), tt) (removed .ensures)
 
 pub drop-spec : {M : Type 1} → statement M
 drop-spec =
-    tie.close (tie.spec count-requires remove-requires same-length returns same-length-2 returns-2)
+    tie.close
+    (tie.spec relay-count-requires same-length returns remove-requires same-length-2 returns-2)

@@ -1,20 +1,71 @@
-use Rattle.maps.proofs.Asking.{bucket-is, record-is}
-use borrow.Author.Tests.{not-true, not-false}
-use mathlib.Core.Path.{sym, ap, _∙_}
-use Prim.Native.Nat.{ℕ}
+use mathlib.Core.Path.{_≡_, refl, sym, _∙_}
+use mathlib.Core.Bool.{Bool, true, false, cond}
+use Prim.Native.Nat.{ℕ, _<_}
 use native.Mathlib.Omega.{arith}
+use lib.ListN.{length}
+use borrow.Author.Tests.{le-ltb}
+use Rattle.lists.specs.Tests.{_and_}
 use Rattle.words.specs.Words.{words}
+use Rattle.rules.specs.Limits.{max-relays}
+use Rattle.rules.specs.Maps.{send-asks}
+use Rattle.rules.specs.Question.{first-no}
+use Rattle.rules.proofs.Questions.{first-stop, stops-there, goes-on}
 use Rattle.layout.specs.Store.{decode}
-use Rattle.rules.specs.Entries.{has}
 use Rattle.parts.specs.Parts.{agreed-of}
-use Rattle.lent.proofs.Stores.{sound-store}
-use Rattle.relays.proofs.Sending.{no-block, primary-down, not-ready, bag-full, no-order, no-entry, may-send}
+use Rattle.mappings.proofs.Buckets.{InBucket, in-bucket}
+use Rattle.relays.specs.Asks.{primary-asks, room-asks}
+use Rattle.relays.proofs.Sending.{no-order, entry-decides}
 use borrow.Author.Needs.{needs}
 use Rattle.relays.proofs.send.asks.Statement.{statement}
 use Rattle.relays.proofs.send.asks.Tie as tie
 
+-- the first group is answered yes, so the second decides
+asked : (c : tie.Else1) {m : ℕ}
+    → let b = c .before .before .before in
+    let s = decode (words (b .args .store .now)) in
+    m ≡ first-no (room-asks s (b .args .block .0)) → m ≡ first-no (send-asks s (b .args .block .0))
+unfolding _and_
+asked c =
+    let b = c .before .before .before in
+    goes-on (primary-asks (decode (words (b .args .store .now))) (b .args .block .0)) _ refl (c .before .primary-asks .ensures) (c .if1 .left)
+
+-- the bag has room
+room : (c : tie.Else2) → length (decode (words (c .before .before .before .before .before .args .store .now)) .bag) < max-relays
+room c = omega (arith, c .before .relay-count .ensures, c .if2 .left)
+
+-- the record that was read is that of the block's bucket
+read : (c : tie.After-agreed)
+    → let b = c .before .before .before .before .before .before .before in
+    InBucket (decode (words (b .args .store .now))) (b .args .settings .entries) (b .args .block .0) (c .before .number .result)
+    (agreed-of (c .agreed .result))
+read c =
+    let b = c .before .before .before .before .before .before .before in
+    in-bucket (b .args .settings) (b .args .store .now) (b .pre) (b .args .block .0) _ (c .before .number .ensures .0) _ (c .agreed .ensures)
+
+-- the last question decides
+last : (c : tie.After-has) (x : Bool) → c .has .result ≡ x
+    → let b = c .before .before .before .before .before .before .before .before .before .before in
+    cond x 0 13 ≡ first-no (send-asks (decode (words (b .args .store .now))) (b .args .block .0))
+last c x y =
+    let got = c .before .before .before in
+    asked (got .before .before .before .before) (entry-decides _ _ _ _ _ (read got) (room (got .before .before)) (c .before .if3 .left) x
+    (sym (c .has .ensures) ∙ y))
+
+primary-asks-requires : tie.Need-primary-asks-requires
+primary-asks-requires c κs = search needs
+
 returns : tie.Need-returns
-returns c = let b = c .before .before .before in no-block (decode (words (b .args .store .now))) (b .args .block .0) (c .if1 .taken)
+returns c =
+    let b = c .before .before .before in
+    stops-there (primary-asks (decode (words (b .args .store .now))) (b .args .block .0)) _ (c .before .primary-asks .ensures) (c .if1 .taken)
+
+relay-count-requires : tie.Need-relay-count-requires
+relay-count-requires c κs = search needs
+
+returns-2 : tie.Need-returns-2
+returns-2 c =
+    let s = decode (words (c .before .before .before .before .before .args .store .now)) in
+    asked (c .before .before) (sym (first-stop 10 _ (le-ltb (length (s .bag)) max-relays (omega (arith, c .before .relay-count .ensures, c .if2 .taken)))))
 
 number-requires : tie.Need-number-requires
 number-requires c κs = search needs
@@ -22,117 +73,31 @@ number-requires c κs = search needs
 agreed-requires : tie.Need-agreed-requires
 agreed-requires c κs = search needs
 
-up-member-requires : tie.Need-up-member-requires
-up-member-requires c κs = search needs
-
-returns-2 : tie.Need-returns-2
-returns-2 c =
-    let b = c .before .before .before .before .before .before .before in
-    let if1 = c .before .before .before .before .if1 in
-    let agreed = c .before .before .agreed in
-    let s = decode (words (b .args .store .now)) in
-    let g = c .before .before .before .number in
-    primary-down s (b .args .block .0) (if1 .left) (agreed-of (agreed .result))
-    (record-is (b .args .settings) (b .args .store .now) (b .pre) (b .args .block .0) (g .result) (g .ensures .0) (agreed-of (agreed .result)) (agreed .ensures))
-    (sym (c .before .up-member .ensures) ∙ not-true _ (c .if2 .taken))
-
 returns-3 : tie.Need-returns-3
 returns-3 c =
-    let b = c .before .before .before .before .before .before .before .before .before in
-    let if1 = c .before .before .before .before .before .before .if1 in
-    let agreed = c .before .before .before .before .agreed in
-    let up-member = c .before .before .before .up-member in
-    let if2 = c .before .before .if2 in
-    let s = decode (words (b .args .store .now)) in
-    let g = c .before .before .before .before .before .number in
-    not-ready s (b .args .block .0) (if1 .left) (agreed-of (agreed .result))
-    (record-is (b .args .settings) (b .args .store .now) (b .pre) (b .args .block .0) (g .result) (g .ensures .0) (agreed-of (agreed .result)) (agreed .ensures))
-    (sym (up-member .ensures) ∙ not-false _ (if2 .left)) (not-true _ (c .if3 .taken))
-
-count-requires : tie.Need-count-requires
-count-requires c κs = let b = c .before .before .before .before .before .before .before .before .before in sound-store (b .args .settings) (b .args .store .now) (b .pre)
-
-returns-4 : tie.Need-returns-4
-returns-4 c =
-    let b = c .before .before .before .before .before .before .before .before .before .before .before in
-    let if1 = c .before .before .before .before .before .before .before .before .if1 in
-    let agreed = c .before .before .before .before .before .before .agreed in
-    let up-member = c .before .before .before .before .before .up-member in
-    let if2 = c .before .before .before .before .if2 in
-    let if3 = c .before .before .if3 in
-    let s = decode (words (b .args .store .now)) in
-    let g = c .before .before .before .before .before .before .before .number in
-    bag-full s (b .args .block .0) (if1 .left) (agreed-of (agreed .result))
-    (record-is (b .args .settings) (b .args .store .now) (b .pre) (b .args .block .0) (g .result) (g .ensures .0) (agreed-of (agreed .result)) (agreed .ensures))
-    (sym (up-member .ensures) ∙ not-false _ (if2 .left)) (not-false _ (if3 .left)) (omega (arith, c .before .count .ensures))
-
-returns-5 : tie.Need-returns-5
-returns-5 c =
-    let b = c .before .before .before .before .before .before .before .before .before .before .before .before .before in
-    let if1 = c .before .before .before .before .before .before .before .before .before .before .if1 in
-    let agreed = c .before .before .before .before .before .before .before .before .agreed in
-    let up-member = c .before .before .before .before .before .before .before .up-member in
-    let if2 = c .before .before .before .before .before .before .if2 in
-    let if3 = c .before .before .before .before .if3 in
-    let count = c .before .before .before .count in
-    let s = decode (words (b .args .store .now)) in
-    let g = c .before .before .before .before .before .before .before .before .before .number in
-    no-order s (b .args .block .0) (if1 .left) (agreed-of (agreed .result))
-    (record-is (b .args .settings) (b .args .store .now) (b .pre) (b .args .block .0) (g .result) (g .ensures .0) (agreed-of (agreed .result)) (agreed .ensures))
-    (sym (up-member .ensures) ∙ not-false _ (if2 .left)) (not-false _ (if3 .left)) (omega (arith, count .ensures)) (c .if5 .taken)
+    let got = c .before .before in
+    asked (got .before .before .before .before) (no-order _ _ _ _ _ (read got) (room (got .before .before)) (c .if3 .taken))
 
 has-requires : tie.Need-has-requires
 has-requires c κs = search needs
 
-returns-6 : tie.Need-returns-6
-returns-6 c =
-    let b = c .before .before .before .before .before .before .before .before .before .before .before .before .before .before .before in
-    let if1 = c .before .before .before .before .before .before .before .before .before .before .before .before .if1 in
-    let agreed = c .before .before .before .before .before .before .before .before .before .before .agreed in
-    let up-member = c .before .before .before .before .before .before .before .before .before .up-member in
-    let if2 = c .before .before .before .before .before .before .before .before .if2 in
-    let if3 = c .before .before .before .before .before .before .if3 in
-    let count = c .before .before .before .before .before .count in
-    let if5 = c .before .before .if5 in
-    let s = decode (words (b .args .store .now)) in
-    let g = c .before .before .before .before .before .before .before .before .before .before .before .number in
-    may-send s (b .args .block .0) (if1 .left) (agreed-of (agreed .result))
-    (record-is (b .args .settings) (b .args .store .now) (b .pre) (b .args .block .0) (g .result) (g .ensures .0) (agreed-of (agreed .result)) (agreed .ensures))
-    (sym (up-member .ensures) ∙ not-false _ (if2 .left)) (not-false _ (if3 .left)) (omega (arith, count .ensures)) (if5 .left)
-    (ap (λ (i : ℕ). has (s .bucket i .memory (agreed .result .primary)) (b .args .block .0))
-    (sym (bucket-is (b .args .settings) (b .args .store .now) (b .pre) (b .args .block .0) (g .result) (g .ensures .0))) ∙ sym (c .before .has .ensures) ∙ c .if6 .taken)
+returns-4 : tie.Need-returns-4
+returns-4 c = last (c .before) true (c .if4 .taken)
 
-returns-7 : tie.Need-returns-7
-returns-7 c =
-    let b = c .before .before .before .before .before .before .before .before .before .before .before .before .before .before .before in
-    let if1 = c .before .before .before .before .before .before .before .before .before .before .before .before .if1 in
-    let agreed = c .before .before .before .before .before .before .before .before .before .before .agreed in
-    let up-member = c .before .before .before .before .before .before .before .before .before .up-member in
-    let if2 = c .before .before .before .before .before .before .before .before .if2 in
-    let if3 = c .before .before .before .before .before .before .if3 in
-    let count = c .before .before .before .before .before .count in
-    let if5 = c .before .before .if5 in
-    let s = decode (words (b .args .store .now)) in
-    let g = c .before .before .before .before .before .before .before .before .before .before .before .number in
-    no-entry s (b .args .block .0) (if1 .left) (agreed-of (agreed .result))
-    (record-is (b .args .settings) (b .args .store .now) (b .pre) (b .args .block .0) (g .result) (g .ensures .0) (agreed-of (agreed .result)) (agreed .ensures))
-    (sym (up-member .ensures) ∙ not-false _ (if2 .left)) (not-false _ (if3 .left)) (omega (arith, count .ensures)) (if5 .left)
-    (ap (λ (i : ℕ). has (s .bucket i .memory (agreed .result .primary)) (b .args .block .0))
-    (sym (bucket-is (b .args .settings) (b .args .store .now) (b .pre) (b .args .block .0) (g .result) (g .ensures .0))) ∙ sym (c .before .has .ensures) ∙ c .if6 .left)
+returns-5 : tie.Need-returns-5
+returns-5 c = last (c .before) false (c .if4 .left)
 
 pub asks-spec : {M : Type 1} → statement M
 asks-spec =
     tie.close
     (tie.spec
+    primary-asks-requires
     returns
+    relay-count-requires
+    returns-2
     number-requires
     agreed-requires
-    up-member-requires
-    returns-2
     returns-3
-    count-requires
-    returns-4
-    returns-5
     has-requires
-    returns-6
-    returns-7)
+    returns-4
+    returns-5)

@@ -1,51 +1,44 @@
 use mathlib.Core.Path.{sym, _∙_}
 use Rattle.words.specs.Words.{words}
+use Rattle.rules.specs.Event.{Event}
+use Rattle.rules.specs.Step.{rule}
 use Rattle.layout.specs.Store.{decode}
-use Rattle.relays.proofs.Sending.{send-no, send-yes, room-in-bag, room-for-order}
+use Rattle.lent.proofs.Performs.{refused, accepted}
+use Rattle.relays.proofs.Sending.{sendable}
 use borrow.Author.Needs.{needs}
 use Rattle.relays.proofs.send.send.Statement.{statement}
 use Rattle.relays.proofs.send.send.Tie as tie
 
-settings-requires : tie.Need-settings-requires
-settings-requires c κs = search needs
-
 asks-requires : tie.Need-asks-requires
 asks-requires c κs = search needs
-
-relay-requires : tie.Need-relay-requires
-relay-requires c κs =
-    let b = c .before .before .before .before .before .before .before in
-    let settings = c .before .before .before .before .settings in
-    let asks = c .before .before .asks in
-    let s = decode (words (b .args .store .now)) in
-    let y = sym (asks .ensures) ∙ c .before .if1 .taken in
-    (settings .ensures, room-in-bag s (b .args .block) y, room-for-order s (b .args .block) y)
 
 same-length : tie.Need-same-length
 same-length c = search needs
 
 returns : tie.Need-returns
+unfolding rule
 returns c =
-    let b = c .before .before .before .before .before .before .before .before .before .before in
-    let asks = c .before .before .before .before .before .asks in
-    let if1 = c .before .before .before .before .if1 in
-    let relay = c .before .before .relay in
-    send-yes (b .args .store .now) (b .args .block) (sym (asks .ensures) ∙ if1 .taken) (words (relay .last .0)) (relay .ensures)
+    let b = c .before .before .before .before in
+    refused (Event.send (b .args .block)) (words (b .args .store .now)) (b .pre .sound) _ (c .before .asks .ensures) (c .if1 .taken)
+
+relay-requires : tie.Need-relay-requires
+relay-requires c κs =
+    let b = c .before .before .before .before .before in
+    let k = sendable (decode (words (b .args .store .now))) (b .args .block) (sym (c .before .before .asks .ensures) ∙ c .before .if1 .left) in
+    (b .pre, k .room, k .order)
 
 same-length-2 : tie.Need-same-length-2
 same-length-2 c = search needs
 
 returns-2 : tie.Need-returns-2
-returns-2 c = let b = c .before .before .before .before .before .before in send-no (b .args .store .now) (b .pre) (b .args .block) (c .before .asks .result) (c .before .asks .ensures) (c .if1 .left)
+unfolding rule
+returns-2 c =
+    let at-asks = c .before .before .before .before .before in
+    let b = at-asks .before .before .before in
+    let done = c .before .before .relay in
+    accepted (Event.send (b .args .block)) (words (b .args .store .now)) (words (done .last .0)) (sym (at-asks .asks .ensures)
+    ∙ c .before .before .before .before .if1 .left) (done .ensures)
 
 pub send-spec : {M : Type 1} → statement M
 send-spec =
-    tie.close
-    (tie.spec
-    settings-requires
-    asks-requires
-    relay-requires
-    same-length
-    returns
-    same-length-2
-    returns-2)
+    tie.close (tie.spec asks-requires same-length returns relay-requires same-length-2 returns-2)

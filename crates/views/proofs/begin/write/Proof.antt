@@ -1,25 +1,81 @@
-use mathlib.Core.Path.{subst, _≡_, refl, sym, ap, _∙_}
+use mathlib.Core.Path.{_≡_, refl, ap, _∙_}
 use mathlib.Core.List.{List, _++_}
 use Prim.Native.Nat.{ℕ, _+_, _*_, _-_}
 use native.Mathlib.Omega.{arith}
 use lib.ListN.{length, take, drop}
-use borrow.Author.Needs.{needs}
 use Rattle.lists.proofs.Runs.{run-length}
 use Rattle.rules.specs.Limits.{buckets}
-use Rattle.rules.specs.Pairs.{at}
+use Rattle.rules.specs.Pairs.{at as slot}
 use Rattle.words.specs.Words.{words}
-use Rattle.words.proofs.Laws.{lent-run}
-use Rattle.codec.specs.Codec.{Clean, change}
-use Rattle.layout.specs.Layout.{all-agreed-codec, all-places-codec, places-at}
-use Rattle.layout.specs.Store.{decode}
-use Rattle.layout.proofs.Lent.{lent-length, lent}
-use Rattle.layout.proofs.Parts.{view-read}
+use Rattle.layout.specs.Store.{decode, render}
+use Rattle.layout.proofs.Foci.{all-agreed-in}
+use Rattle.layout.proofs.Lent.{lent-length}
 use Rattle.lent.proofs.Stores.{settings-are}
-use Rattle.views.specs.Begin.{begun, renewed}
+use Rattle.lent.proofs.Effects.{later-effect}
+use Rattle.lent.proofs.AllPlaces.{places-lent}
+use Rattle.views.specs.Begin.{renewed}
 use Rattle.views.proofs.Counts.{view-pairs-long}
-use Rattle.views.proofs.EffectLaws.{begin-ready, begin-steps}
+use Rattle.views.proofs.EffectLaws.{head-written, records-written, headed, viewed}
+use borrow.Author.Needs.{needs}
 use Rattle.views.proofs.begin.write.Statement.{statement}
 use Rattle.views.proofs.begin.write.Tie as tie
+
+abbrev start : tie.After-write2 → tie.Start
+start c = c .before .before .before .before .before .before .before .before .before .before .before .before
+
+-- the header is written
+head : (c : tie.After-write2) → words (c .write2 .last .0)
+    ≡ render (head-written (start c .args .settings) (start c .args .store .now) (start c .pre .0) (start c .args .started)) (words (start c .args .store .now))
+head c =
+    let at-view = c .before .before .before .before .before .before in
+    headed (start c .args .settings) (start c .args .store .now) (start c .pre .0) (start c .args .started) (at-view .view .result) _ _ (at-view .view .ensures)
+    (c .before .before .before .before .write .ensures) (c .write2 .ensures)
+
+head-length : (c : tie.After-write2) → length (c .write2 .last .0) ≡ length (start c .args .store .now)
+head-length c = c .write2 .kept .0 ∙ c .before .before .before .before .write .kept .0
+
+-- and the buckets' records
+abbrev after : tie.After-renew-all → List ℕ
+after c =
+    let v = c .before .before .before .before .write2 .last .0 in
+    let k = 8 * c .before .before .before .before .before .before .before .before .before .before .before .before .before .proxies-at .result - 56 in
+    take 56 v ++ (c .renew-all .last .0 ++ drop k (drop 56 v))
+
+long : (c : tie.After-renew-all) → length (c .renew-all .last .0)
+    ≡ 8 * c .before .before .before .before .before .before .before .before .before .before .before .before .before .proxies-at .result - 56
+long c =
+    let at-proxies-at = c .before .before .before .before .before .before .before .before .before .before .before .before .before in
+    let at = c .before .before .before .before in
+    let p = at-proxies-at .proxies-at in
+    c .renew-all .kept .0
+    ∙ run-length 56 (8 * p .result - 56) (at .write2 .last .0) (omega (arith, p .ensures, head-length at, start at .pre .0 .size))
+
+records-length : (c : tie.After-renew-all) → length (after c) ≡ length (start (c .before .before .before .before) .args .store .now)
+records-length c =
+    let at-proxies-at = c .before .before .before .before .before .before .before .before .before .before .before .before .before in
+    let at = c .before .before .before .before in
+    let p = at-proxies-at .proxies-at in
+    lent-length (at .write2 .last .0) (c .renew-all .last .0) 56 (8 * p .result - 56) (omega (arith, p .ensures, head-length at, start at .pre .0 .size))
+    (long c)
+    ∙ head-length at
+
+records : (c : tie.After-renew-all) → words (after c)
+    ≡ render (records-written (start (c .before .before .before .before) .args .settings) (start (c .before .before .before .before) .args .store .now)
+    (start (c .before .before .before .before) .pre .0) (start (c .before .before .before .before) .args .started)
+    (start (c .before .before .before .before) .args .pairs .now)) (words (start (c .before .before .before .before) .args .store .now))
+records c =
+    let at-proxies-at = c .before .before .before .before .before .before .before .before .before .before .before .before .before in
+    let at = c .before .before .before .before in
+    let b = start at in
+    let t = b .args .settings in
+    let bs = b .args .store .now in
+    let v = b .pre .0 in
+    let n = b .args .started in
+    let slots = b .args .pairs .now in
+    let p = at-proxies-at .proxies-at in
+    later-effect t bs v (all-agreed-in t) (refl, refl) (head-written t bs v n) refl refl (at .write2 .last .0) (head at) (head-length at) 56 (8 * p .result)
+    (omega arith) (omega (arith, p .ensures)) (records-written t bs v n slots) refl (refl, refl) (c .renew-all .last .0) (omega (arith, long c, p .ensures))
+    (λ old g. renewed (slot slots (2 * g)) (slot slots (2 * g + 1)) (old g)) refl (c .renew-all .ensures)
 
 proxies-at-requires : tie.Need-proxies-at-requires
 proxies-at-requires c κs = search needs
@@ -27,14 +83,12 @@ proxies-at-requires c κs = search needs
 places-at-requires : tie.Need-places-at-requires
 places-at-requires c κs = search needs
 
-read-requires : tie.Need-read-requires
-read-requires c κs = search needs
+view-requires : tie.Need-view-requires
+view-requires c κs = search needs
 
 add-write : tie.Need-add-write
 add-write c =
-    let b = c .before .before .before .before .before .before .before in
-    let ws = words (b .args .store .now) in
-    omega (arith, b .pre .1 .room, view-read ws (b .pre .0 .sound .size), c .before .read .ensures)
+    omega (arith, c .before .before .before .before .before .before .before .pre .1 .room, c .before .view .ensures)
 
 write-requires : tie.Need-write-requires
 write-requires c κs = search needs
@@ -59,14 +113,11 @@ part-renew-all-end c = search needs
 
 renew-all-requires : tie.Need-renew-all-requires
 renew-all-requires c κs =
-    let at-proxies-at = c .before .before .before .before .before .before .before .before .before .before .before .before in
-    let b = at-proxies-at .before .before .before in
-    let bs = b .args .store .now in
-    let v = c .before .before .before .write2 .last .0 in
-    let p = at-proxies-at .proxies-at .result in (
-      run-length 56 (8 * p - 56) v (omega arith) ∙ omega arith,
-      ap length (b .pre .2) ∙ view-pairs-long (decode (words bs)) (b .args .settings) (settings-are (b .args .settings) bs (b .pre .0))
-          (buckets (b .args .settings)) refl,
+    let b = c .before .before .before .before .before .before .before .before .before .before .before .before .before .before .before in
+    let p = c .before .before .before .before .before .before .before .before .before .before .before .before .proxies-at in (
+      run-length 56 (8 * p .result - 56) (c .before .before .before .write2 .last .0) (omega arith) ∙ omega arith,
+      ap length (b .pre .2) ∙ view-pairs-long (decode (words (b .args .store .now))) (b .args .settings)
+          (settings-are (b .args .settings) (b .args .store .now) (b .pre .0)) (buckets (b .args .settings)) refl,
     )
 
 mul-begin-all : tie.Need-mul-begin-all
@@ -83,65 +134,25 @@ part-begin-all-end c = search needs
 
 begin-all-requires : tie.Need-begin-all-requires
 begin-all-requires c κs =
-    let b = c .before .before .before .before .before .before .before .before .before .before .before .before .before .before .before .before .before
-    .before .before in
+    let at = c .before .before .before in
+    let b = start (at .before .before .before .before) in
     let bs = b .args .store .now in
-    let t = b .args .settings in
-    let v1 = c .before .before .before .before .before .before .before .before .before .before .before .write .last .0 in
-    let v2 = c .before .before .before .before .before .before .before .write2 .last .0 in
-    let t3 = c .before .before .before .renew-all .last .0 in
-    let p = c .before .before .before .before .before .before .before .before .before .before .before .before .before .before .before
-    .before .proxies-at .result in
-    let q = c .before .before .before .before .before .before .before .before .before .before .before .before .before .before .before .places-at .result in
-    let slots = b .args .pairs .now in
-    let k : ℕ = 8 * p - 56 in
-    let v3 : List ℕ = take 56 v2 ++ (t3 ++ drop k (drop 56 v2)) in
-    let l3 : length v3 ≡ length v2 = lent-length v2 t3 56 k (omega arith) (omega arith) in
-    let e3 = lent-run v2 t3 56 k 7 (buckets t * 8)
-    (change (all-agreed-codec t) (λ old g. renewed (at slots (2 * g)) (at slots (2 * g + 1)) (old g)))
-    (omega arith) (omega arith) (omega arith) (omega arith) (c .before .before .before .renew-all .ensures) in
-    let r = begin-ready t (words bs) (b .pre .0 .sound) (b .pre .0 .same) (b .args .started) slots (b .pre .1 .up) (b .pre .2)
-    (c .before .before .before .before .before .before .before .before .before .before .before .before .before .read .result)
-    (c .before .before .before .before .before .before .before .before .before .before .before .before .before .read .ensures) (words v1) (words v2) (words v3)
-    (c .before .before .before .before .before .before .before .before .before .before .before .write .ensures)
-    (c .before .before .before .before .before .before .before .write2 .ensures) e3 in
-    let n : ℕ = all-places-codec t .size in
-    let w = lent v3 (8 * q) (length bs) (places-at t) n (omega arith) (omega arith) (omega arith) in
-    (b .pre .0 .limits, run-length (8 * q) (length bs - 8 * q) v3 (omega arith) ∙ omega arith, subst (λ (x : List ℕ). Clean (all-places-codec t) x) (sym w) r)
+    let q = c .before .before .before .before .before .before .before .before .before .before .before .before .before .before .before .places-at in
+    places-lent (b .args .settings) bs (b .pre .0) (records-written (b .args .settings) bs (b .pre .0) (b .args .started) (b .args .pairs .now)) refl refl
+    (after at) (records at) (records-length at) (8 * q .result) (length bs) (omega (arith, q .ensures)) (omega (arith, q .ensures, b .pre .0 .size))
 
 same-length : tie.Need-same-length
 same-length c = search needs
 
 returns : tie.Need-returns
 returns c =
-    let b = c .before .before .before .before .before .before .before .before .before .before .before .before .before .before .before .before .before
-    .before .before .before .before .before in
+    let at = c .before .before .before .before .before .before in
+    let b = start (at .before .before .before .before) in
     let bs = b .args .store .now in
-    let t = b .args .settings in
-    let v1 = c .before .before .before .before .before .before .before .before .before .before .before .before .before .before .write .last .0 in
-    let v2 = c .before .before .before .before .before .before .before .before .before .before .write2 .last .0 in
-    let t3 = c .before .before .before .before .before .before .renew-all .last .0 in
-    let t4 = c .before .before .begin-all .last .0 in
-    let p = c .before .before .before .before .before .before .before .before .before .before .before .before .before .before .before .before .before
-    .before .before .proxies-at .result in
-    let q = c .before .before .before .before .before .before .before .before .before .before .before .before .before .before .before .before .before
-    .before .places-at .result in
-    let slots = b .args .pairs .now in
-    let k : ℕ = 8 * p - 56 in
-    let v3 : List ℕ = take 56 v2 ++ (t3 ++ drop k (drop 56 v2)) in
-    let l3 : length v3 ≡ length v2 = lent-length v2 t3 56 k (omega arith) (omega arith) in
-    let e3 = lent-run v2 t3 56 k 7 (buckets t * 8)
-    (change (all-agreed-codec t) (λ old g. renewed (at slots (2 * g)) (at slots (2 * g + 1)) (old g)))
-    (omega arith) (omega arith) (omega arith) (omega arith) (c .before .before .before .before .before .before .renew-all .ensures) in
-    let n : ℕ = all-places-codec t .size in
-    let e4 = lent-run v3 t4 (8 * q) (length bs - 8 * q) (places-at t) n (change (all-places-codec t) (λ places i. begun (places i)))
-    (omega arith) (omega arith) (omega arith) (omega arith) (c .before .before .begin-all .ensures) in
-    begin-steps t (words bs) (b .pre .0 .sound) (b .pre .0 .same) (b .args .started) slots (b .pre .1 .up) (b .pre .2)
-    (c .before .before .before .before .before .before .before .before .before .before .before .before .before .before .before .before .read .result)
-    (c .before .before .before .before .before .before .before .before .before .before .before .before .before .before .before .before .read .ensures)
-    (words v1) (words v2) (words v3)
-    (c .before .before .before .before .before .before .before .before .before .before .before .before .before .before .write .ensures)
-    (c .before .before .before .before .before .before .before .before .before .before .write2 .ensures) e3 _ e4
+    let q = at .before .before .before .before .before .before .before .before .before .before .before .before .places-at in
+    viewed (b .args .settings) bs (b .pre .0) (b .args .started) (b .args .pairs .now) (b .pre .1 .up) (b .pre .2) (after at) (records at) (records-length at)
+    (8 * q .result) (length bs) (omega (arith, q .ensures)) (omega (arith, q .ensures, b .pre .0 .size)) (c .before .before .begin-all .last .0) (omega arith)
+    (c .before .before .begin-all .ensures)
 
 pub write-spec : {M : Type 1} → statement M
 write-spec =
@@ -149,7 +160,7 @@ write-spec =
     (tie.spec
     proxies-at-requires
     places-at-requires
-    read-requires
+    view-requires
     add-write
     write-requires
     write-requires-2

@@ -4,7 +4,6 @@ use native.Mathlib.Omega.{arith}
 use lib.ListN.{length}
 use borrow.Author.Needs.{needs}
 use Rattle.lists.proofs.Runs.{run-length}
-use Rattle.rules.specs.Limits.{buckets}
 use Rattle.rules.specs.Pairs.{at}
 use Rattle.words.specs.Words.{words}
 use Rattle.words.proofs.Laws.{length-words}
@@ -13,7 +12,7 @@ use Rattle.codec.proofs.Loops.{written, loop-start, loop-end}
 use Rattle.layout.specs.Disk.{Agreed, blank-agreed}
 use Rattle.layout.specs.Layout.{agreed-codec}
 use Rattle.layout.proofs.Codecs.{agreed-law}
-use Rattle.lent.proofs.Turns.{new, change-turn}
+use Rattle.layout.proofs.Lent.{each-changed, change-turn}
 use Rattle.views.specs.Begin.{renewed}
 use Rattle.views.proofs.record.renew_all.Statement.{statement}
 use Rattle.views.proofs.record.renew_all.Tie as tie
@@ -21,7 +20,8 @@ use Rattle.views.proofs.record.renew_all.Tie as tie
 abbrev Inv-loop : tie.InvT-loop
 Inv-loop part₀ slots count bucket₀ part bucket =
     (bucket ≤ count) × (length part ≡ length part₀)
-    × (words part ≡ written agreed-codec bucket (new agreed-codec count blank-agreed (λ g. renewed (at slots (2 * g)) (at slots (2 * g + 1))) (words part₀))
+    × (words part ≡ written agreed-codec bucket (each-changed agreed-codec count blank-agreed (λ g. renewed (at slots (2 * g)) (at slots (2 * g + 1)))
+    (words part₀))
     (words part₀))
 
 abbrev μ-loop : tie.MeasureT-loop
@@ -36,7 +36,7 @@ loop-holds c =
     let s = b .args .part .now in
     let slots = b .args .slots .now in
     let n = c .buckets .result in
-    let f = new agreed-codec n blank-agreed (λ g. renewed (at slots (2 * g)) (at slots (2 * g + 1))) (words s) in
+    let f = each-changed agreed-codec n blank-agreed (λ g. renewed (at slots (2 * g)) (at slots (2 * g + 1))) (words s) in
     (search needs, search needs, loop-start agreed-codec agreed-law n f (words s) (length-words s ∙ omega arith))
 
 offset-requires : tie.Need-offset-requires Inv-loop μ-loop
@@ -119,8 +119,8 @@ returns c =
     let pair : ℕ → Agreed → Agreed = λ g. renewed (at slots (2 * g)) (at slots (2 * g + 1)) in
     let e : c .before .loop .bucket ≡ n = omega arith in
     rw e at (c .before .loop .inv .2)
-    ∙ loop-end agreed-codec agreed-law n (new agreed-codec n blank-agreed pair (words s0)) (words s0) (length-words s0 ∙ omega arith)
-    ∙ ap (λ (m : ℕ). enc-many agreed-codec m (new agreed-codec m blank-agreed pair (words s0)) (words s0)) (c .before .before .buckets .ensures)
+    ∙ loop-end agreed-codec agreed-law n (each-changed agreed-codec n blank-agreed pair (words s0)) (words s0) (length-words s0 ∙ omega arith)
+    ∙ ap (λ (m : ℕ). enc-many agreed-codec m (each-changed agreed-codec m blank-agreed pair (words s0)) (words s0)) (c .before .before .buckets .ensures)
 
 pub renew-all-spec : {M : Type 1} → statement M
 renew-all-spec =

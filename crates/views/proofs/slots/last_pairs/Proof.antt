@@ -1,10 +1,9 @@
 use mathlib.Core.Path.{_≡_, ap}
 use mathlib.Core.List.{_++_}
-use Prim.Native.Nat.{_+_, _*_, _-_, _≤_}
+use Prim.Native.Nat.{_*_, _-_, _≤_}
 use native.Mathlib.Omega.{arith}
 use lib.ListN.{length, drop, length-set}
 use borrow.Author.Needs.{needs}
-use Rattle.rules.specs.Limits.{buckets}
 use Rattle.rules.specs.Pairs.{slots-of}
 use Rattle.words.specs.Words.{words}
 use Rattle.layout.specs.Disk.{Agreed}

@@ -1,22 +1,48 @@
-use mathlib.Core.Path.{sym, ap, _∙_}
-use mathlib.Core.List.{List}
+use mathlib.Core.Path.{_≡_, sym, ap, _∙_}
+use mathlib.Core.List.{List, _++_}
 use Prim.Native.Nat.{ℕ, _-_}
-use native.Mathlib.Omega.{arith}
 use lib.ListN.{length, take, drop}
 use lib.Seq.{length-take-le}
+use Rattle.lists.specs.Runs.{on-run}
 use Rattle.words.specs.Words.{words}
 use Rattle.rules.specs.Chunks.{bytes-in}
 use Rattle.codec.specs.Codec.{change}
-use Rattle.layout.specs.Layout.{place-codec}
+use Rattle.layout.specs.Layout.{log-codec, log-words, log-at}
 use Rattle.layout.specs.Store.{decode}
-use Rattle.lent.proofs.LentPlace.{lent-place, part-inside, part-stands, part-changed}
-use Rattle.writes.specs.Places.{on-log}
-use Rattle.writes.specs.Copies.{with-chunk}
-use Rattle.writes.proofs.Places.{log-changes}
-use Rattle.writes.proofs.Copies.{held-size, append-fits, room-read}
+use Rattle.lent.proofs.LentPlace.{LentPlace, lent-place, part-inside, part-filled, part-changed}
+use Rattle.holders.proofs.Contents.{held-size}
+use Rattle.writes.specs.Logs.{with-chunk}
+use Rattle.writes.proofs.Logs.{log-changes, place-fits, place-grown}
+use Rattle.writes.proofs.Copies.{room-read}
 use borrow.Author.Needs.{needs}
 use Rattle.writes.proofs.copy.copy_by.Statement.{statement}
 use Rattle.writes.proofs.copy.copy_by.Tie as tie
+
+abbrev start : tie.After-copy-bytes → tie.Start
+start c = c .before .before .before .before .before .before
+
+abbrev moved : tie.After-span-of → tie.After-copy-bytes
+moved c = c .before .before .before
+
+-- the chunk's bytes, at its home
+abbrev held-bytes : tie.Start → List ℕ
+held-bytes b = let s = decode (words (b .args .store .now)) in bytes-in (s .bricks .log (s .ids (b .args .home))) (b .args .key .0)
+
+long : (b : tie.Start) → length (held-bytes b) ≡ b .args .settings .size
+long b = held-size (b .args .settings) (b .args .store .now) (b .pre .store) _ (b .args .key .0) (b .pre .held)
+
+read : (c : tie.After-copy-bytes)
+    → let b = start c in
+    let size = b .args .settings .size in
+    take size (c .copy-bytes .last .0 ++ drop size (b .args .room .now)) ≡ held-bytes b
+read c =
+    let b = start c in
+    room-read (b .args .room .now) (c .copy-bytes .last .0) _ (b .args .settings .size) (c .copy-bytes .ensures ∙ c .before .chunk .ensures) (long b)
+
+place : (c : tie.After-span-of)
+    → let b = start (moved c) in
+    LentPlace (b .args .store .now) (b .args .settings) (b .args .target) (c .span-of .result .from) (c .span-of .result .to)
+place c = let b = start (moved c) in lent-place (b .pre .store) (c .span-of .ensures) (b .pre .target-in)
 
 slice-relend-prefix-copy-bytes : tie.Need-slice-relend-prefix-copy-bytes
 slice-relend-prefix-copy-bytes c = c .before .before .pre .size
@@ -27,59 +53,36 @@ slice-aggregate-copy-bytes c =
     sym (length-take-le (b .args .settings .size) (b .args .room .now) (b .pre .size))
 
 chunk-requires : tie.Need-chunk-requires
-chunk-requires c κs =
-    let b = c .before .before .before .before in
-    (b .pre .store, b .pre .home-in, b .pre .home-filled)
+chunk-requires c κs = let b = c .before .before .before .before in (b .pre .store, b .pre .home-in, b .pre .home-filled)
 
 copy-bytes-requires : tie.Need-copy-bytes-requires
 copy-bytes-requires c κs =
     let b = c .before .before .before .before .before in
-    let s = decode (words (b .args .store .now)) in
-    length-take-le (b .args .settings .size) (b .args .room .now) (b .pre .size)
-    ∙ sym (ap length (c .chunk .ensures) ∙ held-size (b .args .settings) (b .args .store .now) (b .pre .store) (s .ids (b .args .home)) (b .args .key .0) (b .pre .held))
+    length-take-le (b .args .settings .size) (b .args .room .now) (b .pre .size) ∙ sym (ap length (c .chunk .ensures) ∙ long b)
 
 span-of-requires : tie.Need-span-of-requires
-span-of-requires c κs =
-    let b = c .before .before .before .before .before .before .before .before in
-    (b .pre .store .limits, b .pre .target-in)
+span-of-requires c κs = let b = start (c .before .before) in (b .pre .store .limits, b .pre .target-in)
 
-sub-append-place : tie.Need-sub-append-place
-sub-append-place c = omega (arith, c .span-of .ensures .size)
+sub-append : tie.Need-sub-append
+sub-append c = search needs
 
-part-append-place-start : tie.Need-part-append-place-start
-part-append-place-start c = omega (arith, c .span-of .ensures .size)
+part-append-start : tie.Need-part-append-start
+part-append-start c = search needs
 
-part-append-place-end : tie.Need-part-append-place-end
-part-append-place-end c =
-    let b = c .before .before .before .before .before .before .before .before .before in
-    part-inside (lent-place (b .pre .store) (c .span-of .ensures) (b .pre .target-in))
+part-append-end : tie.Need-part-append-end
+part-append-end c = part-inside (place c)
 
-slice-reshare-prefix-append-place : tie.Need-slice-reshare-prefix-append-place
-slice-reshare-prefix-append-place c = search needs
+slice-reshare-prefix-append : tie.Need-slice-reshare-prefix-append
+slice-reshare-prefix-append c = search needs
 
-slice-aggregate-append-place : tie.Need-slice-aggregate-append-place
-slice-aggregate-append-place c =
-    let c5 = c .before .before .before .before .before in
-    let c6 = c5 .before in
-    let b = c6 .before .before .before .before .before in
-    let a = b .args in
-    let s = decode (words (a .store .now)) in
-    let size = held-size (a .settings) (a .store .now) (b .pre .store) (s .ids (a .home)) (a .key .0) (b .pre .held) in
-    let read = room-read (a .room .now) (c5 .copy-bytes .last .0) _ (a .settings .size) (c5 .copy-bytes .ensures ∙ c6 .chunk .ensures) size in
-    sym (ap length read ∙ size)
+slice-aggregate-append : tie.Need-slice-aggregate-append
+slice-aggregate-append c = let k = c .before .before .before .before .before in sym (ap length (read k) ∙ long (start k))
 
-append-place-requires : tie.Need-append-place-requires
-append-place-requires c κs =
-    let c2 = c .before .before in
-    let c5 = c2 .before .before .before in
-    let c6 = c5 .before in
-    let b = c6 .before .before .before .before .before in
-    let a = b .args in
-    let s = decode (words (a .store .now)) in
-    let size = held-size (a .settings) (a .store .now) (b .pre .store) (s .ids (a .home)) (a .key .0) (b .pre .held) in
-    let read = room-read (a .room .now) (c5 .copy-bytes .last .0) _ (a .settings .size) (c5 .copy-bytes .ensures ∙ c6 .chunk .ensures) size in
-    let place = lent-place (b .pre .store) (c2 .span-of .ensures) (b .pre .target-in) in
-    append-fits place _ (b .pre .target-filled) (b .pre .room) (ap length read ∙ size)
+append-requires : tie.Need-append-requires
+append-requires c κs =
+    let k = c .before .before .before .before .before in
+    let b = start k in
+    place-fits (place (c .before .before)) (b .pre .target-filled) _ (b .pre .room) (ap length (read k) ∙ long b)
 
 same-length : tie.Need-same-length
 same-length c = search needs
@@ -89,22 +92,18 @@ same-length-2 c = search needs
 
 returns : tie.Need-returns
 returns c =
-    let c2 = c .before .before in
-    let c5 = c2 .before .before .before in
-    let c8 = c5 .before .before .before in
-    let c9 = c8 .before in
-    let b = c9 .before .before .before .before .before in
-    let a = b .args in
-    let s = decode (words (a .store .now)) in
-    let size = held-size (a .settings) (a .store .now) (b .pre .store) (s .ids (a .home)) (a .key .0) (b .pre .held) in
-    let read = room-read (a .room .now) (c8 .copy-bytes .last .0) _ (a .settings .size) (c8 .copy-bytes .ensures ∙ c9 .chunk .ensures) size in
-    let place = lent-place (b .pre .store) (c5 .span-of .ensures) (b .pre .target-in) in
-    let from = c5 .span-of .result .from in
-    let part : List ℕ = take (c5 .span-of .result .to - from) (drop from (a .store .now)) in
-    let bytes = bytes-in (s .bricks .log (s .ids (a .home))) (a .key .0) in
-    part-changed place (c2 .append-place .last .0)
-    (log-changes s (a .target) (part-stands place (b .pre .target-filled)) (with-chunk (a .key .0) bytes)) (c2 .append-place .kept .0)
-    (c2 .append-place .ensures ∙ ap (λ (d : List ℕ). change (place-codec (a .settings)) (on-log (with-chunk (a .key .0) d)) (words part)) read)
+    let l = c .before .before .before .before .before in
+    let k = moved l in
+    let b = start k in
+    let t = b .args .settings in
+    let from = l .span-of .result .from in
+    let part : List ℕ = take (l .span-of .result .to - from) (drop from (b .args .store .now)) in
+    let f = with-chunk (b .args .key .0) (held-bytes b) in
+    let changed = log-changes (decode (words (b .args .store .now))) (b .args .target) (part-filled (place l) (b .pre .target-filled)) f in
+    let done = c .before .before .append in
+    part-changed (place l) (done .last .0) changed (done .kept .0)
+    (done .ensures ∙ ap (λ (d : List ℕ). on-run (log-at t) (log-words t) (change (log-codec t) (with-chunk (b .args .key .0) d)) (words part)) (read k)
+    ∙ place-grown (place l) (b .pre .target-filled) f)
 
 pub copy-by-spec : {M : Type 1} → statement M
 copy-by-spec =
@@ -115,12 +114,12 @@ copy-by-spec =
     chunk-requires
     copy-bytes-requires
     span-of-requires
-    sub-append-place
-    part-append-place-start
-    part-append-place-end
-    slice-reshare-prefix-append-place
-    slice-aggregate-append-place
-    append-place-requires
+    sub-append
+    part-append-start
+    part-append-end
+    slice-reshare-prefix-append
+    slice-aggregate-append
+    append-requires
     same-length
     same-length-2
     returns)

@@ -1,22 +1,33 @@
-use mathlib.Core.Path.{sym, _∙_}
-use native.Mathlib.Omega.{arith}
-use Rattle.lists.proofs.Tests.{and-l}
+use mathlib.Core.Path.{_≡_, sym, _∙_}
 use Rattle.words.specs.Words.{words}
 use Rattle.rules.specs.Chunks.{save-all}
 use Rattle.rules.specs.Event.{Event}
+use Rattle.rules.specs.Question.{first-no}
 use Rattle.rules.specs.Writes.{savelog-effect}
 use Rattle.rules.specs.Step.{rule}
 use Rattle.layout.specs.Store.{decode}
-use Rattle.lent.proofs.Performs.{refuses, accepts}
-use Rattle.lent.proofs.Questions.{first-yes, first-stop}
-use Rattle.lent.proofs.LentPlace.{no-place, is-place-yes, up-filled, lent-place, part-inside, part-stands, part-brick, part-changed}
-use Rattle.writes.proofs.Places.{log-changes}
+use Rattle.lent.specs.Asks.{place-asks}
+use Rattle.lent.proofs.Performs.{refused, accepted}
+use Rattle.lent.proofs.Places.{UpPlace, place-yes}
+use Rattle.lent.proofs.LentPlace.{LentPlace, lent-place, part-inside, part-filled, part-brick, part-changed}
+use Rattle.writes.proofs.Logs.{log-changes}
 use borrow.Author.Needs.{needs}
 use Rattle.writes.proofs.savelog.savelog.Statement.{statement}
 use Rattle.writes.proofs.savelog.savelog.Tie as tie
 
-settings-requires : tie.Need-settings-requires
-settings-requires c κs = search needs
+asked : (c : tie.Else1) → let b = c .before .before .before .before in first-no (place-asks (decode (words (b .args .store .now))) (b .args .place)) ≡ 0
+asked c = sym (c .before .asks .ensures) ∙ c .if1 .left
+
+stands : (c : tie.Else1) → let b = c .before .before .before .before in UpPlace (b .args .settings) (decode (words (b .args .store .now))) (b .args .place)
+stands c = let b = c .before .before .before .before in place-yes (b .args .settings) (b .args .store .now) (b .pre) (b .args .place) (asked c)
+
+place : (c : tie.After-span-of)
+    → let b = c .before .before .before .before .before in
+    LentPlace (b .args .store .now) (b .args .settings) (b .args .place) (c .span-of .result .from) (c .span-of .result .to)
+place c = lent-place (c .before .before .before .before .before .pre) (c .span-of .ensures) (stands (c .before) .inside)
+
+asks-requires : tie.Need-asks-requires
+asks-requires c κs = search needs
 
 same-length : tie.Need-same-length
 same-length c = search needs
@@ -25,14 +36,10 @@ returns : tie.Need-returns
 unfolding rule
 returns c =
     let b = c .before .before .before .before in
-    refuses (Event.savelog (b .args .place)) (words (b .args .store .now)) (b .pre .sound) 2
-    (first-stop 3 _ (no-place (c .before .settings .ensures) (b .args .place) (c .if1 .taken)))
-
-up-member-requires : tie.Need-up-member-requires
-up-member-requires c κs = (c .before .before .settings .ensures, omega arith)
+    refused (Event.savelog (b .args .place)) (words (b .args .store .now)) (b .pre .sound) _ (c .before .asks .ensures) (c .if1 .taken)
 
 span-of-requires : tie.Need-span-of-requires
-span-of-requires c κs = (c .before .before .before .before .settings .ensures .limits, omega arith)
+span-of-requires c κs = (c .before .before .before .before .pre .limits, stands c .inside)
 
 sub-save-place : tie.Need-sub-save-place
 sub-save-place c = search needs
@@ -41,17 +48,10 @@ part-save-place-start : tie.Need-part-save-place-start
 part-save-place-start c = search needs
 
 part-save-place-end : tie.Need-part-save-place-end
-part-save-place-end c = part-inside (lent-place (c .before .before .before .before .before .settings .ensures) (c .span-of .ensures) (omega arith))
+part-save-place-end c = part-inside (place c)
 
 save-place-requires : tie.Need-save-place-requires
-save-place-requires c κs =
-    let c2 = c .before .before in
-    let c3 = c2 .before in
-    let c6 = c3 .before .before .before in
-    let c9 = c6 .before .before .before in
-    let store = c6 .settings .ensures in
-    let up = and-l _ _ (sym (c3 .up-member .ensures) ∙ c2 .if2 .taken) in
-    part-brick (lent-place store (c .before .span-of .ensures) (omega arith)) (up-filled store (c9 .args .place) up)
+save-place-requires c κs = part-brick (place (c .before)) (stands (c .before .before) .filled)
 
 same-length-2 : tie.Need-same-length-2
 same-length-2 c = search needs
@@ -59,45 +59,24 @@ same-length-2 c = search needs
 returns-2 : tie.Need-returns-2
 unfolding rule savelog-effect
 returns-2 c =
-    let c2 = c .before .before in
-    let c4 = c2 .before .before in
-    let c5 = c4 .before in
-    let c6 = c5 .before in
-    let c9 = c6 .before .before .before in
-    let b = c9 .before .before .before in
-    let ws = words (b .args .store .now) in
-    let store = c9 .settings .ensures in
-    let place = lent-place store (c4 .span-of .ensures) (omega arith) in
-    let live = sym (c6 .up-member .ensures) ∙ c5 .if2 .taken in
-    let stands = part-stands place (up-filled store (b .args .place) (and-l _ _ live)) in
-    accepts (Event.savelog (b .args .place)) ws _ (is-place-yes store (b .args .place) (omega arith), (live, tt))
-    (part-changed place (c2 .save-place .last .0) (log-changes (decode ws) (b .args .place) stands save-all) (c2 .save-place .kept .0) (c2 .save-place .ensures))
-
-same-length-3 : tie.Need-same-length-3
-same-length-3 c = search needs
-
-returns-3 : tie.Need-returns-3
-unfolding rule
-returns-3 c =
-    let c4 = c .before .before .before .before in
-    let b = c4 .before .before .before in
-    refuses (Event.savelog (b .args .place)) (words (b .args .store .now)) (b .pre .sound) 5
-    (first-yes 3 _ (is-place-yes (c4 .settings .ensures) (b .args .place) (omega arith)) ∙ first-stop 6 _ (sym (c .before .up-member .ensures) ∙ c .if2 .left))
+    let k = c .before .before .before .before in
+    let b = k .before .before .before .before .before in
+    let changed = log-changes (decode (words (b .args .store .now))) (b .args .place) (part-filled (place k) (stands (k .before) .filled)) save-all in
+    let done = c .before .before .save-place in
+    accepted (Event.savelog (b .args .place)) (words (b .args .store .now)) _ (asked (k .before))
+    (part-changed (place k) (done .last .0) changed (done .kept .0) (done .ensures))
 
 pub savelog-spec : {M : Type 1} → statement M
 savelog-spec =
     tie.close
     (tie.spec
-    settings-requires
+    asks-requires
     same-length
     returns
-    up-member-requires
     span-of-requires
     sub-save-place
     part-save-place-start
     part-save-place-end
     save-place-requires
     same-length-2
-    returns-2
-    same-length-3
-    returns-3)
+    returns-2)

@@ -1,0 +1,48 @@
+-- The bytes of a chunk: where they lie in its log, and how many they are.
+use mathlib.Core.Path.{_≡_, refl, sym, ap, subst, _∙_}
+use mathlib.Core.List.{List, [], _∷_}
+use mathlib.Core.Bool.{true, false}
+use Prim.Native.Nat.{ℕ}
+use lib.Dec.{eqb}
+use lib.ListN.{length}
+use borrow.Author.Tests.{eqb-true}
+use Rattle.lists.specs.Tests.{some}
+use Rattle.lists.proofs.Tests.{by, clash, and-l, or-l, or-no}
+use Rattle.words.specs.Words.{words}
+use Rattle.rules.specs.declared.settings.Settings.{Settings}
+use Rattle.rules.specs.Numbers.{is-data}
+use Rattle.rules.specs.Chunks.{Chunk, held, bytes-in}
+use Rattle.rules.specs.Sound.{keys-apart}
+use Rattle.rules.proofs.Chunks.{held-in}
+use Rattle.log.specs.Log.{chunk-at}
+use Rattle.log.specs.Answers.{FoundAt}
+use Rattle.log.proofs.Rules.{found-bytes}
+use Rattle.layout.specs.Layout.{log-codec}
+use Rattle.layout.specs.Store.{decode}
+use Rattle.lent.specs.Parts.{LogPart}
+use Rattle.lent.specs.Stores.{StoreOf}
+use Rattle.lent.proofs.Stores.{settings-are, facts}
+
+-- a log that does not hold the key has no bytes of it
+pub none-bytes : (l : List Chunk) (k : ℕ) → held l k ≡ false → bytes-in l k ≡ []
+unfolding held some bytes-in
+none-bytes [] k n = refl
+none-bytes (x ∷ l) k n =
+    by (eqb k (x .key)) (λ y. clash n (or-l _ _ y)) (λ z. rw z (none-bytes l k (sym (or-no _ _ z) ∙ n)))
+
+-- those of the row that look-up has found
+pub row-bytes : (c : Settings) (l : List Chunk) (bs : List ℕ) → LogPart c l bs → (k row : ℕ) → FoundAt (log-codec c .dec (words bs)) k row → keys-apart l ≡ true
+    → chunk-at (log-codec c .dec (words bs)) row .bytes ≡ bytes-in l k
+row-bytes c l bs h k row f y =
+    let g : FoundAt l k row = subst (λ (x : List Chunk). FoundAt x k row) (h .same) f in
+    ap (λ (x : List Chunk). chunk-at x row .bytes) (h .same) ∙ sym (found-bytes k l row y (g .in-use) (g .same))
+
+-- those of a chunk that is held are a block's
+pub held-size : (c : Settings) (bs : List ℕ) → StoreOf c bs → (id key : ℕ) → held (decode (words bs) .bricks .log id) key ≡ true
+    → length (bytes-in (decode (words bs) .bricks .log id) key) ≡ c .size
+unfolding is-data
+held-size c bs so id key y =
+    let s = decode (words bs) in
+    let found = held-in (s .bricks .log id) key y in
+    let sized = eqb-true (length (found .0 .bytes)) (s .settings .size) (and-l _ _ (facts c bs so .logs id .each (found .0) (found .1) .bytes)) in
+    ap length (found .3) ∙ sized ∙ ap (λ (d : Settings). d .size) (settings-are c bs so)

@@ -1,0 +1,60 @@
+use mathlib.Core.Path.{_≡_, sym, ap, _∙_}
+use borrow.Author.Needs.{needs}
+use Rattle.lists.specs.Tests.{_and_}
+use Rattle.rules.specs.Parts.{up-member}
+use Rattle.words.specs.Words.{words}
+use Rattle.layout.specs.Disk.{Brick, blank-brick}
+use Rattle.layout.specs.Store.{brick-in, decode}
+use Rattle.lent.specs.Places.{Stands}
+use Rattle.lent.proofs.brick.find_member.Statement.{statement}
+use Rattle.lent.proofs.brick.find_member.Tie as tie
+
+place-of-requires : tie.Need-place-of-requires
+place-of-requires c κs = search needs
+
+enum-known-place : tie.Need-enum-known-place
+enum-known-place c = search needs
+
+up-member-requires : tie.Need-up-member-requires
+up-member-requires c κs =
+    let s = c .before .before .before .before .before in
+    let h : Stands (s .args .settings) (decode (words (s .args .store .now))) (s .args .id) (c .before .place .given .0 .0) =
+    rw (c .before .place .given .1) at (c .before .before .before .place-of .ensures) in
+    (s .pre, h .inside)
+
+returns : tie.Need-returns
+returns c =
+    let s = c .before .before .before .before .before .before .before in
+    let h : Stands (s .args .settings) (decode (words (s .args .store .now))) (s .args .id) (c .before .before .before .place .given .0 .0) =
+    rw (c .before .before .before .place .given .1) at (c .before .before .before .before .before .place-of .ensures) in
+    record { stands = h; up = ap (up-member (decode (words (s .args .store .now)))) (sym (h .here)) ∙ sym (c .before .up-member .ensures) ∙ c .if1 .taken }
+
+enum-told : tie.Need-enum-told
+enum-told c = search needs
+
+returns-2 : tie.Need-returns-2
+returns-2 c =
+    let s = c .before .before .before .before .before .before .before in
+    let h : Stands (s .args .settings) (decode (words (s .args .store .now))) (s .args .id) (c .before .before .before .place .given .0 .0) =
+    rw (c .before .before .before .place .given .1) at (c .before .before .before .before .before .place-of .ensures) in
+    ap (up-member (decode (words (s .args .store .now)))) (sym (h .here)) ∙ sym (c .before .up-member .ensures) ∙ c .if1 .left
+
+returns-3 : tie.Need-returns-3
+unfolding _and_
+returns-3 c =
+    let s = c .before .before .before .before in
+    let h : brick-in (decode (words (s .args .store .now))) (s .args .id) ≡ blank-brick = rw (c .enum-told .given .1) at
+    (c .before .before .place-of .ensures) in
+    ap (λ (b : Brick). b .status .up and b .status .member) h
+
+pub find-member-spec : {M : Type 1} → statement M
+find-member-spec =
+    tie.close
+    (tie.spec
+    place-of-requires
+    enum-known-place
+    up-member-requires
+    returns
+    enum-told
+    returns-2
+    returns-3)

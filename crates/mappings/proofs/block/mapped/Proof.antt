@@ -1,0 +1,32 @@
+use mathlib.Core.Path.{ap, _∙_}
+use Prim.Native.Nat.{ℕ}
+use Rattle.words.specs.Words.{words}
+use Rattle.rules.specs.Entries.{look}
+use Rattle.layout.specs.Disk.{Agreed}
+use Rattle.layout.specs.Store.{decode}
+use Rattle.lent.proofs.Buckets.{number-is}
+use borrow.Author.Needs.{needs}
+use Rattle.mappings.proofs.block.mapped.Statement.{statement}
+use Rattle.mappings.proofs.block.mapped.Tie as tie
+
+number-requires : tie.Need-number-requires
+number-requires c κs = search needs
+
+agreed-requires : tie.Need-agreed-requires
+agreed-requires c κs = search needs
+
+in-memory-requires : tie.Need-in-memory-requires
+in-memory-requires c κs = search needs
+
+returns : tie.Need-returns
+returns c =
+    let s = c .before .before .before .before in
+    let state = decode (words (s .args .store .now)) in
+    let b = s .args .block .0 in
+    let n = c .before .before .number .result in
+    c .in-memory .ensures ∙ ap (λ (a : Agreed). look (state .bucket n .memory (a .primary)) b) (c .before .agreed .ensures)
+    ∙ ap (λ (g : ℕ). look (state .bucket g .memory (state .bucket g .primary)) b)
+    (c .before .before .number .ensures .0 ∙ number-is (s .args .settings) (s .args .store .now) (s .pre) b)
+
+pub mapped-spec : {M : Type 1} → statement M
+mapped-spec = tie.close (tie.spec number-requires agreed-requires in-memory-requires returns)

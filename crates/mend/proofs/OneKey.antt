@@ -1,0 +1,59 @@
+-- What becomes of one key, as the code decides it.
+use mathlib.Core.Path.{_≡_, sym, ap, _∙_}
+use mathlib.Core.Bool.{true, false}
+use mathlib.Core.List.{List, [], _∷_}
+use Prim.Native.Nat.{ℕ}
+use native.Mathlib.Omega.{arith}
+use lib.ListN.{length, length-append}
+use Rattle.lists.specs.Runs.{Below}
+use Rattle.words.specs.Words.{words}
+use Rattle.rules.specs.declared.settings.Settings.{Settings}
+use Rattle.rules.specs.Chunks.{Chunk, chunk, held, bytes-in, append, save-key}
+use Rattle.rules.specs.State.{State}
+use Rattle.log.specs.Steps.{hold-saved}
+use Rattle.layout.specs.Store.{decode}
+use Rattle.mend.specs.Fit.{with-log-at, log-of, Brings, Mends, key-mended}
+use Rattle.mend.specs.Keys.{wants}
+use Rattle.mend.specs.Acts.{Lacking}
+use Rattle.mend.proofs.Mending.{key-none, key-saved, key-added}
+use Rattle.mend.proofs.Flagged.{holds-it}
+use Rattle.mend.proofs.OnStore.{log-still}
+
+module _ (c : Settings) (bs : List ℕ) (p k : ℕ) (m : Mends c bs p k) where
+  abbrev s : State
+  s = decode (words bs)
+
+  abbrev log : List Chunk
+  log = log-of p (words bs)
+
+  pub unmended : Below 256 bs → wants s (s .ids p) k ≡ false → words bs ≡ with-log-at c p (key-mended p k (words bs)) (words bs)
+  unmended b n =
+      log-still c bs p (m .there) b ∙ ap (λ (l : List Chunk). with-log-at c p l (words bs)) (sym (key-none s (s .ids p) log k n))
+
+  pub saved : wants s (s .ids p) k ≡ true → held log k ≡ true → (vs : List ℕ) → vs ≡ with-log-at c p (save-key log k) (words bs)
+      → vs ≡ with-log-at c p (key-mended p k (words bs)) (words bs)
+  saved w h vs q = q ∙ ap (λ (l : List Chunk). with-log-at c p l (words bs)) (sym (key-saved s (s .ids p) log k w h))
+
+  module _ (from : ℕ) (o : Lacking c s (s .ids p) k from) where
+    abbrev bytes : List ℕ
+    bytes = bytes-in (log-of from (words bs)) k
+
+    grown : key-mended p k (words bs) ≡ append log (chunk k true bytes)
+    grown =
+        key-added s (s .ids p) log k (o .wanted) (o .missing)
+        ∙ ap (λ (i : ℕ). append log (chunk k true (bytes-in (s .bricks .log i) k))) (sym (o .from .here))
+
+    pub brings : Brings c bs p from k
+    brings = record {
+      there = m .there;
+      inside = o .from .inside;
+      holds = holds-it c bs (m .there .store) k from (o .from) .holds;
+      room = omega (arith, m .room, ap length grown ∙ length-append log (chunk k true bytes ∷ []));
+    }
+
+    pub brought : (vs : List ℕ) → vs ≡ with-log-at c p (hold-saved k bytes log) (words bs)
+        → vs ≡ with-log-at c p (key-mended p k (words bs)) (words bs)
+    brought vs q = q ∙ ap (λ (l : List Chunk). with-log-at c p l (words bs)) (added ∙ sym grown)
+      where
+        added : hold-saved k bytes log ≡ append log (chunk k true bytes)
+        added = rw (o .missing)

@@ -1,0 +1,20 @@
+use mathlib.Core.Path.{refl}
+use native.Mathlib.Omega.{arith}
+use borrow.Author.Needs.{needs}
+use Rattle.mend.proofs.effect.mend_named.Statement.{statement}
+use Rattle.mend.proofs.effect.mend_named.Tie as tie
+
+returns : tie.Need-returns
+returns c = record { none = λ z. refl; some = λ z. absurd (omega arith) }
+
+mend-table-requires : tie.Need-mend-table-requires
+mend-table-requires c κs = c .before .before .before .pre (omega arith)
+
+same-length : tie.Need-same-length
+same-length c = search needs
+
+returns-2 : tie.Need-returns-2
+returns-2 c = record { none = λ z. absurd (omega arith); some = λ z. c .before .before .mend-table .ensures }
+
+pub mend-named-spec : {M : Type 1} → statement M
+mend-named-spec = tie.close (tie.spec returns mend-table-requires same-length returns-2)

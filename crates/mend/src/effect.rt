@@ -1,0 +1,115 @@
+// The effect of mend, key by key: a place's log gets chunks saved that up members hold.
+ghost use mathlib.Core.Path.{_≡_};
+ghost use mathlib.Core.Bool.{true};
+ghost use Prim.Native.Nat.{_<_, _≤_};
+ghost use lib.ListN.{length, take};
+ghost use Rattle.words.specs.Words.{words};
+ghost use Rattle.rules.specs.Chunks.{held, bytes-in, save-key};
+ghost use Rattle.rules.specs.Upkeep.{mend-effect};
+ghost use Rattle.log.specs.Steps.{hold-saved};
+ghost use Rattle.layout.specs.Store.{decode, render};
+ghost use Rattle.lent.specs.Stores.{StoreOf};
+ghost use Rattle.mend.specs.Fit.{with-log-at, log-of, UpAt, Brings, Mends, key-mended, MendsTable, table-mended, Mended, MendsAll};
+use crate::act;
+use crate::act::Act;
+use crate::chunk;
+use layout::sizes;
+use rules::numbers::ChunkKey;
+use rules::settings::Settings;
+
+// ---- one key
+
+// The bytes of a chunk that the brick at a place holds are copied to the front of an area.
+fn fetch(area: &mut [u8], store: &[u8], settings: Settings, place: usize, key: ChunkKey)
+    requires { ⌜ StoreOf settings (now store) × (place < settings .places) × (settings .size ≤ length (now area)) ⌝ }
+    requires { ⌜ held (log-of place (words (now store))) (key .0) ≡ true ⌝ }
+    ensures { λ _. ⌜ take (settings .size) (now (area .exit)) ≡ bytes-in (log-of place (words (now (store .entry)))) (key .0) ⌝ }
+{
+    let size = settings.size;
+    moves::copy_bytes(
+        &mut area[0..size],
+        holders::chunk(store, settings, place, key),
+    );
+}
+
+// The chunk that the brick at the place holds becomes saved.
+fn save_at(store: &mut [u8], settings: Settings, place: usize, key: ChunkKey)
+    requires { ⌜ UpAt settings (now store) place ⌝ }
+    ensures { λ _. ⌜ words (now (store .exit))
+        ≡ with-log-at settings place (save-key (log-of place (words (now (store .entry)))) (key .0)) (words (now (store .entry))) ⌝ }
+{
+    let a = 8 * sizes::place_at(settings, place);
+    let e = a + 8 * sizes::place_words(settings);
+    chunk::save_chunk(&mut store[a..e], settings, key);
+}
+
+// The chunk comes from another place.
+fn bring(store: &mut [u8], settings: Settings, place: usize, from: usize, key: ChunkKey)
+    requires { ⌜ Brings settings (now store) place from (key .0) ⌝ }
+    ensures { λ _. ⌜ words (now (store .exit))
+        ≡ with-log-at settings place
+        (hold-saved (key .0) (bytes-in (log-of from (words (now (store .entry)))) (key .0)) (log-of place (words (now (store .entry)))))
+        (words (now (store .entry))) ⌝ }
+{
+    let mut area = [0u8; Settings::MAX_SIZE];
+    fetch(&mut area, store, settings, from, key);
+    let a = 8 * sizes::place_at(settings, place);
+    let e = a + 8 * sizes::place_words(settings);
+    let size = settings.size;
+    chunk::mend_chunk(&mut store[a..e], settings, key, &area[0..size]);
+}
+
+// The place does for the key what it is to do.
+fn mend_key(store: &mut [u8], settings: Settings, place: usize, key: ChunkKey)
+    requires { ⌜ Mends settings (now store) place (key .0) ⌝ }
+    ensures { λ _. ⌜ words (now (store .exit))
+        ≡ with-log-at settings place (key-mended place (key .0) (words (now (store .entry)))) (words (now (store .entry))) ⌝ }
+{
+    match act::for_key(store, settings, place, key) {
+        Act::Nothing => {}
+        Act::Save => save_at(store, settings, place, key),
+        Act::Bring(from) => bring(store, settings, place, from, key),
+    }
+}
+
+// ---- the keys of a table, and of all
+
+// The place gets the chunks saved that the entries of the table at word `from` name.
+fn mend_table(store: &mut [u8], settings: Settings, place: usize, from: usize)
+    requires { ⌜ MendsTable settings (now store) place from ⌝ }
+    ensures { λ _. ⌜ words (now (store .exit))
+        ≡ with-log-at settings place (table-mended settings place from (words (now (store .entry)))) (words (now (store .entry))) ⌝ }
+{
+    let n = words::read(store, from) as usize;
+    let mut i = 0;
+    while i < n {
+        let key = words::read(store, from + (2 + i * sizes::ENTRY_WORDS));
+        mend_key(store, settings, place, ChunkKey(key));
+        i += 1;
+    }
+}
+
+// The same, and nothing where `from` is 0.
+fn mend_named(store: &mut [u8], settings: Settings, place: usize, from: usize)
+    requires { ⌜ (0 < from → MendsTable settings (now store) place from) ⌝ }
+    ensures { λ _. ⌜ Mended settings place from (words (now (store .entry))) (words (now (store .exit))) ⌝ }
+{
+    if from == 0 {
+        return;
+    }
+    mend_table(store, settings, place, from);
+}
+
+// The place gets every chunk saved that is named, bucket by bucket.
+pub fn mend_all(store: &mut [u8], settings: Settings, place: usize, tables: &[usize])
+    requires { ⌜ MendsAll settings (now store) place (now tables) ⌝ }
+    ensures { λ _. ⌜ words (now (store .exit))
+        ≡ render (mend-effect (decode (words (now (store .entry)))) (decode (words (now (store .entry))) .ids place)) (words (now (store .entry))) ⌝ }
+{
+    let count = sizes::buckets(settings);
+    let mut bucket = 0;
+    while bucket < count {
+        mend_named(store, settings, place, tables[bucket]);
+        bucket += 1;
+    }
+}
