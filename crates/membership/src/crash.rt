@@ -20,6 +20,7 @@ use lent::place::Span;
 use parts::status::Status;
 use rules::settings::Settings;
 
+// Is there such a place, and is its brick up? The number of the first no, or 0.
 fn asks(store: &[u8], settings: Settings, place: u64) -> u64
     requires { ⌜ StoreOf settings (now store) ⌝ }
     ensures { λ r. ⌜ r ≡ first-no (crash-asks (decode (words (now (store .entry)))) place) ⌝ }
@@ -33,6 +34,7 @@ fn asks(store: &[u8], settings: Settings, place: u64) -> u64
     13
 }
 
+// The place's part: the status, then the buffer, the copies and the log.
 fn crash_place(part: &mut [u8], settings: Settings)
     requires { ⌜ HoldsBrick settings (words (now part)) (length (now part)) ⌝ }
     ensures { λ _. ⌜ words (now (part .exit)) ≡ change (place-codec settings) crashed (words (now (part .entry))) ⌝ }

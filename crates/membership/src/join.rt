@@ -15,6 +15,7 @@ use parts::status::Status;
 use rules::constants;
 use rules::settings::Settings;
 
+// Is there such a place, an id left, and no brick at it? The number of the first no, or 0.
 fn asks(store: &[u8], settings: Settings, place: u64) -> u64
     requires { ⌜ StoreOf settings (now store) ⌝ }
     ensures { λ r. ⌜ r ≡ first-no (join-asks (decode (words (now (store .entry)))) place) ⌝ }
