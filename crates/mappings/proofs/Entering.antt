@@ -13,7 +13,7 @@ use Rattle.rules.specs.Entries.{Entry, insert}
 use Rattle.rules.specs.State.{State, Bucket, with-copies}
 use Rattle.codec.specs.Codec.{change}
 use Rattle.codec.proofs.Focus.{Focus, _through_}
-use Rattle.layout.specs.Disk.{Copies}
+use Rattle.layout.specs.Disk.{Copies, Brick}
 use Rattle.layout.specs.Layout.{brick-codec, copy-codec, copy-words, copies-at, place-at}
 use Rattle.layout.specs.Store.{brick-in, agreed-in, decode, render}
 use Rattle.layout.proofs.Changes.{OneBrick}
@@ -29,6 +29,10 @@ use Rattle.lent.proofs.Effects.{brick-value, brick-effect}
 abbrev pub both-copies : Bucket → ℕ → Copies
 both-copies k i = record { memory = k .memory i; disk = k .disk i }
 
+-- a brick with other copies, the rest as it is
+abbrev pub set-brick-copies : Brick → (ℕ → Copies) → Brick
+set-brick-copies b f = record { here = b .here; status = b .status; buffer = b .buffer; copies = f; log = b .log }
+
 -- ---- the change is one of that brick's copy alone
 module _ (s : State) (g id block key : ℕ) where
   abbrev new : Bucket
@@ -42,13 +46,7 @@ module _ (s : State) (g id block key : ℕ) where
     proxy = refl;
     bag = refl;
     ids = refl;
-    others = λ i q. ap (λ (f : ℕ → Copies). record {
-      here = brick-in s i .here;
-      status = brick-in s i .status;
-      buffer = brick-in s i .buffer;
-      copies = f;
-      log = brick-in s i .log;
-    }) (fun-ext (upd-all (λ j k. both-copies (s .bucket j) i ≡ both-copies k i) (s .bucket) g new (λ j. refl)
+    others = λ i q. ap (set-brick-copies (brick-in s i)) (fun-ext (upd-all (λ j k. both-copies (s .bucket j) i ≡ both-copies k i) (s .bucket) g new (λ j. refl)
         (ap (λ (l : List Entry). record { memory = l; disk = s .bucket g .disk i })
         (sym (upd-other (s .bucket g .memory) id i (insert (s .bucket g .memory id) block key) q)))));
   }

@@ -20,6 +20,7 @@ use Rattle.lent.specs.Parts.{AllCopiesFit, all-matched}
 use Rattle.lent.specs.Places.{HoldsBrick}
 use Rattle.lent.proofs.LentPlace.{ChangesPlace, Filled, brick-changes}
 use Rattle.lent.proofs.PlaceSteps.{all-copies-of, step-changed, copies-fit}
+use Rattle.mappings.proofs.Entering.{set-brick-copies}
 use Rattle.maps.specs.Saved.{saved}
 
 -- ---- the rules' effect changes the copies of one brick
@@ -32,13 +33,7 @@ module _ (s : State) (id : ℕ) where
     proxy = refl;
     bag = refl;
     ids = refl;
-    others = λ i q. ap (λ (f : ℕ → Copies). record {
-      here = brick-in s i .here;
-      status = brick-in s i .status;
-      buffer = brick-in s i .buffer;
-      copies = f;
-      log = brick-in s i .log;
-    }) (fun-ext (λ g. ap (λ (l : List Entry). record { memory = s .bucket g .memory i; disk = l })
+    others = λ i q. ap (set-brick-copies (brick-in s i)) (fun-ext (λ g. ap (λ (l : List Entry). record { memory = s .bucket g .memory i; disk = l })
         (sym (upd-other (s .bucket g .disk) id i (s .bucket g .memory id) q))));
   }
 
@@ -50,13 +45,7 @@ pub saved-place : (s : State) (p : ℕ) → Filled s p → ChangesPlace s (savem
 unfolding savemap-effect
 saved-place s p at =
     brick-changes s (savemap-effect s (s .ids p)) p saved at refl (saved-one s (s .ids p))
-    (ap (λ (f : ℕ → Copies). s .ids p & record {
-      here = brick-in s (s .ids p) .here;
-      status = brick-in s (s .ids p) .status;
-      buffer = brick-in s (s .ids p) .buffer;
-      copies = f;
-      log = brick-in s (s .ids p) .log;
-    }) (saved-copies s (s .ids p)))
+    (ap (λ (f : ℕ → Copies). s .ids p & set-brick-copies (brick-in s (s .ids p)) f) (saved-copies s (s .ids p)))
 
 -- ---- the copies of a place, lent: bytes o to e of s
 module _ (c : Settings) (s : List ℕ) (k : HoldsBrick c (words s) (length s)) (o e : ℕ) (eo : o ≡ 8 * all-copies-at) (ee : e ≡ 8 * log-at c) where
