@@ -69,7 +69,7 @@ fn line_length(kind: u64, a: u64, b: u64, c: u64, data: &[u8], size: usize) -> u
 }
 
 // A comma and a number, from a place on; the place after them.
-fn put_number(number: u64, line: &mut [u8], at: usize) -> usize
+pub fn put_number(number: u64, line: &mut [u8], at: usize) -> usize
     requires { ⌜ at + (1 + length (decimal number)) ≤ length (now line) ⌝ }
     ensures { λ r. ⌜ (r ≡ at + (1 + length (decimal number))) × (now (line .exit) ≡ onto at (comma ∷ decimal number) (now (line .entry))) ⌝ }
 {
@@ -78,7 +78,7 @@ fn put_number(number: u64, line: &mut [u8], at: usize) -> usize
 }
 
 // The first n of three numbers, from a place on; the place after them.
-fn put_numbers(a: u64, b: u64, c: u64, n: u8, line: &mut [u8], at: usize) -> usize
+pub fn put_numbers(a: u64, b: u64, c: u64, n: u8, line: &mut [u8], at: usize) -> usize
     requires { ⌜ (n ≤ 3) × (at + length (number-texts n a b c) ≤ length (now line)) ⌝ }
     ensures { λ r. ⌜ (r ≡ at + length (number-texts n a b c)) × (now (line .exit) ≡ onto at (number-texts n a b c) (now (line .entry))) ⌝ }
 {

@@ -94,7 +94,7 @@ fn keep_up(store: &mut [u8], settings: Settings, kind: u64, place: u64) -> Answe
 }
 
 // Any kind, on a sound store; a number of no kind answers 3.
-fn perform<'a>(
+pub fn perform<'a>(
     store: &'a mut [u8],
     settings: Settings,
     kind: u64,
