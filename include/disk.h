@@ -1,7 +1,8 @@
 /* The drawing disk: the calls for the network layer in C.
  *
- * Every area is lent for the time of the call: the library keeps no pointer and allocates nothing. A pointer is not null, also where its length is 0,
- * and an area that a call writes overlaps no other area of that call. No call has another condition: every input has the answer described here.
+ * Every area is lent for the time of the call: the library keeps no pointer and allocates nothing. A pointer is not NULL, also where its length is 0:
+ * for an area that a call does not look at, lend the address of any byte with length 0, or call disk_do, disk_put or disk_get, which do so. An area that
+ * a call writes overlaps no other area of that call. No call has another condition: every input has the answer described here.
  * A code of 0 says yes; any other is the number of the question that says no, and then all other fields are 0 and no lent byte has changed. Only the
  * numbers of disk_length, a length, and of disk_alike are others. */
 #ifndef DISK_H
@@ -9,6 +10,56 @@
 
 #include <stddef.h>
 #include <stdint.h>
+
+#ifdef __cplusplus
+extern "C" {
+#endif
+
+/* The codes: 0, and the questions by their numbers. What each says of a call is described at that call. */
+enum {
+    DISK_OK = 0,
+    DISK_BAD_SETTINGS = 1,
+    DISK_UNSOUND = 2,
+    DISK_BAD_INPUT = 3,
+    DISK_WRONG_PROXY = 4,
+    DISK_VIEW_UNKNOWN = 5,
+    DISK_NO_MEMBER = 6,
+    DISK_NOT_READY = 7,
+    DISK_PENDING = 8,
+    DISK_WRONG_ITEM = 9,
+    DISK_NO_ROOM = 10,
+    DISK_NO_CHUNK = 11,
+    DISK_NO_NUMBER = 12,
+    DISK_WRONG_STATE = 13,
+    DISK_BACKUP_FULL = 14,
+    DISK_OTHER_KEY = 15
+};
+
+/* The kinds of events. */
+enum {
+    DISK_PUT = 1,
+    DISK_COPY = 2,
+    DISK_SAVELOG = 3,
+    DISK_MAP = 4,
+    DISK_SEND = 5,
+    DISK_DELIVER = 6,
+    DISK_DROP = 7,
+    DISK_SAVEMAP = 8,
+    DISK_DONE = 9,
+    DISK_GET = 10,
+    DISK_ABANDON = 11,
+    DISK_LEARN = 12,
+    DISK_RESET = 13,
+    DISK_CRASH = 14,
+    DISK_LOSE = 15,
+    DISK_RISE = 16,
+    DISK_JOIN = 17,
+    DISK_VIEW = 18,
+    DISK_FETCH = 19,
+    DISK_READY = 20,
+    DISK_MEND = 21,
+    DISK_COLLECT = 22
+};
 
 /* A line of text has at most so many bytes, its line feed counted. */
 #define DISK_LONGEST_LINE 16500
@@ -98,6 +149,29 @@ uint64_t disk_check(const uint8_t *store, size_t store_length);
 disk_step_answer disk_step(uint8_t *store, size_t store_length, uint64_t kind, uint64_t a, uint64_t b, uint64_t c, const uint8_t *data, size_t data_length,
                            const uint8_t *zero, size_t zero_length, uint8_t *answer, size_t answer_length);
 
+/* An event of a kind that looks at no area: all kinds but put and get. A put or a get has no S bytes here: it answers 3, or 2 as every kind does. */
+static inline disk_step_answer disk_do(uint8_t *store, size_t store_length, uint64_t kind, uint64_t a, uint64_t b, uint64_t c)
+{
+    uint8_t none = 0;
+    return disk_step(store, store_length, kind, a, b, c, &none, 0, &none, 0, &none, 0);
+}
+
+/* A put, which looks at the data alone. */
+static inline disk_step_answer disk_put(uint8_t *store, size_t store_length, uint64_t proxy, uint64_t place, uint64_t block, const uint8_t *data,
+                                        size_t data_length)
+{
+    uint8_t none = 0;
+    return disk_step(store, store_length, DISK_PUT, proxy, place, block, data, data_length, &none, 0, &none, 0);
+}
+
+/* A get, which looks at the zero block and the answer area alone. */
+static inline disk_step_answer disk_get(uint8_t *store, size_t store_length, uint64_t proxy, uint64_t block, const uint8_t *zero, size_t zero_length,
+                                        uint8_t *answer, size_t answer_length)
+{
+    uint8_t none = 0;
+    return disk_step(store, store_length, DISK_GET, proxy, block, 0, &none, 0, zero, zero_length, answer, answer_length);
+}
+
 /* Whether two stores are alike: same settings, view and members and, for each bucket, the same blocks and keys in the primary's memory. They may be the
  * same bytes. The number is no question's but for 2; it is what cmp and diff answer.
  * 0: they are alike. 1: they are not. 2: one of them is not a sound store. */
@@ -118,5 +192,33 @@ disk_line_answer disk_print(uint64_t kind, uint64_t a, uint64_t b, uint64_t c, c
  * 0: the line is four numbers below 2^64; whether they are within the limits is asked by format.
  * 3: it is not. */
 disk_settings_answer disk_parse_settings(const uint8_t *line, size_t line_length);
+
+/* What a code says: a constant text, for every number. The numbers of disk_length and disk_alike are no codes. */
+static inline const char *disk_code_text(uint64_t code)
+{
+    static const char *const texts[] = {
+        "done",
+        "a setting is outside its limits, or the memory has another length",
+        "the store is not sound",
+        "no such kind, or a field, an area or a line is not as it must be",
+        "the block is not the proxy's",
+        "the proxy does not know the present view",
+        "the brick needed is no up member",
+        "the bucket is not ready",
+        "the block is pending or waits in the buffer",
+        "the block has an item already, or has none",
+        "no room",
+        "the chunk is not held where it must be",
+        "no number is left",
+        "the bricks, the bucket or the block are not in the state for it",
+        "no room at the backup",
+        "the primary's key is not the item's",
+    };
+    return code < sizeof texts / sizeof texts[0] ? texts[code] : "no such code";
+}
+
+#ifdef __cplusplus
+}
+#endif
 
 #endif
