@@ -1,0 +1,124 @@
+#include "lent.h"
+
+#include <inttypes.h>
+#include <stdio.h>
+#include <stdlib.h>
+#include <string.h>
+
+const settings least = {3, 8, 2, 4};
+const settings middle = {5, 64, 8, 16};
+const settings wide = {8, 8192, 4, 5};
+
+size_t length_of(settings settings)
+{
+    size_t copy = 1 + 2 * settings.entries;
+    size_t log = 1 + 3 * settings.chunks + settings.chunks * settings.size / 8;
+    size_t place = 1 + 3 + 2 + 65 + 16 * 2 * copy + log;
+    return 8 * (7 + 16 * 8 + 4 * 66 + 321 + settings.places * place);
+}
+
+uint64_t word(const area *store, size_t index)
+{
+    uint64_t value = 0;
+    for (size_t i = 8; i > 0; i--)
+        value = value << 8 | store->bytes[8 * index + i - 1];
+    return value;
+}
+
+void set_word(area *store, size_t index, uint64_t value)
+{
+    for (size_t i = 0; i < 8; i++)
+        store->bytes[8 * index + i] = (uint8_t)(value >> 8 * i);
+}
+
+lent formatted(position position, settings settings)
+{
+    lent lent = {
+        settings,
+        lend(position, length_of(settings)),
+        lend(position, settings.size),
+        lend(position, settings.size),
+        lend(position, settings.size),
+    };
+    memset(lent.data.bytes, 0xd1, lent.data.length);
+    memset(lent.zero.bytes, 0, lent.zero.length);
+    seal(&lent.data);
+    seal(&lent.zero);
+    EXPECT(disk_format(lent.store.bytes, lent.store.length, settings.places, settings.size, settings.entries, settings.chunks) == DISK_OK);
+    return lent;
+}
+
+void end(lent *lent)
+{
+    take_back(&lent->store);
+    take_back(&lent->data);
+    take_back(&lent->zero);
+    take_back(&lent->answer);
+}
+
+static uint64_t sound(const area *store)
+{
+    seal(store);
+    uint64_t code = disk_check(store->bytes, store->length);
+    unseal(store);
+    return code;
+}
+
+disk_step_answer step(lent *lent, uint64_t kind, uint64_t a, uint64_t b, uint64_t c)
+{
+    area *store = &lent->store, *data = &lent->data, *zero = &lent->zero, *answer = &lent->answer;
+    uint8_t *old_store = bytes_of(store), *old_answer = bytes_of(answer);
+    disk_step_answer told = disk_step(store->bytes, store->length, kind, a, b, c, data->bytes, data->length, zero->bytes, zero->length, answer->bytes,
+                                      answer->length);
+    bool accepted = told.code == DISK_OK;
+    EXPECT(accepted || told.key == 0);
+    EXPECT(same_since(store, old_store) || (accepted && kind != DISK_GET));
+    EXPECT(same_since(answer, old_answer) || (accepted && kind == DISK_GET));
+    EXPECT(sound(store) == DISK_OK);
+    return told;
+}
+
+/* Byte i of the data that belong to a key; key 0 has zeros. */
+static uint8_t data_byte(uint64_t key, size_t i)
+{
+    return key == NO_KEY ? 0 : (uint8_t)(1 + 37 * (key >> 56) + 11 * key + 7 * i + i / 256);
+}
+
+static void bring_data(lent *lent, uint64_t key)
+{
+    unseal(&lent->data);
+    for (size_t i = 0; i < lent->data.length; i++)
+        lent->data.bytes[i] = data_byte(key, i);
+    seal(&lent->data);
+}
+
+static void expect_data(const lent *lent, uint64_t key)
+{
+    for (size_t i = 0; i < lent->answer.length; i++)
+        EXPECT(lent->answer.bytes[i] == data_byte(key, i));
+}
+
+static void expect_told(const row *row, disk_step_answer told)
+{
+    if (told.code == row->code && told.key == row->key)
+        return;
+    fprintf(stderr, "event %" PRIu64 ",%" PRIu64 ",%" PRIu64 ",%" PRIu64 " is told %" PRIu64 " (%s), key %" PRIu64 "; expected %" PRIu64 ", key %" PRIu64 "\n",
+            row->kind, row->a, row->b, row->c, told.code, disk_code_text(told.code), told.key, row->code, row->key);
+    exit(1);
+}
+
+void walk(lent *lent, const row *rows, size_t count)
+{
+    for (const row *row = rows; row < rows + count; row++) {
+        bring_data(lent, row->key);
+        expect_told(row, step(lent, row->kind, row->a, row->b, row->c));
+        if (row->kind == DISK_GET && row->code == DISK_OK)
+            expect_data(lent, row->key);
+    }
+}
+
+void accept(lent *lent, uint64_t kind, uint64_t a, uint64_t b)
+{
+    row row = {kind, a, b, 0, DISK_OK, NO_KEY};
+    walk(lent, &row, 1);
+}

@@ -1,0 +1,50 @@
+/* A store in lent areas, stepped with whole areas. */
+#ifndef LENT_H
+#define LENT_H
+
+#include "areas.h"
+#include "disk.h"
+
+typedef struct {
+    uint64_t places, size, entries, chunks;
+} settings;
+
+typedef struct {
+    settings settings;
+    area store, data, zero, answer;
+} lent;
+
+/* An event and what it is told. */
+typedef struct {
+    uint64_t kind, a, b, c, code, key;
+} row;
+
+#define NO_KEY 0
+#define KEY(id, sequence) ((uint64_t)(id) << 56 | (sequence))
+#define WALK(lent, rows) walk((lent), (rows), COUNT(rows))
+
+/* The least settings, and two that are not. */
+extern const settings least, middle, wide;
+
+/* The length of a store, from docs/LAYOUT.md. */
+size_t length_of(settings settings);
+
+/* A word of a store; words have their least byte first. */
+uint64_t word(const area *store, size_t index);
+void set_word(area *store, size_t index, uint64_t value);
+
+/* A formatted store with its areas in one position. */
+lent formatted(position position, settings settings);
+void end(lent *lent);
+
+/* The step, with what every call must keep: a refusal has key 0 and changes no byte, only an accepted get writes the answer area, a get leaves the store,
+ * and the store stays sound. */
+disk_step_answer step(lent *lent, uint64_t kind, uint64_t a, uint64_t b, uint64_t c);
+
+/* One event after the other, each told what its row says. A put brings the data that belong to the key it is told, and an accepted get must show those. */
+void walk(lent *lent, const row *rows, size_t count);
+
+/* One event that must be accepted with key 0. */
+void accept(lent *lent, uint64_t kind, uint64_t a, uint64_t b);
+
+#endif
