@@ -81,6 +81,11 @@ void seal(const area *area)
     allow(area, PROT_READ);
 }
 
+void close_off(const area *area)
+{
+    allow(area, PROT_NONE);
+}
+
 void unseal(const area *area)
 {
     allow(area, PROT_READ | PROT_WRITE);

@@ -39,8 +39,9 @@ area lend(position position, size_t length);
 /* Ends a lending; the other bytes of its pages must be as they were. */
 void take_back(area *area);
 
-/* Makes a write to the area a crash, or allows it again. Areas on the heap stay as they are. */
+/* Makes a write to the area a crash; makes a read too a crash; allows both again. Areas on the heap stay as they are. */
 void seal(const area *area);
+void close_off(const area *area);
 void unseal(const area *area);
 
 /* A copy of the bytes, for the question whether they have changed since. Bytes of the heap may be unset: they are not compared. */

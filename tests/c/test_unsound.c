@@ -1,0 +1,103 @@
+/* Bytes that are no sound store: every call on them answers 2, and no byte changes. */
+#include "lent.h"
+
+#include <stdlib.h>
+
+/* Every kind, and numbers that are none, on bytes that are no sound store. */
+static void expect_unsound(lent *lent, area *store)
+{
+    uint8_t *old = bytes_of(store), *old_answer = bytes_of(&lent->answer);
+    EXPECT(disk_check(store->bytes, store->length) == DISK_UNSOUND);
+    EXPECT(disk_alike(store->bytes, store->length, lent->store.bytes, lent->store.length) == DISK_UNSOUND);
+    for (uint64_t kind = 0; kind <= DISK_COLLECT + 1; kind++) {
+        disk_step_answer told = disk_step(store->bytes, store->length, kind, 0, 0, 5, lent->data.bytes, lent->data.length, lent->zero.bytes,
+                                          lent->zero.length, lent->answer.bytes, lent->answer.length);
+        EXPECT(told.code == DISK_UNSOUND && told.key == NO_KEY);
+    }
+    EXPECT(same_since(store, old) && same_since(&lent->answer, old_answer));
+}
+
+/* A store's first bytes, with bytes after them that are not its own. */
+static void of_length(lent *lent, position position, size_t length)
+{
+    area store = lend(position, length);
+    for (size_t i = 0; i < length; i++)
+        store.bytes[i] = i < lent->store.length ? lent->store.bytes[i] : 0;
+    expect_unsound(lent, &store);
+    take_back(&store);
+}
+
+static void other_lengths(position position)
+{
+    lent lent = formatted(position, least);
+    size_t whole = lent.store.length;
+    for (size_t length = 0; length <= 64; length++)
+        of_length(&lent, position, length);
+    for (size_t length = whole - 9; length <= whole + 9; length++)
+        if (length != whole)
+            of_length(&lent, position, length);
+    end(&lent);
+}
+
+/* One word at a time becomes a number that is in no range. Most words are past a count, in no use; the others make the store unsound. */
+static void damaged_words(position position)
+{
+    static const uint64_t wild[] = {UINT64_MAX, (uint64_t)1 << 63};
+    enum { WORDS_OF_HEADER = 7, LEAST_DAMAGE = 100 };
+    lent lent = formatted(position, least), damaged = formatted(position, least);
+    size_t found = 0;
+    for (size_t i = 0; i < lent.store.length / 8; i++) {
+        uint64_t good = word(&damaged.store, i);
+        set_word(&damaged.store, i, wild[i % COUNT(wild)]);
+        bool unsound = disk_check(damaged.store.bytes, damaged.store.length) != DISK_OK;
+        EXPECT(unsound || i >= WORDS_OF_HEADER);
+        if (unsound)
+            expect_unsound(&lent, &damaged.store);
+        found += unsound;
+        set_word(&damaged.store, i, good);
+    }
+    EXPECT(found >= LEAST_DAMAGE && disk_check(damaged.store.bytes, damaged.store.length) == DISK_OK);
+    end(&lent);
+    end(&damaged);
+}
+
+/* Settings that call for the most bytes, in a header with nothing behind it. */
+static void header_alone(position position)
+{
+    lent lent = formatted(position, least);
+    area store = lend(position, 7 * 8);
+    static const uint64_t header[] = {8, 8192, 1024, 65536, 1, 8, 8};
+    for (size_t i = 0; i < COUNT(header); i++)
+        set_word(&store, i, header[i]);
+    expect_unsound(&lent, &store);
+    take_back(&store);
+    end(&lent);
+}
+
+static void random_bytes(position position)
+{
+    lent lent = formatted(position, least);
+    for (int i = 0; i < 20; i++) {
+        area store = lend(position, lent.store.length);
+        for (size_t byte = 0; byte < store.length; byte++)
+            store.bytes[byte] = (uint8_t)rand();
+        expect_unsound(&lent, &store);
+        take_back(&store);
+    }
+    end(&lent);
+}
+
+static void unsound(position position)
+{
+    other_lengths(position);
+    header_alone(position);
+    random_bytes(position);
+}
+
+int main(void)
+{
+    in_every_position(unsound);
+    damaged_words((position){AT_END, 0});
+    damaged_words((position){AT_START, 1});
+    return 0;
+}
