@@ -6,8 +6,8 @@
 #include <string.h>
 
 const settings least = {3, 8, 2, 4};
-const settings middle = {5, 64, 8, 16};
-const settings wide = {8, 8192, 4, 5};
+const settings most_places = {8, 64, 8, 16};
+const settings largest_blocks = {3, 8192, 2, 4};
 
 size_t length_of(settings settings)
 {

@@ -23,8 +23,8 @@ typedef struct {
 #define KEY(id, sequence) ((uint64_t)(id) << 56 | (sequence))
 #define WALK(lent, rows) walk((lent), (rows), COUNT(rows))
 
-/* The least settings, and two that are not. */
-extern const settings least, middle, wide;
+/* The least settings; the most places; the largest blocks. */
+extern const settings least, most_places, largest_blocks;
 
 /* The length of a store, from docs/LAYOUT.md. */
 size_t length_of(settings settings);

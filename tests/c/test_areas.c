@@ -88,8 +88,8 @@ static void areas(position position)
 {
     for (size_t length = 0; length <= 3 * least.size; length++)
         data_of_a_put(position, least, length);
-    for (size_t length = middle.size - 2; length <= middle.size + 2; length++)
-        data_of_a_put(position, middle, length);
+    for (size_t length = most_places.size - 2; length <= most_places.size + 2; length++)
+        data_of_a_put(position, most_places, length);
     lent lent = formatted(position, least);
     accept(&lent, DISK_LEARN, 0, 0);
     for (size_t zeros = 0; zeros <= 2 * least.size; zeros++)

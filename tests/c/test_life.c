@@ -143,8 +143,8 @@ static void live(position position, settings settings)
 static void lives(position position)
 {
     live(position, least);
-    live(position, middle);
-    live(position, wide);
+    live(position, most_places);
+    live(position, largest_blocks);
 }
 
 int main(void)

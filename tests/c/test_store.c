@@ -74,7 +74,7 @@ static void pairs(position position)
 /* A write makes two stores differ once its key is in the primary's memory, and not before. */
 static void likeness(position position)
 {
-    lent one = formatted(position, least), other = formatted(position, least), wider = formatted(position, middle);
+    lent one = formatted(position, least), other = formatted(position, least), wider = formatted(position, most_places);
     const row put[] = {{DISK_LEARN, 0, 0, 0, DISK_OK, NO_KEY}, {DISK_PUT, 0, 0, 5, DISK_OK, KEY(1, 0)}, {DISK_SAVELOG, 0, 0, 0, DISK_OK, NO_KEY}};
     EXPECT(alike(&one.store, &other.store) == 0 && alike(&one.store, &one.store) == 0 && alike(&one.store, &wider.store) == 1);
     WALK(&one, put);
