@@ -33,7 +33,7 @@ typedef struct {
 /* Runs a test once in every position. */
 void in_every_position(void (*test)(position));
 
-/* An area of random bytes. */
+/* An area of random bytes; on the heap of unset ones. */
 area lend(position position, size_t length);
 
 /* Ends a lending; the other bytes of its pages must be as they were. */

@@ -24,10 +24,10 @@ static void kinds_have_their_words(void)
         uint64_t kind;
         const char *word;
     } rows[] = {
-        {DISK_PUT, "put"},         {DISK_COPY, "copy"},   {DISK_SAVELOG, "savelog"}, {DISK_MAP, "map"},     {DISK_SEND, "send"},   {DISK_DELIVER, "deliver"},
-        {DISK_DROP, "drop"},       {DISK_SAVEMAP, "savemap"}, {DISK_DONE, "done"},   {DISK_GET, "get"},     {DISK_ABANDON, "abandon"}, {DISK_LEARN, "learn"},
-        {DISK_RESET, "reset"},     {DISK_CRASH, "crash"}, {DISK_LOSE, "lose"},       {DISK_RISE, "rise"},   {DISK_JOIN, "join"},   {DISK_VIEW, "view"},
-        {DISK_FETCH, "fetch"},     {DISK_READY, "ready"}, {DISK_MEND, "mend"},       {DISK_COLLECT, "collect"},
+        {DISK_PUT, "put"}, {DISK_COPY, "copy"}, {DISK_SAVELOG, "savelog"}, {DISK_MAP, "map"}, {DISK_SEND, "send"}, {DISK_DELIVER, "deliver"},
+        {DISK_DROP, "drop"}, {DISK_SAVEMAP, "savemap"}, {DISK_DONE, "done"}, {DISK_GET, "get"}, {DISK_ABANDON, "abandon"}, {DISK_LEARN, "learn"},
+        {DISK_RESET, "reset"}, {DISK_CRASH, "crash"}, {DISK_LOSE, "lose"}, {DISK_RISE, "rise"}, {DISK_JOIN, "join"}, {DISK_VIEW, "view"},
+        {DISK_FETCH, "fetch"}, {DISK_READY, "ready"}, {DISK_MEND, "mend"}, {DISK_COLLECT, "collect"},
     };
     const uint8_t data[8] = {0};
     for (size_t i = 0; i < COUNT(rows); i++) {
