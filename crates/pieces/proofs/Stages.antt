@@ -68,7 +68,14 @@ module _ (line room out : List ℕ) (r : Stage) (h : OpensLine (read-settings li
   unfolding line-said line-next
   open-quiet n =
       let q = others-said (read-settings line) (λ e. not-stopped r room n (h .phase ∙ e)) in
-      record { phase = h .phase; fits = h .fits; number = h .number; size = sym (ap length q); said = sym (ap (λ (t : List ℕ). onto 0 t out) q ∙ onto-nothing 0 out) }
+      record {
+        phase = h .phase;
+        fits = h .fits;
+        number = h .number;
+        size = sym (ap length q);
+        said = sym (ap (λ (t : List ℕ). onto 0 t out) q
+            ∙ onto-nothing 0 out);
+      }
 
   pub open-refused : r ≡ Stopped → (w : ℕ) (after : List ℕ) → w ≡ length (answer-line 0 1 0 []) → after ≡ onto 0 (answer-line 0 1 0 []) out
       → TakesLine opening 0 line out (record { stage = r; written = w }) room after

@@ -9,7 +9,8 @@ use Rattle.decimal.specs.Decimal.{digits, decimal, push, and-then, spelled, num
 use Rattle.hex.specs.Hex.{hex-digit, hex, is-digit, digit-value, only-digits, unhex, spells-bytes, bytes-of}
 use Rattle.text.specs.Words.{same-bytes, kind-from, kind-of-word}
 use Rattle.text.specs.Fields.{parted, before, fields}
-use Rattle.text.specs.Lines.{take-numbers, take-bytes, parts-of-kind, parts-of-fields, is-line, without-feed, read-parts, read-event, settings-at, settings-of-fields, read-settings}
+use Rattle.text.specs.Lines.{take-numbers, take-bytes, parts-of-kind, parts-of-fields, is-line, without-feed, read-parts, read-event, settings-at}
+use Rattle.text.specs.Lines.{settings-of-fields, read-settings}
 use Rattle.answers.specs.Answers.{data-text, answer-line}
 use Rattle.lines.specs.Lines.{lines-from, lines}
 use Rattle.traces.specs.Trace.{can-trace, header, refused, event-in, answers, with-settings, trace-lines, trace-text}

@@ -15,7 +15,8 @@ use Rattle.decimal.specs.Decimal.{and-then}
 use Rattle.text.specs.Lines.{line-feed, read-event, read-settings}
 use Rattle.lines.specs.Lines.{kept, lines-from, lines}
 use Rattle.lines.proofs.Kept.{kept-parts, kept-settings, kept-none, kept-some, kept-more}
-use Rattle.traces.specs.Trace.{can-trace, header, refused, event-or-unknown, event-in, outcome, answer-text, answers, with-settings, trace-lines, trace-text}
+use Rattle.traces.specs.Trace.{can-trace, header, refused, event-or-unknown, event-in, outcome, answer-text, answers, with-settings, trace-lines}
+use Rattle.traces.specs.Trace.{trace-text}
 use Rattle.traces.specs.Machine.{Phase, opening, running, stopped, Machine, Fed, settings-said, settings-next, line-said, line-next}
 use Rattle.traces.specs.Machine.{at-phase, feed, start, ended, last-said}
 use Rattle.traces.proofs.Machine.{feed-append}
@@ -49,7 +50,8 @@ last-line : (p : Phase) (begun : List ℕ) → last-said (at-phase p (kept begun
 unfolding last-said lines-from
 last-line p [] = rw kept-none
 last-line p (b ∷ l) =
-    rw (ne-eqb (length (kept (b ∷ l))) 0 (λ e. omega (arith, kept-some (b ∷ l) (omega arith))), ne-eqb (length (b ∷ l)) 0 (λ e. omega arith)) (whole-line p (b ∷ l) [])
+    rw (ne-eqb (length (kept (b ∷ l))) 0 (λ e. omega (arith, kept-some (b ∷ l) (omega arith))), ne-eqb (length (b ∷ l)) 0 (λ e. omega arith))
+    (whole-line p (b ∷ l) [])
 
 -- bytes that come after the beginning of a line
 abbrev all-said : Machine → List ℕ → List ℕ

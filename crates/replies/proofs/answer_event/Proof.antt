@@ -21,7 +21,8 @@ front-size : (c : tie.After-zero-block2) (block : List ℕ) → block ≡ zeros 
     → length (take (c .before .before .before .before .before .args .settings .size) block) ≡ c .before .before .before .before .before .args .settings .size
 front-size c block e = length-take-le _ block (omega (arith, small c, ap length e, zeros-length max-size))
 
-blank-zero : (c : tie.After-zero-block2) → is-zero-block (c .before .before .before .before .before .args .settings .size) (take (c .before .before .before .before .before .args .settings .size) (c .before .zero-block .result)) ≡ true
+blank-zero : (c : tie.After-zero-block2) → is-zero-block (c .before .before .before .before .before .args .settings .size)
+    (take (c .before .before .before .before .before .args .settings .size) (c .before .zero-block .result)) ≡ true
 blank-zero c =
     let size = c .before .before .before .before .before .args .settings .size in
     ap (λ (x : List ℕ). is-zero-block size (take size x)) (c .before .zero-block .ensures) ∙ zeros-front max-size size (small c)
@@ -37,7 +38,9 @@ abbrev rest : tie.After-perform → List ℕ
 rest c = drop (size c) (c .before .before .before .before .zero-block2 .result)
 
 shown-size : (c : tie.After-perform) → length (shown c) ≡ size c
-shown-size c = c .perform .kept .1 .1 .1 .1 .1 .1 .1 .1 .0 ∙ front-size (c .before .before .before .before) (c .before .before .before .before .zero-block2 .result) (c .before .before .before .before .zero-block2 .ensures)
+shown-size c =
+    c .perform .kept .1 .1 .1 .1 .1 .1 .1 .1 .0 ∙ front-size (c .before .before .before .before) (c .before .before .before .before .zero-block2 .result)
+    (c .before .before .before .before .zero-block2 .ensures)
 
 within : (c : tie.After-perform) (n : ℕ) → n ≤ size c → n ≤ length (shown c ++ rest c)
 within c n h = omega (arith, shown-size c, length-append (shown c) (rest c))
@@ -58,13 +61,15 @@ array-share-prefix-blank : tie.Need-array-share-prefix-blank
 array-share-prefix-blank c = search needs
 
 slice-aggregate-perform : tie.Need-slice-aggregate-perform
-slice-aggregate-perform c = sym (front-size (c .before .before) (c .before .before .before .zero-block .result) (c .before .before .before .zero-block .ensures))
+slice-aggregate-perform c =
+    sym (front-size (c .before .before) (c .before .before .before .zero-block .result) (c .before .before .before .zero-block .ensures))
 
 array-borrow-prefix-shown : tie.Need-array-borrow-prefix-shown
 array-borrow-prefix-shown c = search needs
 
 slice-aggregate-perform-2 : tie.Need-slice-aggregate-perform-2
-slice-aggregate-perform-2 c = sym (front-size (c .before .before .before) (c .before .before .before .zero-block2 .result) (c .before .before .before .zero-block2 .ensures))
+slice-aggregate-perform-2 c =
+    sym (front-size (c .before .before .before) (c .before .before .before .zero-block2 .result) (c .before .before .before .zero-block2 .ensures))
 
 perform-requires : tie.Need-perform-requires
 perform-requires c κs = search needs
@@ -113,14 +118,17 @@ same-length-2 c = search needs
 
 returns : tie.Need-returns
 returns c =
-    let s = c .before .before .before .before .before .before .before .before .before .before .before .before .before .before .before .before .before .before .before .before .before in
+    let at-shown-length = c .before .before .before .before .before in
+    let at-answer = at-shown-length .before .before in
+    let s = at-answer .before .before .before .before .before .before .before .before .before .before .before .before .before .before in
     let a = s .args in
     let p = c .before .before .before .before .before .before .before .before .before .before .before .before in
     let w = c .before .before .write-answer in
-    let n = c .before .before .before .before .before .shown-length in
-    let g = c .before .before .before .before .before .before .before .answer .given in
+    let n = at-shown-length .shown-length in
+    let g = at-answer .answer .given in
     yes-written (a .settings) (a .store .now) (s .pre .0) (a .kind) (a .a) (a .b) (a .c) (a .«data» .now) _ _ (blank-zero (p .before .before .before .before))
-    (front-size (p .before .before .before .before) _ (p .before .before .before .before .zero-block2 .ensures)) (p .perform .result) _ _ (p .perform .ensures) (shown-size p) (g .0 .0) (g .1) (n .result) (n .ensures .0)
+    (front-size (p .before .before .before .before) _ (p .before .before .before .before .zero-block2 .ensures)) (p .perform .result) _ _ (p .perform .ensures)
+    (shown-size p) (g .0 .0) (g .1) (n .result) (n .ensures .0)
     _ (front p (n .result) (n .ensures .1)) (a .number) _ (a .area .now) _ (w .ensures .0) (w .ensures .1)
 
 same-length-3 : tie.Need-same-length-3
@@ -131,14 +139,17 @@ same-length-4 c = search needs
 
 returns-2 : tie.Need-returns-2
 returns-2 c =
-    let s = c .before .before .before .before .before .before .before .before .before .before .before .before .before .before .before .before .before .before .before .before .before in
+    let at-shown-length2 = c .before .before .before .before .before in
+    let at-answer2 = at-shown-length2 .before .before in
+    let s = at-answer2 .before .before .before .before .before .before .before .before .before .before .before .before .before .before in
     let a = s .args in
     let p = c .before .before .before .before .before .before .before .before .before .before .before .before in
     let w = c .before .before .write-answer2 in
-    let n = c .before .before .before .before .before .shown-length2 in
-    let g = c .before .before .before .before .before .before .before .answer2 .given in
+    let n = at-shown-length2 .shown-length2 in
+    let g = at-answer2 .answer2 .given in
     no-written (a .settings) (a .store .now) (s .pre .0) (a .kind) (a .a) (a .b) (a .c) (a .«data» .now) _ _ (blank-zero (p .before .before .before .before))
-    (front-size (p .before .before .before .before) _ (p .before .before .before .before .zero-block2 .ensures)) (p .perform .result) _ _ (p .perform .ensures) (shown-size p) (g .0 .0) (g .1) (n .result) (n .ensures .0)
+    (front-size (p .before .before .before .before) _ (p .before .before .before .before .zero-block2 .ensures)) (p .perform .result) _ _ (p .perform .ensures)
+    (shown-size p) (g .0 .0) (g .1) (n .result) (n .ensures .0)
     _ (front p (n .result) (n .ensures .1)) (a .number) _ (a .area .now) _ (w .ensures .0) (w .ensures .1)
 
 pub answer-event-spec : {M : Type 1} → statement M

@@ -14,7 +14,8 @@ use Rattle.replies.proofs.answer_line.Tie as tie
 -- the data lent to parse has a block's size, and keeps it
 block-size : (c : tie.After-zero-block) → length (take (c .before .settings .result .size) (c .zero-block .result)) ≡ c .before .settings .result .size
 block-size c =
-    length-take-le _ (c .zero-block .result) (omega (arith, c .before .settings .ensures .limits .size-to, ap length (c .zero-block .ensures), zeros-length max-size))
+    length-take-le _ (c .zero-block .result)
+    (omega (arith, c .before .settings .ensures .limits .size-to, ap length (c .zero-block .ensures), zeros-length max-size))
 
 data-size : (c : tie.After-parse) → length (c .parse .last .1 .1 .0) ≡ c .before .before .before .settings .result .size
 data-size c = c .parse .kept .1 .1 .0 ∙ block-size (c .before .before)
@@ -38,7 +39,13 @@ enum-known-parsed : tie.Need-enum-known-parsed
 enum-known-parsed c = search needs
 
 array-share-prefix-data : tie.Need-array-share-prefix-data
-array-share-prefix-data c = let f = c .before .before .before .before .before in omega (arith, data-size f, length-append (f .parse .last .1 .1 .0) (drop (f .before .before .before .settings .result .size) (f .before .before .zero-block .result)))
+array-share-prefix-data c =
+    let f = c .before .before .before .before .before in omega (
+      arith,
+      data-size f,
+      length-append (f .parse .last .1 .1 .0)
+          (drop (f .before .before .before .settings .result .size) (f .before .before .zero-block .result)),
+    )
 
 slice-aggregate-answer-event : tie.Need-slice-aggregate-answer-event
 slice-aggregate-answer-event c =
@@ -71,12 +78,14 @@ same-length-2 c = search needs
 
 returns : tie.Need-returns
 returns c =
+    let at-parsed = c .before .before .before .before .before .before .before .before .before in
     let a = c .before .before .before .before .before .before .before .before .before .before .before .before .before .before .before .before .before .before .before .before .args in
     let f = c .before .before .before .before .before .before .before .before .before .before .before .before in
     let z = f .before .before .before .settings in
     let e = c .before .before .before .before .answer-event in
-    let g = c .before .before .before .before .before .before .before .before .before .parsed .given in
-    answered-line (z .result) (a .store .now) (a .line .now) (take (z .result .size) (f .before .before .zero-block .result)) (f .parse .last .1 .1 .0) (z .ensures) (f .parse .result) (block-size (f .before .before)) (f .parse .ensures .0)
+    let g = at-parsed .parsed .given in
+    answered-line (z .result) (a .store .now) (a .line .now) (take (z .result .size) (f .before .before .zero-block .result)) (f .parse .last .1 .1 .0)
+    (z .ensures) (f .parse .result) (block-size (f .before .before)) (f .parse .ensures .0)
     (f .parse .ensures .1) (a .number) (a .area .now) (e .result) _ _ (g .0 .0) (g .0 .1 .0) (g .0 .1 .1 .0) (g .0 .1 .1 .1 .0) _
     (take-at (f .parse .last .1 .1 .0) _ (z .result .size) (data-size f)) (g .1) (e .ensures)
 
@@ -88,14 +97,17 @@ same-length-4 c = search needs
 
 returns-2 : tie.Need-returns-2
 returns-2 c =
-    let s = c .before .before .before .before .before .before .before .before .before .before .before .before .before .before .before .before in
+    let at-enum-told = c .before .before .before .before .before in
+    let at-slice-known = at-enum-told .before .before .before .before .before .before .before .before .before .before in
+    let s = at-slice-known .before in
     let a = s .args in
     let f = c .before .before .before .before .before .before .before .before in
     let z = f .before .before .before .settings in
     let w = c .before .before .write-answer in
-    answered-none (z .result) (a .store .now) (a .line .now) (take (z .result .size) (f .before .before .zero-block .result)) (f .parse .last .1 .1 .0) (z .ensures) (f .parse .result) (block-size (f .before .before)) (f .parse .ensures .0)
-    (f .parse .ensures .1) (a .number) (a .area .now) (w .result) _ (a .store .now) (below-of 256 _ (λ i. omega (arith, c .before .before .before .before .before .before .before .before .before .before .before .before .before .before .before .slice-known .given i)))
-    (c .before .before .before .before .before .enum-told .given .1) (w .ensures .0) (w .ensures .1)
+    answered-none (z .result) (a .store .now) (a .line .now) (take (z .result .size) (f .before .before .zero-block .result)) (f .parse .last .1 .1 .0)
+    (z .ensures) (f .parse .result) (block-size (f .before .before)) (f .parse .ensures .0)
+    (f .parse .ensures .1) (a .number) (a .area .now) (w .result) _ (a .store .now) (below-of 256 _ (λ i. omega (arith, at-slice-known .slice-known .given i)))
+    (at-enum-told .enum-told .given .1) (w .ensures .0) (w .ensures .1)
 
 pub answer-line-spec : {M : Type 1} → statement M
 answer-line-spec =
