@@ -1,0 +1,34 @@
+//! Members in the circle of ids.
+use super::log;
+use super::store::{Store, MEMBER};
+
+/// Steps upward from one id to another; ids are below 256.
+pub fn distance(from: u64, to: u64) -> u64 {
+    to.wrapping_sub(from) & 255
+}
+
+/// The first member at least so many steps above an id: its steps, and where it begins.
+pub fn nearest(store: &Store, id: u64, least: u64) -> Option<(u64, usize)> {
+    let members = (0..store.shape.places).filter_map(|p| Some((distance(id, store.ids[p]), store.member_at(p)?)));
+    members.filter(|&(steps, _)| steps >= least).min()
+}
+
+/// The member and row that hold a key, sought from the home id upward.
+pub fn holder(store: &Store, key: u64) -> Option<(usize, usize)> {
+    let mut least = 0;
+    while let Some((steps, brick)) = nearest(store, key >> 56, least) {
+        if let Ok(row) = log::find(store.log(brick), &store.shape, key) {
+            return Some((brick, row));
+        }
+        least = steps + 1;
+    }
+    None
+}
+
+/// Whether a member has the chunk saved.
+pub fn has_saved(store: &Store, key: u64) -> bool {
+    store.bricks().filter(|at| store.get(at + MEMBER) == 1).any(|at| {
+        let log = store.log(at);
+        log::find(log, &store.shape, key).is_ok_and(|row| log::is_saved(log, row))
+    })
+}

@@ -1,0 +1,182 @@
+//! Whether words are a sound store. Nearly all of a step's time goes here.
+use super::store::{bucket_at, proxy_at, Shape, BEGAN, CEILING, MEMBER, MOST_PLACES, NEXT, UP};
+use super::words::{get, read, rows, same, Row, Word};
+use call_tests::store::model::{
+    bucket_of, Settings, AT_BAG, AT_BUFFER, AT_COPIES, AT_PLACES, BLOCKS, BUCKET, BUCKETS, MAX_ID, MAX_ITEMS, MAX_NUMBER, MAX_RELAYS, MAX_WAITING, PROXIES,
+    RELAY, SEQUENCES,
+};
+
+type Ids = [u64; MOST_PLACES];
+
+/// By id the highest key that may stand anywhere. For an id that is not given it is 0, which `allows` lets nothing pass.
+struct Limits([u64; 256]);
+
+impl Limits {
+    fn allows(&self, key: u64) -> bool {
+        key.wrapping_sub(1) < self.0[(key >> 56) as usize]
+    }
+}
+
+struct Check<'a> {
+    words: &'a [Word],
+    shape: Shape,
+    given: u64,
+    ids: Ids,
+    limits: Limits,
+}
+
+/// The sizes and the ids by place of a sound store.
+pub fn check(words: &[Word]) -> Option<(Shape, Ids)> {
+    let shape = shape_of(words)?;
+    let (view, given, started) = (get(words, 4), get(words, 5), get(words, 6));
+    if view < 1 || view > MAX_NUMBER || given > MAX_ID || started > shape.places as u64 {
+        return None;
+    }
+    let ids = ids_of(words, &shape, given)?;
+    let limits = limits_of(words, &shape, given, &ids);
+    let c = Check { words, shape, given, ids, limits };
+    let good = (0..BUCKETS).all(|g| c.bucket(g))
+        && (0..PROXIES).all(|p| c.proxy(p))
+        && c.bag()
+        && c.bricks().all(|at| c.brick(at))
+        && (0..BUCKETS).all(|g| c.copies(g))
+        && c.bricks().all(|at| c.log(&words[at + shape.log..at + shape.place]));
+    good.then_some((shape, ids))
+}
+
+fn shape_of(words: &[Word]) -> Option<Shape> {
+    if words.len() < AT_PLACES {
+        return None;
+    }
+    let s = Settings::new(get(words, 0), get(words, 1), get(words, 2), get(words, 3));
+    (s.in_limits() && words.len() == s.words()).then(|| Shape::new(&s))
+}
+
+/// None where one is not given or at two places.
+fn ids_of(words: &[Word], shape: &Shape, given: u64) -> Option<Ids> {
+    let mut ids = [0; MOST_PLACES];
+    for p in 0..shape.places {
+        let id = get(words, shape.at(p));
+        if id > given || id != 0 && ids[..p].contains(&id) {
+            return None;
+        }
+        ids[p] = id;
+    }
+    Some(ids)
+}
+
+/// A brick's next number bounds its keys; of a brick that is not here any key may stand.
+fn limits_of(words: &[Word], shape: &Shape, given: u64, ids: &Ids) -> Limits {
+    let mut limits = [0; 256];
+    for id in 1..=given {
+        limits[id as usize] = id << 56 | (SEQUENCES - 1);
+    }
+    for p in (0..shape.places).filter(|&p| ids[p] != 0) {
+        let next = get(words, shape.at(p) + NEXT);
+        limits[ids[p] as usize] = (ids[p] << 56).wrapping_add(next).wrapping_sub(1);
+    }
+    Limits(limits)
+}
+
+impl Check<'_> {
+    fn get(&self, i: usize) -> u64 {
+        get(self.words, i)
+    }
+
+    fn bricks(&self) -> impl Iterator<Item = usize> + '_ {
+        (0..self.shape.places).filter(|&p| self.ids[p] != 0).map(|p| self.shape.at(p))
+    }
+
+    /// The words of a table that are in use, its count first; None where that is above the most.
+    fn table(&self, at: usize, most: usize) -> Option<&[Word]> {
+        let count = self.get(at);
+        (count <= most as u64).then(|| &self.words[at..at + 1 + 2 * count as usize])
+    }
+
+    /// From the last row to the first, so that one comparison tells that a block is in range and below the next.
+    fn sorted(&self, rows: &[Row], mine: impl Fn(u64) -> bool) -> bool {
+        let mut above = BLOCKS;
+        rows.iter().rev().all(|row| {
+            let (block, key) = (read(row[0]), read(row[1]));
+            let good = block < above && mine(block) && self.limits.allows(key);
+            above = block;
+            good
+        })
+    }
+
+    fn bucket(&self, bucket: usize) -> bool {
+        let w: [u64; BUCKET] = std::array::from_fn(|i| self.get(bucket_at(bucket) + i));
+        let given = w[..4].iter().all(|&id| id.wrapping_sub(1) < self.given);
+        given && w[0] != w[1] && w[2] != w[3] && w[4] | w[5] <= 1 && w[6] | w[7] <= MAX_NUMBER
+    }
+
+    fn proxy(&self, proxy: usize) -> bool {
+        let at = proxy_at(proxy);
+        self.get(at) <= MAX_NUMBER && self.table(at + 1, MAX_ITEMS).is_some_and(|t| self.sorted(rows(&t[1..]), |block| block >> 49 == proxy as u64))
+    }
+
+    fn bag(&self) -> bool {
+        let count = self.get(AT_BAG);
+        count <= MAX_RELAYS as u64
+            && (0..count as usize).all(|i| {
+                let w: [u64; RELAY] = std::array::from_fn(|j| self.get(AT_BAG + 1 + i * RELAY + j));
+                w[0] | w[2] <= MAX_NUMBER && w[3] < BLOCKS && w[1] == bucket_of(w[3]) && self.limits.allows(w[4])
+            })
+    }
+
+    /// All of a brick but its copies and its log.
+    fn brick(&self, at: usize) -> bool {
+        let (up, member, began) = (self.get(at + UP), self.get(at + MEMBER), self.get(at + BEGAN));
+        let numbers = self.get(at + NEXT) <= self.get(at + CEILING) && self.get(at + CEILING) <= SEQUENCES;
+        if up | member | began > 1 || member > up || !numbers {
+            return false;
+        }
+        let most = if up == 1 { MAX_WAITING } else { 0 };
+        self.table(at + AT_BUFFER, most).is_some_and(|t| rows(&t[1..]).iter().all(|row| read(row[0]) < BLOCKS && self.limits.allows(read(row[1]))))
+    }
+
+    /// All copies of a bucket. A copy that has the same words as one found good is good: most are the same, and memcmp tells it sooner.
+    fn copies(&self, bucket: usize) -> bool {
+        let mut known: &[Word] = &[];
+        self.bricks().all(|at| {
+            let memory = at + AT_COPIES + 2 * bucket * self.shape.copy;
+            let (Some(memory), Some(disk)) = (self.table(memory, self.shape.entries), self.table(memory + self.shape.copy, self.shape.entries)) else {
+                return false;
+            };
+            for copy in [memory, disk] {
+                if copy.len() > 1 && !same(copy, known) {
+                    if !self.sorted(rows(&copy[1..]), |block| bucket_of(block) == bucket as u64) {
+                        return false;
+                    }
+                    known = copy;
+                }
+            }
+            self.get(at + UP) == 1 || same(memory, disk)
+        })
+    }
+
+    /// Keys ascend along the positions, so a limit serves until a key is above it: then another brick's keys begin.
+    fn log(&self, log: &[Word]) -> bool {
+        let count = get(log, 0);
+        if count > self.shape.chunks as u64 {
+            return false;
+        }
+        let rows = rows(&log[1..1 + 2 * count as usize]);
+        let positions = &log[1 + 2 * self.shape.chunks..][..count as usize];
+        let (mut last, mut limit) = (0, 0);
+        let ascending = positions.iter().all(|&p| {
+            let Some(row) = rows.get(read(p) as usize) else { return false };
+            let key = read(row[0]);
+            if key > limit {
+                if !self.limits.allows(key) {
+                    return false;
+                }
+                limit = self.limits.0[(key >> 56) as usize];
+            }
+            let good = key > last;
+            last = key;
+            good
+        });
+        ascending && rows.iter().fold(0, |all, row| all | read(row[1])) <= 1
+    }
+}

@@ -1,0 +1,117 @@
+//! The peer and the proved step agree on random lists of events: code, key, data and each byte of the store. So both do the same work when they are timed.
+mod lists;
+
+use call_tests::random::Random;
+use call_tests::store::model::{self, Settings};
+use call_tests::store::random::{small_settings, sound_store};
+use lists::Both;
+use speed::peer;
+
+/// At least so many events for each test of lists.
+fn events() -> u64 {
+    call_tests::tries().min(200_000)
+}
+
+/// Room for a few dozen writes, so that lists of whole writes go on for long.
+fn roomy_settings(r: &mut Random) -> Settings {
+    Settings::new(r.among(3, 8), 8 * r.among(1, 3), r.among(2, 8), r.among(8, 40))
+}
+
+/// Whole writes, reads, crashes and recoveries, a wild event now and then.
+#[test]
+fn disciplined_lists() {
+    let mut r = Random::new(31);
+    let (mut codes, mut kinds) = ([0u64; 16], [0u64; 23]);
+    while codes.iter().sum::<u64>() < events() {
+        let s = roomy_settings(&mut r);
+        let mut both = Both::formatted(&mut r, s);
+        for _ in 0..100 {
+            both.some_events(&mut r);
+        }
+        (0..16).for_each(|i| codes[i] += both.codes[i]);
+        (0..23).for_each(|i| kinds[i] += both.kinds[i]);
+    }
+    assert!(codes[1] == 0 && codes[2] == 0);
+    assert!((3..=13).chain(15..=15).all(|c| c == 12 || codes[c] > 0), "{codes:?}");
+    assert!((1..=22).all(|k| kinds[k] > 100), "{kinds:?}");
+}
+
+/// Any events on formatted stores and on random sound ones, most of which no list leads to.
+#[test]
+fn wild_lists() {
+    let mut r = Random::new(32);
+    let (mut codes, mut kinds) = ([0u64; 16], [0u64; 23]);
+    while codes.iter().sum::<u64>() < events() {
+        let s = small_settings(&mut r);
+        let percent = r.below(101);
+        let mut both = if r.one_in(2) { Both::formatted(&mut r, s) } else { Both::new(s, sound_store(&mut r, s, percent)) };
+        for _ in 0..300 {
+            both.wild_event(&mut r);
+        }
+        (0..16).for_each(|i| codes[i] += both.codes[i]);
+        (0..23).for_each(|i| kinds[i] += both.kinds[i]);
+    }
+    assert!(codes[1] == 0 && codes[2] == 0);
+    assert!((3..=15).all(|c| codes[c] > 0 || c == 8 || c == 14), "{codes:?}");
+    assert!((1..=22).all(|k| kinds[k] > 0), "{kinds:?}");
+}
+
+/// No list from format fills the backup alone: its copy is written by hand.
+#[test]
+fn no_room_at_the_backup() {
+    let mut r = Random::new(35);
+    let s = Settings::new(3, 8, 2, 4);
+    let mut both = Both::formatted(&mut r, s);
+    both.sent_block(&mut r, 5);
+    let memory = model::AT_PLACES + s.place() + model::AT_COPIES;
+    for (first, code) in [(6, 14), (5, 0)] {
+        for (i, word) in [2, first, 1 << 56, 7, 1 << 56].into_iter().enumerate() {
+            model::put(&mut both.proved, memory + i, word);
+            model::put(&mut both.peer, memory + i, word);
+        }
+        assert_eq!(both.event(&mut r, 6, 0, 0, 0).code, code);
+    }
+}
+
+/// Stores with one word changed, mostly no longer sound.
+#[test]
+fn damaged_stores() {
+    let mut r = Random::new(33);
+    let mut refused = 0;
+    for _ in 0..events() / 200 {
+        let s = small_settings(&mut r);
+        let percent = r.below(101);
+        let mut both = Both::new(s, sound_store(&mut r, s, percent));
+        for _ in 0..100 {
+            let word = r.below(s.words() as u64) as usize;
+            let old = model::get(&both.proved, word);
+            let new = if r.one_in(2) { r.number() } else { old.wrapping_add(r.below(5)).wrapping_sub(2) };
+            model::put(&mut both.proved, word, new);
+            model::put(&mut both.peer, word, new);
+            let code = peer::check(&mut both.peer);
+            assert_eq!(code, call_tests::store::check(&both.proved), "word {word} of {s:?} from {old} to {new}");
+            if code == 2 {
+                both.wild_event(&mut r);
+                refused += 1;
+            }
+            model::put(&mut both.proved, word, old);
+            model::put(&mut both.peer, word, old);
+        }
+    }
+    assert!(refused * 1000 > events());
+}
+
+#[test]
+fn lengths_near_the_right_one() {
+    let mut r = Random::new(34);
+    let s = Settings::new(3, 8, 2, 4);
+    let sound = Both::formatted(&mut r, s).peer;
+    for length in sound.len() - 20..sound.len() + 20 {
+        let mut bytes = sound.clone();
+        bytes.resize(length, 0);
+        assert_eq!(peer::check(&mut bytes), if length == sound.len() { 0 } else { 2 });
+    }
+    for length in 0..6000 {
+        assert_eq!(peer::check(&mut r.bytes(length)), 2);
+    }
+}
