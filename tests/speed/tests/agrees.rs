@@ -12,9 +12,9 @@ fn events() -> u64 {
     call_tests::tries().min(200_000)
 }
 
-/// Room for a few dozen writes, so that lists of whole writes go on for long.
+/// Room for dozens of writes, so that lists of whole writes go on for long.
 fn roomy_settings(r: &mut Random) -> Settings {
-    Settings::new(r.among(3, 8), 8 * r.among(1, 3), r.among(2, 8), r.among(8, 40))
+    Settings::new(r.among(3, 8), 8 * r.among(1, 3), r.among(2, 8), r.among(8, 150))
 }
 
 /// Whole writes, reads, crashes and recoveries, a wild event now and then.
@@ -45,7 +45,8 @@ fn wild_lists() {
         let s = small_settings(&mut r);
         let percent = r.below(101);
         let mut both = if r.one_in(2) { Both::formatted(&mut r, s) } else { Both::new(s, sound_store(&mut r, s, percent)) };
-        for _ in 0..300 {
+        both.calm = r.one_in(2);
+        for _ in 0..500 {
             both.wild_event(&mut r);
         }
         (0..16).for_each(|i| codes[i] += both.codes[i]);

@@ -12,6 +12,8 @@ pub struct Both {
     settings: Settings,
     pub proved: Vec<u8>,
     pub peer: Vec<u8>,
+    /// Whether wild events are mostly of calm kinds.
+    pub calm: bool,
     /// How often each code was answered.
     pub codes: [u64; 16],
     /// How often each kind was accepted.
@@ -20,7 +22,7 @@ pub struct Both {
 
 impl Both {
     pub fn new(settings: Settings, bytes: Vec<u8>) -> Self {
-        Both { settings, proved: bytes.clone(), peer: bytes, codes: [0; 16], kinds: [0; 23] }
+        Both { settings, proved: bytes.clone(), peer: bytes, calm: false, codes: [0; 16], kinds: [0; 23] }
     }
 
     /// Formatted over random bytes.
@@ -135,7 +137,7 @@ impl Both {
     pub fn wild_event(&mut self, r: &mut Random) {
         let kind = match r.below(50) {
             0 => r.number(),
-            1..=25 => CALM[r.below(16) as usize],
+            1..=47 if self.calm => CALM[r.below(16) as usize],
             _ => r.kind(),
         };
         let mut fields = [0, 1, 2].map(|i| self.field(r, kind, i));

@@ -1,0 +1,13 @@
+//! Times the proved step and the peer side by side, on the same bytes.
+pub mod event;
+pub mod fixture;
+pub mod path;
+pub mod samples;
+
+use call_tests::store::Answer;
+use call_tests::text::model::Event;
+
+pub type Step = fn(&mut [u8], &Event, &[u8], &[u8], &mut [u8]) -> Answer;
+
+/// The proved step, then the peer.
+pub const STEPS: [Step; 2] = [call_tests::store::step, crate::peer::step];

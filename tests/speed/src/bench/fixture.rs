@@ -1,0 +1,127 @@
+//! Stores in use, each with an event that it accepts.
+use call_tests::store::model::{Settings, AT_BUCKETS, BUCKET, BUCKETS, PROXIES};
+use call_tests::store::random::mapped_store;
+use call_tests::store::{model, step};
+use call_tests::text::model::Event;
+
+pub fn event(kind: u64, a: u64, b: u64, c: u64) -> Event {
+    Event { code: 0, kind, a, b, c }
+}
+
+/// The block that `mapped_store` makes as its i-th.
+pub fn block(i: u64) -> u64 {
+    let g = i % BUCKETS as u64;
+    g << 10 | (i / 16 & 1023) | (i >> 14 << 14)
+}
+
+#[derive(Clone)]
+pub struct Store {
+    pub settings: Settings,
+    pub bytes: Vec<u8>,
+}
+
+/// The events of a whole write of a block by proxy 0, at its primary; the key is the one that the put will answer.
+pub fn whole_write(block: u64, places: [u64; 2], copy_place: u64, key: u64) -> [Event; 10] {
+    let [primary, backup] = places;
+    [
+        event(1, 0, primary, block),
+        event(2, key, 0, 0),
+        event(3, primary, 0, 0),
+        event(3, copy_place, 0, 0),
+        event(4, 0, block, 0),
+        event(5, block, 0, 0),
+        event(6, 0, 0, 0),
+        event(8, primary, 0, 0),
+        event(8, backup, 0, 0),
+        event(9, 0, block, 0),
+    ]
+}
+
+impl Store {
+    /// So many blocks mapped and whole, all proxies with the view.
+    pub fn mapped(settings: Settings, blocks: u64) -> Self {
+        let mut store = Store { settings, bytes: mapped_store(settings, blocks) };
+        (0..PROXIES as u64).for_each(|p| store.accept(event(12, p, 0, 0)));
+        store
+    }
+
+    pub fn accept(&mut self, e: Event) {
+        let size = self.settings.size as usize;
+        let (data, zero, mut answer) = (vec![0xa5; size], vec![0; size], vec![0; size]);
+        assert_eq!(step(&mut self.bytes, &e, &data, &zero, &mut answer).code, 0, "{e:?}");
+    }
+
+    pub fn after(mut self, events: &[Event]) -> Self {
+        events.iter().for_each(|&e| self.accept(e));
+        self
+    }
+
+    /// The places of the pair of a block's bucket, in a store of the first view: id i is at place i - 1.
+    fn pair(&self, block: u64) -> [u64; 2] {
+        let at = AT_BUCKETS + model::bucket_of(block) as usize * BUCKET;
+        [model::get(&self.bytes, at) - 1, model::get(&self.bytes, at + 1) - 1]
+    }
+
+    /// The events of a whole write of a block, the store as it is.
+    pub fn write(&self, block: u64) -> [Event; 10] {
+        let pair = self.pair(block);
+        let next = model::get(&self.bytes, model::AT_PLACES + pair[0] as usize * self.settings.place() + 4);
+        whole_write(block, pair, (pair[0] + 1) % self.settings.places, (pair[0] + 1) << 56 | next)
+    }
+
+    /// Whole writes one after the other, each of the first blocks once.
+    pub fn writes(&self, count: u64) -> Vec<Event> {
+        let mut store = self.clone();
+        let mut events = Vec::new();
+        for i in 0..count {
+            let write = store.write(block(i));
+            write.iter().for_each(|&e| store.accept(e));
+            events.extend(write);
+        }
+        events
+    }
+}
+
+/// A kind's name, the store, and an event that it accepts: the kinds in their order.
+pub fn cases(block_size: u64) -> Vec<(&'static str, Store, Event)> {
+    const BLOCK: u64 = 500;
+    let base = Store::mapped(Settings::new(4, block_size, 256, 1024), 1000);
+    let write = base.write(block(BLOCK));
+    let at = |n: usize| base.clone().after(&write[..n]);
+    let [put, copy, savelog, _, map, send, deliver, savemap, _, done] = write;
+    let lost = [event(15, 3, 0, 0), event(17, 3, 0, 0), event(18, 0, 0, 0)];
+    let gone = |n: usize| base.clone().after(&lost[..n]);
+    let bucket = moved_bucket(&gone(3));
+    let recovered = (0..BUCKETS as u64).fold(gone(3), |s, g| s.after(&[event(19, g, 0, 0), event(20, g, 0, 0)]));
+    let place = put.b;
+    vec![
+        ("put", at(0), put),
+        ("copy", at(1), copy),
+        ("savelog", at(2), savelog),
+        ("map", at(4), map),
+        ("send", at(5), send),
+        ("deliver", at(6), deliver),
+        ("drop", at(6), event(7, 0, 0, 0)),
+        ("savemap", at(7), savemap),
+        ("done", at(9), done),
+        ("get", at(0), event(10, 0, block(BLOCK), 0)),
+        ("abandon", at(1), event(11, 0, block(BLOCK), 0)),
+        ("learn", at(0), event(12, 0, 0, 0)),
+        ("reset", at(1), event(13, 0, 0, 0)),
+        ("crash", at(2), event(14, place, 0, 0)),
+        ("lose", at(0), event(15, 3, 0, 0)),
+        ("rise", at(0).after(&[event(14, 3, 0, 0)]), event(16, 3, 0, 0)),
+        ("join", gone(1), event(17, 3, 0, 0)),
+        ("view", gone(2), event(18, 0, 0, 0)),
+        ("fetch", gone(3), event(19, bucket, 0, 0)),
+        ("ready", gone(3).after(&[event(19, bucket, 0, 0)]), event(20, bucket, 0, 0)),
+        ("mend", recovered, event(21, 3, 0, 0)),
+        ("collect", base.clone().after(&base.writes(100)), event(22, place, 0, 0)),
+    ]
+}
+
+/// A bucket whose pair is not the last ready one: ready gives a new backup its copy.
+fn moved_bucket(store: &Store) -> u64 {
+    let word = |g: usize, i: usize| model::get(&store.bytes, AT_BUCKETS + g * BUCKET + i);
+    (0..BUCKETS).find(|&g| word(g, 0) != word(g, 2) || word(g, 1) != word(g, 3)).expect("a pair that changed") as u64
+}

@@ -1,0 +1,54 @@
+//! The proved step side by side with the peer, in one run: every kind, the whole write path, and how a call grows with the blocks mapped.
+use call_tests::store::model::Settings;
+use speed::bench::event::compare;
+use speed::bench::fixture::{block, cases, event, Store};
+use speed::bench::path::{memcpy, reads, writes};
+
+const ROUNDS: usize = 40;
+
+/// Kinds that move cells by the hundred are timed with small blocks: 8 KB ones would hide what else they do.
+const SMALL: [&str; 3] = ["crash", "mend", "collect"];
+
+fn main() {
+    every_kind();
+    whole_path();
+    growth();
+}
+
+fn row(name: &str, [proved, peer]: [f64; 2]) {
+    println!("{name:<26} {proved:>12.0} {peer:>12.0} {:>8.2}", proved / peer);
+}
+
+fn every_kind() {
+    println!("{:<26} {:>12} {:>12} {:>8}", "one call, ns", "proved", "peer", "ratio");
+    for size in [8192, 64] {
+        for (name, store, e) in cases(size) {
+            if SMALL.contains(&name) == (size == 64) {
+                row(&format!("{:>2} {name:<10} S {size}", e.kind), compare(&store, &e, ROUNDS, 50));
+            }
+        }
+    }
+    println!("4 places, 1,000 blocks mapped; each call accepted\n");
+}
+
+fn whole_path() {
+    let store = Store::mapped(Settings::new(4, 8192, 256, 1024), 1000);
+    let speed = |ns: f64| 8192.0 / ns * 1e3;
+    let copied = memcpy(8192, 200);
+    println!("{:<26} {:>12} {:>12} {:>8} {:>12}", "8 KB blocks, MB/s", "proved", "peer", "ratio", "memcpy");
+    for (name, [proved, peer], copied) in [("put to done, 10 calls", writes(&store, 100), copied[0]), ("get", reads(&store, 200), copied[1])] {
+        println!("{name:<26} {:>12.0} {:>12.0} {:>8.2} {:>12.0}", speed(proved), speed(peer), proved / peer, speed(copied));
+    }
+    println!("4 places, 1,000 blocks mapped; the ratio is of times\n");
+}
+
+fn growth() {
+    println!("{:<26} {:>12} {:>12} {:>8}", "by blocks mapped, ns", "proved", "peer", "ratio");
+    for blocks in [100, 1_000, 10_000] {
+        let store = Store::mapped(Settings::new(4, 512, 1024, 8192), blocks);
+        row(&format!("get, {blocks}"), compare(&store, &event(10, 0, block(50), 0), ROUNDS, 20));
+        row(&format!("put, {blocks}"), compare(&store, &store.write(block(50))[0], ROUNDS, 20));
+        row(&format!("put to done, {blocks}"), writes(&store, ROUNDS));
+    }
+    println!("4 places, S 512");
+}
