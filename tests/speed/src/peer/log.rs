@@ -23,6 +23,13 @@ pub fn holds(log: &[Word], shape: &Shape, key: u64) -> bool {
     find(log, shape, key).is_ok()
 }
 
+/// By id whether the log has a chunk of that home.
+pub fn homes(log: &[Word]) -> [bool; 256] {
+    let mut homes = [false; 256];
+    used(log).iter().for_each(|row| homes[(read(row[0]) >> 56) as usize] = true);
+    homes
+}
+
 pub fn is_saved(log: &[Word], row: usize) -> bool {
     get(log, 2 + 2 * row) == 1
 }
@@ -116,10 +123,12 @@ pub fn keep(log: &mut [Word], shape: &Shape, marks: &mut Marks) {
     }
     let at = 1 + 2 * shape.chunks;
     let mut to = at;
+    // rows before the first that goes stay where they are
+    let first = marks.next(0, count, false);
     for from in at..at + count {
         let row = get(log, from) as usize;
         if marks.has(row) {
-            set(log, to, marks.rank(row) as u64);
+            set(log, to, if row < first { row } else { marks.rank(row) } as u64);
             to += 1;
         }
     }

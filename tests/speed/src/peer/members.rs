@@ -15,10 +15,17 @@ pub fn nearest(store: &Store, id: u64, least: u64) -> Option<(u64, usize)> {
 
 /// The member and row that hold a key, sought from the home id upward.
 pub fn holder(store: &Store, key: u64) -> Option<(usize, usize)> {
-    let mut least = 0;
-    while let Some((steps, brick)) = nearest(store, key >> 56, least) {
-        if let Ok(row) = log::find(store.log(brick), &store.shape, key) {
-            return Some((brick, row));
+    let home = key >> 56;
+    let held = |brick| Some((brick, log::find(store.log(brick), &store.shape, key).ok()?));
+    // mostly the home has it
+    let at_home = store.member(home).and_then(held);
+    if at_home.is_some() {
+        return at_home;
+    }
+    let mut least = 1;
+    while let Some((steps, brick)) = nearest(store, home, least) {
+        if let Some(found) = held(brick) {
+            return Some(found);
         }
         least = steps + 1;
     }

@@ -8,7 +8,7 @@ use call_tests::store::model::{
 
 type Ids = [u64; MOST_PLACES];
 
-/// By id the highest key that may stand anywhere. For an id that is not given it is 0, which `allows` lets nothing pass.
+/// By id the highest key that may stand anywhere, which one more would not fit a word for. For an id that is not given it is 0, which lets nothing pass.
 struct Limits([u64; 256]);
 
 impl Limits {
@@ -22,7 +22,7 @@ struct Check<'a> {
     shape: Shape,
     given: u64,
     ids: Ids,
-    limits: Limits,
+    limits: &'a Limits,
 }
 
 /// The sizes and the ids by place of a sound store.
@@ -34,7 +34,7 @@ pub fn check(words: &[Word]) -> Option<(Shape, Ids)> {
     }
     let ids = ids_of(words, &shape, given)?;
     let limits = limits_of(words, &shape, given, &ids);
-    let c = Check { words, shape, given, ids, limits };
+    let c = Check { words, shape, given, ids, limits: &limits };
     let good = (0..BUCKETS).all(|g| c.bucket(g))
         && (0..PROXIES).all(|p| c.proxy(p))
         && c.bag()
@@ -93,15 +93,20 @@ impl Check<'_> {
         (count <= most as u64).then(|| &self.words[at..at + 1 + 2 * count as usize])
     }
 
-    /// From the last row to the first, so that one comparison tells that a block is in range and below the next.
-    fn sorted(&self, rows: &[Row], mine: impl Fn(u64) -> bool) -> bool {
-        let mut above = BLOCKS;
-        rows.iter().rev().all(|row| {
+    /// Rows ascending by block, all blocks with these bits under the mask. From the last row to the first, so that one comparison tells that a block is in
+    /// range and below the next; the bits are gathered and compared once.
+    fn sorted(&self, rows: &[Row], mask: u64, bits: u64) -> bool {
+        let (mut above, mut all, mut any) = (BLOCKS, bits, bits);
+        for row in rows.iter().rev() {
             let (block, key) = (read(row[0]), read(row[1]));
-            let good = block < above && mine(block) && self.limits.allows(key);
+            if block >= above || !self.limits.allows(key) {
+                return false;
+            }
             above = block;
-            good
-        })
+            all &= block;
+            any |= block;
+        }
+        (all ^ bits | any ^ bits) & mask == 0
     }
 
     fn bucket(&self, bucket: usize) -> bool {
@@ -112,15 +117,15 @@ impl Check<'_> {
 
     fn proxy(&self, proxy: usize) -> bool {
         let at = proxy_at(proxy);
-        self.get(at) <= MAX_NUMBER && self.table(at + 1, MAX_ITEMS).is_some_and(|t| self.sorted(rows(&t[1..]), |block| block >> 49 == proxy as u64))
+        self.get(at) <= MAX_NUMBER && self.table(at + 1, MAX_ITEMS).is_some_and(|t| self.sorted(rows(&t[1..]), 3 << 49, (proxy as u64) << 49))
     }
 
     fn bag(&self) -> bool {
         let count = self.get(AT_BAG);
         count <= MAX_RELAYS as u64
             && (0..count as usize).all(|i| {
-                let w: [u64; RELAY] = std::array::from_fn(|j| self.get(AT_BAG + 1 + i * RELAY + j));
-                w[0] | w[2] <= MAX_NUMBER && w[3] < BLOCKS && w[1] == bucket_of(w[3]) && self.limits.allows(w[4])
+                let [view, bucket, number, block, key] = std::array::from_fn(|j| self.get(AT_BAG + 1 + i * RELAY + j));
+                view | number <= MAX_NUMBER && block < BLOCKS && bucket == bucket_of(block) && self.limits.allows(key)
             })
     }
 
@@ -145,7 +150,7 @@ impl Check<'_> {
             };
             for copy in [memory, disk] {
                 if copy.len() > 1 && !same(copy, known) {
-                    if !self.sorted(rows(&copy[1..]), |block| bucket_of(block) == bucket as u64) {
+                    if !self.sorted(rows(&copy[1..]), 15 << 10, (bucket as u64) << 10) {
                         return false;
                     }
                     known = copy;
@@ -155,7 +160,8 @@ impl Check<'_> {
         })
     }
 
-    /// Keys ascend along the positions, so a limit serves until a key is above it: then another brick's keys begin.
+    /// Along the positions keys ascend. From the last to the first, one comparison tells that a key is below the next and has the same id; where it is not,
+    /// the keys of a lower id begin, with the highest of them.
     fn log(&self, log: &[Word]) -> bool {
         let count = get(log, 0);
         if count > self.shape.chunks as u64 {
@@ -163,20 +169,22 @@ impl Check<'_> {
         }
         let rows = rows(&log[1..1 + 2 * count as usize]);
         let positions = &log[1 + 2 * self.shape.chunks..][..count as usize];
-        let (mut last, mut limit) = (0, 0);
-        let ascending = positions.iter().all(|&p| {
+        let (mut id, mut first, mut above, mut flags) = (256, 0, 0, 0);
+        for &p in positions.iter().rev() {
             let Some(row) = rows.get(read(p) as usize) else { return false };
             let key = read(row[0]);
-            if key > limit {
-                if !self.limits.allows(key) {
-                    return false;
-                }
-                limit = self.limits.0[(key >> 56) as usize];
+            let sequence = key.wrapping_sub(first);
+            if sequence < above {
+                above = sequence;
+            } else if key >> 56 < id && self.limits.allows(key) {
+                id = key >> 56;
+                first = id << 56;
+                above = key - first;
+            } else {
+                return false;
             }
-            let good = key > last;
-            last = key;
-            good
-        });
-        ascending && rows.iter().fold(0, |all, row| all | read(row[1])) <= 1
+            flags |= read(row[1]);
+        }
+        flags <= 1
     }
 }

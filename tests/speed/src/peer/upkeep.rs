@@ -80,11 +80,14 @@ fn missing(store: &Store, brick: usize, turn: &Turn) -> usize {
 /// The chunk becomes saved; one that is not held comes from a holder.
 fn mend_chunk(store: &mut Store, brick: usize, key: u64) {
     let shape = store.shape;
-    if let Ok(row) = log::find(store.log(brick), &shape, key) {
-        log::save(store.log_mut(brick), row);
-    } else if let Some((from, row)) = holder(store, key) {
-        let (from, to) = (store.cell(from, row), append(store, brick, key, 1));
-        store.words.copy_within(from..from + shape.cell, to);
+    match log::find(store.log(brick), &shape, key) {
+        Ok(row) => log::save(store.log_mut(brick), row),
+        Err(position) => {
+            if let Some((from, row)) = holder(store, key) {
+                let (from, to) = (store.cell(from, row), append(store, brick, position, key, 1));
+                store.words.copy_within(from..from + shape.cell, to);
+            }
+        }
     }
 }
 
@@ -93,18 +96,26 @@ pub fn collect(store: &mut Store, place_field: u64) -> Told {
     let members = store.bricks().all(|at| store.get(at + UP) == 1 && store.get(at + MEMBER) == 1);
     let no_items = (0..PROXIES).all(|p| store.get(proxy_at(p) + 1) == 0);
     ask(members && no_items && (0..BUCKETS).all(|g| store.of_bucket(g, READY) == 1 && nothing_pending(store, g)), 13)?;
-    let mut marks = log::Marks::none();
     let shape = store.shape;
-    // nothing is pending: the primary's memory has what every copy of the pair has
+    let mut marks = named(store, brick);
+    log::keep(store.log_mut(brick), &shape, &mut marks);
+    Ok(0)
+}
+
+/// The rows of a brick's log that the primaries name; where nothing is pending, their memory has what every copy of a pair has.
+fn named(store: &Store, brick: usize) -> log::Marks {
+    let log = store.log(brick);
+    let homes = log::homes(log);
+    let mut marks = log::Marks::none();
     for at in ready_tables(store) {
-        for row in table::used(&store.words[at..]) {
-            if let Ok(row) = log::find(store.log(brick), &shape, read(row[1])) {
+        // a log has chunks of few homes: most of the others' keys need no search
+        for key in table::used(&store.words[at..]).iter().map(|row| read(row[1])).filter(|key| homes[(key >> 56) as usize]) {
+            if let Ok(row) = log::find(log, &store.shape, key) {
                 marks.mark(row);
             }
         }
     }
-    log::keep(store.log_mut(brick), &shape, &mut marks);
-    Ok(0)
+    marks
 }
 
 /// The pair's four copies are the same; a lost brick's are empty.

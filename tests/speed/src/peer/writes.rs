@@ -25,18 +25,17 @@ pub fn put(store: &mut Store, proxy_field: u64, place_field: u64, block: u64, da
     store.set(brick + NEXT, next + 1);
     store.set(brick + CEILING, ceiling);
     let key = store.ids[place] << 56 | next;
-    let cell = append(store, brick, key, 0);
+    let (Ok(position) | Err(position)) = log::find(store.log(brick), &store.shape, key);
+    let cell = append(store, brick, position, key, 0);
     store.words[cell..cell + data.len() / 8].as_flattened_mut().copy_from_slice(data);
     table::insert(&mut store.words[items..], row, block, key);
     Ok(key)
 }
 
-/// A row for a key that the log does not hold; answers where its cell begins.
-pub fn append(store: &mut Store, brick: usize, key: u64, saved: u64) -> usize {
+/// A row for a key that the log does not hold, at the position that a search for it gave; answers where its cell begins.
+pub fn append(store: &mut Store, brick: usize, position: usize, key: u64, saved: u64) -> usize {
     let shape = store.shape;
-    let log = store.log_mut(brick);
-    let (Ok(position) | Err(position)) = log::find(log, &shape, key);
-    let row = log::append(log, &shape, position, key, saved);
+    let row = log::append(store.log_mut(brick), &shape, position, key, saved);
     store.cell(brick, row)
 }
 
@@ -44,11 +43,11 @@ pub fn copy(store: &mut Store, key: u64) -> Told {
     let home_id = key >> 56;
     ask((1..=MAX_ID).contains(&home_id), 3)?;
     let home = member(store, home_id)?;
-    let target = nearest(store, home_id, 1).map(|(_, brick)| brick).filter(|&brick| !log::holds(store.log(brick), &store.shape, key));
-    ask(target.is_none_or(|brick| log::count(store.log(brick)) < store.shape.chunks), 10)?;
+    let target = nearest(store, home_id, 1).and_then(|(_, brick)| Some((brick, log::find(store.log(brick), &store.shape, key).err()?)));
+    ask(target.is_none_or(|(brick, _)| log::count(store.log(brick)) < store.shape.chunks), 10)?;
     let row = log::find(store.log(home), &store.shape, key).map_err(|_| 11u64)?;
-    if let Some(brick) = target {
-        let (from, to) = (store.cell(home, row), append(store, brick, key, 0));
+    if let Some((brick, position)) = target {
+        let (from, to) = (store.cell(home, row), append(store, brick, position, key, 0));
         store.words.copy_within(from..from + store.shape.cell, to);
     }
     Ok(0)
