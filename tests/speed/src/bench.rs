@@ -11,3 +11,6 @@ pub type Step = fn(&mut [u8], &Event, &[u8], &[u8], &mut [u8]) -> Answer;
 
 /// The proved step, then the peer.
 pub const STEPS: [Step; 2] = [call_tests::store::step, crate::peer::step];
+
+/// The check that each of them begins with.
+pub const CHECKS: [fn(&[u8]) -> u64; 2] = [call_tests::store::check, crate::peer::check];

@@ -89,7 +89,7 @@ fn damaged_stores() {
             let new = if r.one_in(2) { r.number() } else { old.wrapping_add(r.below(5)).wrapping_sub(2) };
             model::put(&mut both.proved, word, new);
             model::put(&mut both.peer, word, new);
-            let code = peer::check(&mut both.peer);
+            let code = peer::check(&both.peer);
             assert_eq!(code, call_tests::store::check(&both.proved), "word {word} of {s:?} from {old} to {new}");
             if code == 2 {
                 both.wild_event(&mut r);
@@ -110,9 +110,9 @@ fn lengths_near_the_right_one() {
     for length in sound.len() - 20..sound.len() + 20 {
         let mut bytes = sound.clone();
         bytes.resize(length, 0);
-        assert_eq!(peer::check(&mut bytes), if length == sound.len() { 0 } else { 2 });
+        assert_eq!(peer::check(&bytes), if length == sound.len() { 0 } else { 2 });
     }
     for length in 0..6000 {
-        assert_eq!(peer::check(&mut r.bytes(length)), 2);
+        assert_eq!(peer::check(&r.bytes(length)), 2);
     }
 }

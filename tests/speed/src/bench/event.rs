@@ -1,7 +1,7 @@
 //! One event of a store, again and again: what it changes is put back between two calls, outside the time.
 use super::fixture::Store;
 use super::samples::{medians, time};
-use super::STEPS;
+use super::{CHECKS, STEPS};
 use call_tests::text::model::Event;
 
 /// The parts that events changed, with what they held before.
@@ -29,18 +29,23 @@ impl Undo {
     }
 }
 
-/// Nanoseconds of one accepted call of the proved step and of the peer.
-pub fn compare(store: &Store, e: &Event, rounds: usize, batch: usize) -> [f64; 2] {
+/// Nanoseconds of one accepted call of the proved step and of the peer, and of the check alone of each.
+pub fn compare(store: &Store, e: &Event, rounds: usize, batch: usize) -> [[f64; 2]; 2] {
     let size = store.settings.size as usize;
     let (data, zero, mut answer) = (vec![0xa5; size], vec![0; size], vec![0; size]);
     let mut bytes = store.clone().after(&[*e]).bytes;
     let undo = Undo::new(&store.bytes, &bytes);
     undo.put_back(&mut bytes);
-    medians(rounds, batch, |way| {
+    let [a, b, c, d] = medians(rounds, batch, |way| {
         let mut code = 0;
-        let took = time(|| code = STEPS[way](&mut bytes, e, &data, &zero, &mut answer).code);
+        let took = match way {
+            0 | 1 => time(|| code = STEPS[way](&mut bytes, e, &data, &zero, &mut answer).code),
+            _ => time(|| code = CHECKS[way - 2](&bytes)),
+        };
         assert_eq!(code, 0);
+        // also after a check, so that the caches are alike
         undo.put_back(&mut bytes);
         took
-    })
+    });
+    [[a, b], [c, d]]
 }

@@ -14,6 +14,9 @@ pub fn block(i: u64) -> u64 {
     g << 10 | (i / 16 & 1023) | (i >> 14 << 14)
 }
 
+/// A block that is mapped in every store here: the 500th of 1,000.
+const REWRITTEN: u64 = 4 << 10 | 31;
+
 #[derive(Clone)]
 pub struct Store {
     pub settings: Settings,
@@ -83,17 +86,21 @@ impl Store {
 }
 
 /// A kind's name, the store, and an event that it accepts: the kinds in their order.
-pub fn cases(block_size: u64) -> Vec<(&'static str, Store, Event)> {
-    const BLOCK: u64 = 500;
+pub type Case = (&'static str, Store, Event);
+
+/// Of stores of 4 places with 1,000 blocks mapped.
+pub fn cases(block_size: u64) -> Vec<Case> {
     let base = Store::mapped(Settings::new(4, block_size, 256, 1024), 1000);
-    let write = base.write(block(BLOCK));
+    let mut cases = write_cases(&base);
+    cases.extend(brick_cases(&base));
+    cases
+}
+
+/// A block is written again, up to the event; the kinds up to reset.
+fn write_cases(base: &Store) -> Vec<Case> {
+    let write = base.write(REWRITTEN);
     let at = |n: usize| base.clone().after(&write[..n]);
     let [put, copy, savelog, _, map, send, deliver, savemap, _, done] = write;
-    let lost = [event(15, 3, 0, 0), event(17, 3, 0, 0), event(18, 0, 0, 0)];
-    let gone = |n: usize| base.clone().after(&lost[..n]);
-    let bucket = moved_bucket(&gone(3));
-    let recovered = (0..BUCKETS as u64).fold(gone(3), |s, g| s.after(&[event(19, g, 0, 0), event(20, g, 0, 0)]));
-    let place = put.b;
     vec![
         ("put", at(0), put),
         ("copy", at(1), copy),
@@ -104,19 +111,30 @@ pub fn cases(block_size: u64) -> Vec<(&'static str, Store, Event)> {
         ("drop", at(6), event(7, 0, 0, 0)),
         ("savemap", at(7), savemap),
         ("done", at(9), done),
-        ("get", at(0), event(10, 0, block(BLOCK), 0)),
-        ("abandon", at(1), event(11, 0, block(BLOCK), 0)),
+        ("get", at(0), event(10, 0, REWRITTEN, 0)),
+        ("abandon", at(1), event(11, 0, REWRITTEN, 0)),
         ("learn", at(0), event(12, 0, 0, 0)),
         ("reset", at(1), event(13, 0, 0, 0)),
-        ("crash", at(2), event(14, place, 0, 0)),
-        ("lose", at(0), event(15, 3, 0, 0)),
-        ("rise", at(0).after(&[event(14, 3, 0, 0)]), event(16, 3, 0, 0)),
+    ]
+}
+
+/// A brick goes, another one takes its place, and all is made whole; the other kinds.
+fn brick_cases(base: &Store) -> Vec<Case> {
+    let [put, copy, ..] = base.write(REWRITTEN);
+    let lost = [event(15, 3, 0, 0), event(17, 3, 0, 0), event(18, 0, 0, 0)];
+    let gone = |n: usize| base.clone().after(&lost[..n]);
+    let bucket = moved_bucket(&gone(3));
+    let recovered = (0..BUCKETS as u64).fold(gone(3), |s, g| s.after(&[event(19, g, 0, 0), event(20, g, 0, 0)]));
+    vec![
+        ("crash", base.clone().after(&[put, copy]), event(14, put.b, 0, 0)),
+        ("lose", gone(0), event(15, 3, 0, 0)),
+        ("rise", base.clone().after(&[event(14, 3, 0, 0)]), event(16, 3, 0, 0)),
         ("join", gone(1), event(17, 3, 0, 0)),
         ("view", gone(2), event(18, 0, 0, 0)),
         ("fetch", gone(3), event(19, bucket, 0, 0)),
         ("ready", gone(3).after(&[event(19, bucket, 0, 0)]), event(20, bucket, 0, 0)),
         ("mend", recovered, event(21, 3, 0, 0)),
-        ("collect", base.clone().after(&base.writes(100)), event(22, place, 0, 0)),
+        ("collect", base.clone().after(&base.writes(100)), event(22, put.b, 0, 0)),
     ]
 }
 

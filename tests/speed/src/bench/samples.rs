@@ -1,4 +1,4 @@
-//! Times of single runs, and their median.
+//! Times of single runs, and what is kept of them.
 use std::hint::black_box;
 use std::time::Instant;
 
@@ -11,26 +11,25 @@ pub fn time<T>(run: impl FnOnce() -> T) -> f64 {
     took.as_nanos() as f64
 }
 
-pub fn median(samples: &mut [f64]) -> f64 {
+fn median(mut samples: Vec<f64>) -> f64 {
     samples.sort_unstable_by(f64::total_cmp);
     samples[samples.len() / 2]
 }
 
 /// What the clock itself takes.
-pub fn clock() -> f64 {
-    median(&mut (0..10_000).map(|_| time(|| ())).collect::<Vec<_>>())
+fn clock() -> f64 {
+    median((0..10_000).map(|_| time(|| ())).collect())
 }
 
-/// The median of each of some ways to do the same, taken in turns, a batch of each in each round. `run` gives the nanoseconds of one run.
+/// Some ways to do the same, in turns: a batch of each in every round. `run` gives the nanoseconds of one run. A round counts with the best of its batch, so
+/// that other work of the machine does not; the answer is the median over the rounds.
 pub fn medians<const N: usize>(rounds: usize, batch: usize, mut run: impl FnMut(usize) -> f64) -> [f64; N] {
     let clock = clock();
-    let mut samples: [Vec<f64>; N] = std::array::from_fn(|_| Vec::with_capacity(rounds * batch));
+    let mut samples: [Vec<f64>; N] = std::array::from_fn(|_| Vec::with_capacity(rounds));
     for _ in 0..rounds {
         for (way, samples) in samples.iter_mut().enumerate() {
-            // the first run finds the caches as the other ways left them
-            run(way);
-            samples.extend((0..batch).map(|_| run(way) - clock));
+            samples.push((0..batch).map(|_| run(way)).fold(f64::MAX, f64::min) - clock);
         }
     }
-    samples.map(|mut s| median(&mut s))
+    samples.map(median)
 }

@@ -6,7 +6,7 @@ use speed::bench::path::{memcpy, reads, writes};
 
 const ROUNDS: usize = 40;
 
-/// Kinds that move cells by the hundred are timed with small blocks: 8 KB ones would hide what else they do.
+/// Kinds that move cells by the hundred are timed with small blocks too: 8 KB ones hide what else they do.
 const SMALL: [&str; 3] = ["crash", "mend", "collect"];
 
 fn main() {
@@ -15,27 +15,35 @@ fn main() {
     growth();
 }
 
-fn row(name: &str, [proved, peer]: [f64; 2]) {
-    println!("{name:<26} {proved:>12.0} {peer:>12.0} {:>8.2}", proved / peer);
+fn row(name: &str, [proved, peer]: [f64; 2]) -> String {
+    format!("{name:<26} {proved:>12.0} {peer:>12.0} {:>8.2}", proved / peer)
+}
+
+fn heading(name: &str) -> String {
+    format!("{name:<26} {:>12} {:>12} {:>8}", "proved", "peer", "ratio")
 }
 
 fn every_kind() {
-    println!("{:<26} {:>12} {:>12} {:>8}", "one call, ns", "proved", "peer", "ratio");
+    println!("{} {:>16} {:>8}", heading("one call, ns"), "no check: proved", "peer");
     for size in [8192, 64] {
         for (name, store, e) in cases(size) {
-            if SMALL.contains(&name) == (size == 64) {
-                row(&format!("{:>2} {name:<10} S {size}", e.kind), compare(&store, &e, ROUNDS, 50));
+            if size == 8192 || SMALL.contains(&name) {
+                let [step, check] = compare(&store, &e, ROUNDS, 50);
+                let name = format!("{:>2} {name:<10} S {size}", e.kind);
+                println!("{} {:>16.0} {:>8.0}", row(&name, step), step[0] - check[0], step[1] - check[1]);
             }
         }
     }
-    println!("4 places, 1,000 blocks mapped; each call accepted\n");
+    let store = Store::mapped(Settings::new(4, 64, 256, 1024), 1000);
+    println!("{}", row("check alone", compare(&store, &event(12, 0, 0, 0), ROUNDS, 50)[1]));
+    println!("4 places, 1,000 blocks mapped; each call accepted; \"no check\" is what is left without the time of the check alone\n");
 }
 
 fn whole_path() {
     let store = Store::mapped(Settings::new(4, 8192, 256, 1024), 1000);
     let speed = |ns: f64| 8192.0 / ns * 1e3;
     let copied = memcpy(8192, 200);
-    println!("{:<26} {:>12} {:>12} {:>8} {:>12}", "8 KB blocks, MB/s", "proved", "peer", "ratio", "memcpy");
+    println!("{} {:>12}", heading("8 KB blocks, MB/s"), "memcpy");
     for (name, [proved, peer], copied) in [("put to done, 10 calls", writes(&store, 100), copied[0]), ("get", reads(&store, 200), copied[1])] {
         println!("{name:<26} {:>12.0} {:>12.0} {:>8.2} {:>12.0}", speed(proved), speed(peer), proved / peer, speed(copied));
     }
@@ -43,12 +51,12 @@ fn whole_path() {
 }
 
 fn growth() {
-    println!("{:<26} {:>12} {:>12} {:>8}", "by blocks mapped, ns", "proved", "peer", "ratio");
+    println!("{}", heading("by blocks mapped, ns"));
     for blocks in [100, 1_000, 10_000] {
         let store = Store::mapped(Settings::new(4, 512, 1024, 8192), blocks);
-        row(&format!("get, {blocks}"), compare(&store, &event(10, 0, block(50), 0), ROUNDS, 20));
-        row(&format!("put, {blocks}"), compare(&store, &store.write(block(50))[0], ROUNDS, 20));
-        row(&format!("put to done, {blocks}"), writes(&store, ROUNDS));
+        println!("{}", row(&format!("get, {blocks}"), compare(&store, &event(10, 0, block(50), 0), ROUNDS, 20)[0]));
+        println!("{}", row(&format!("put, {blocks}"), compare(&store, &store.write(block(50))[0], ROUNDS, 20)[0]));
+        println!("{}", row(&format!("put to done, {blocks}"), writes(&store, ROUNDS)));
     }
     println!("4 places, S 512");
 }

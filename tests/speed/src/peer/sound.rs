@@ -1,5 +1,5 @@
 //! Whether words are a sound store. Nearly all of a step's time goes here.
-use super::store::{bucket_at, proxy_at, Shape, BEGAN, CEILING, MEMBER, MOST_PLACES, NEXT, UP};
+use super::store::{bucket_at, proxy_at, Shape, AT_GIVEN, AT_STARTED, AT_VIEW, BEGAN, CEILING, MEMBER, MOST_PLACES, NEXT, UP};
 use super::words::{get, read, rows, same, Row, Word};
 use call_tests::store::model::{
     bucket_of, Settings, AT_BAG, AT_BUFFER, AT_COPIES, AT_PLACES, BLOCKS, BUCKET, BUCKETS, MAX_ID, MAX_ITEMS, MAX_NUMBER, MAX_RELAYS, MAX_WAITING, PROXIES,
@@ -8,10 +8,11 @@ use call_tests::store::model::{
 
 type Ids = [u64; MOST_PLACES];
 
-/// By id the highest key that may stand anywhere, which one more would not fit a word for. For an id that is not given it is 0, which lets nothing pass.
+/// By id the highest key that may stand anywhere, 0 for an id that is not given. The highest and not one more, which might not fit a word.
 struct Limits([u64; 256]);
 
 impl Limits {
+    /// One less on the left, so that neither key 0 passes nor any key of an id that is not given.
     fn allows(&self, key: u64) -> bool {
         key.wrapping_sub(1) < self.0[(key >> 56) as usize]
     }
@@ -28,8 +29,8 @@ struct Check<'a> {
 /// The sizes and the ids by place of a sound store.
 pub fn check(words: &[Word]) -> Option<(Shape, Ids)> {
     let shape = shape_of(words)?;
-    let (view, given, started) = (get(words, 4), get(words, 5), get(words, 6));
-    if view < 1 || view > MAX_NUMBER || given > MAX_ID || started > shape.places as u64 {
+    let (view, given, started) = (get(words, AT_VIEW), get(words, AT_GIVEN), get(words, AT_STARTED));
+    if !(1..=MAX_NUMBER).contains(&view) || given > MAX_ID || started > shape.places as u64 {
         return None;
     }
     let ids = ids_of(words, &shape, given)?;

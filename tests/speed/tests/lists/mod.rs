@@ -165,7 +165,7 @@ impl Both {
         }
         match (kind, which) {
             (1, 2) | (4, 1) | (9..=11, 1) | (5, 0) => some_block(r),
-            (2, 0) => r.among(1, self.settings.places + 2) << 56 | r.below(6) + 1024 * r.below(2),
+            (2, 0) => (r.among(1, self.settings.places + 2) << 56) + r.below(6) + 1024 * r.below(2),
             (6..=7, 0) => r.below(get(&self.peer, AT_BAG) + 1),
             (1 | 4 | 9..=13, 0) => r.below(4),
             (19..=20, 0) => r.below(4),
