@@ -102,6 +102,24 @@ fn damaged_stores() {
     assert!(refused * 1000 > events());
 }
 
+/// The key of 64 ones: of id 255, which a store may have given and lost, or have with every sequence number used.
+#[test]
+fn the_highest_key() {
+    let s = Settings::new(3, 8, 2, 4);
+    let mut store = Both::formatted(&mut Random::new(36), s).peer;
+    for (i, word) in [1, 1, 0, 0, 0, u64::MAX].into_iter().enumerate() {
+        model::put(&mut store, model::AT_BAG + i, word);
+    }
+    let place = model::AT_PLACES + 2 * s.place();
+    model::put(&mut store, place + 5, model::SEQUENCES);
+    for (given, id, next, code) in [(254, 3, 0, 2), (255, 3, 0, 0), (255, 255, model::SEQUENCES - 1, 2), (255, 255, model::SEQUENCES, 0)] {
+        for (at, word) in [(5, given), (place, id), (place + 4, next)] {
+            model::put(&mut store, at, word);
+        }
+        assert_eq!([peer::check(&store), call_tests::store::check(&store)], [code; 2]);
+    }
+}
+
 #[test]
 fn lengths_near_the_right_one() {
     let mut r = Random::new(34);
