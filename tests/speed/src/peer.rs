@@ -33,7 +33,7 @@ pub fn check(store: &[u8]) -> u64 {
 #[inline(never)]
 pub fn step(store: &mut [u8], e: &Event, data: &[u8], zero: &[u8], answer: &mut [u8]) -> Answer {
     let told = match Store::sound(store) {
-        Some(store) => event(store, e, data, zero, answer),
+        Some(mut store) => event(&mut store, e, data, zero, answer),
         None => Err(2),
     };
     match told {
@@ -42,8 +42,7 @@ pub fn step(store: &mut [u8], e: &Event, data: &[u8], zero: &[u8], answer: &mut 
     }
 }
 
-fn event(mut store: Store, e: &Event, data: &[u8], zero: &[u8], answer: &mut [u8]) -> Told {
-    let s = &mut store;
+fn event(s: &mut Store, e: &Event, data: &[u8], zero: &[u8], answer: &mut [u8]) -> Told {
     match e.kind {
         1 => writes::put(s, e.a, e.b, e.c, data),
         2 => writes::copy(s, e.a),

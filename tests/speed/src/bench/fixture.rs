@@ -11,7 +11,7 @@ pub fn event(kind: u64, a: u64, b: u64, c: u64) -> Event {
 /// The block that `mapped_store` makes as its i-th.
 pub fn block(i: u64) -> u64 {
     let g = i % BUCKETS as u64;
-    g << 10 | i / 16 % 1024 | i >> 14 << 14
+    (g << 10) | (i / 16 % 1024) | (i >> 14 << 14)
 }
 
 /// A block that is mapped in every store here: the 500th of 1,000.

@@ -4,7 +4,7 @@ use speed::bench::event::compare;
 use speed::bench::fixture::{block, cases, event, Store};
 use speed::bench::path::{memcpy, reads, writes};
 
-const ROUNDS: usize = 40;
+const ROUNDS: usize = 100;
 
 /// Kinds that move cells by the hundred are timed with small blocks too: 8 KB ones hide what else they do.
 const SMALL: [&str; 3] = ["crash", "mend", "collect"];
@@ -28,7 +28,8 @@ fn every_kind() {
     for size in [8192, 64] {
         for (name, store, e) in cases(size) {
             if size == 8192 || SMALL.contains(&name) {
-                let [step, check] = compare(&store, &e, ROUNDS, 50);
+                let rounds = if SMALL.contains(&name) { ROUNDS / 5 } else { ROUNDS };
+                let [step, check] = compare(&store, &e, rounds, 50);
                 let name = format!("{:>2} {name:<10} S {size}", e.kind);
                 println!("{} {:>16.0} {:>8.0}", row(&name, step), step[0] - check[0], step[1] - check[1]);
             }

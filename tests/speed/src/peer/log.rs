@@ -39,8 +39,13 @@ pub fn save(log: &mut [Word], row: usize) {
 }
 
 pub fn save_all(log: &mut [Word]) {
-    let count = count(log);
-    log[1..1 + 2 * count].as_chunks_mut::<2>().0.iter_mut().for_each(|row| row[1] = 1u64.to_le_bytes());
+    let end = 1 + 2 * count(log);
+    // few are not saved yet: lines of the cache that need no change stay unwritten
+    for [_, saved] in log[1..end].as_chunks_mut().0 {
+        if read(*saved) == 0 {
+            *saved = 1u64.to_le_bytes();
+        }
+    }
 }
 
 /// A new row at the end, its position given; its cell is the caller's to write. Answers the row.

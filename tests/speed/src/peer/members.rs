@@ -32,10 +32,8 @@ pub fn holder(store: &Store, key: u64) -> Option<(usize, usize)> {
     None
 }
 
-/// Whether a member has the chunk saved.
+/// Whether a member has the chunk saved; mostly the home has.
 pub fn has_saved(store: &Store, key: u64) -> bool {
-    store.bricks().filter(|at| store.get(at + MEMBER) == 1).any(|at| {
-        let log = store.log(at);
-        log::find(log, &store.shape, key).is_ok_and(|row| log::is_saved(log, row))
-    })
+    let saved = |brick| log::find(store.log(brick), &store.shape, key).is_ok_and(|row| log::is_saved(store.log(brick), row));
+    store.member(key >> 56).is_some_and(saved) || store.bricks().any(|brick| store.get(brick + MEMBER) == 1 && saved(brick))
 }
