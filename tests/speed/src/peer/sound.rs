@@ -95,19 +95,17 @@ impl Check<'_> {
     }
 
     /// Rows ascending by block, all blocks with these bits under the mask. From the last row to the first, so that one comparison tells that a block is in
-    /// range and below the next; the bits are gathered and compared once.
+    /// range and below the next.
     fn sorted(&self, rows: &[Row], mask: u64, bits: u64) -> bool {
-        let (mut above, mut all, mut any) = (BLOCKS, bits, bits);
+        let mut above = BLOCKS;
         for row in rows.iter().rev() {
             let (block, key) = (read(row[0]), read(row[1]));
-            if block >= above || !self.limits.allows(key) {
+            if block >= above || block & mask != bits || !self.limits.allows(key) {
                 return false;
             }
             above = block;
-            all &= block;
-            any |= block;
         }
-        (all ^ bits | any ^ bits) & mask == 0
+        true
     }
 
     fn bucket(&self, bucket: usize) -> bool {
