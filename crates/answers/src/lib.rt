@@ -1,4 +1,4 @@
-// The line of text of an answer.
+// The text of answers.
 ghost use mathlib.Core.Path.{_≡_};
 ghost use mathlib.Core.List.{[], _∷_, _++_};
 ghost use Prim.Native.Nat.{_+_, _*_, _≤_};
@@ -6,10 +6,21 @@ ghost use lib.ListN.{length};
 ghost use Rattle.area.specs.Area.{onto};
 ghost use Rattle.decimal.specs.Decimal.{decimal};
 ghost use Rattle.text.specs.Fields.{comma};
-ghost use Rattle.answers.specs.Answers.{data-text, answer-line};
+ghost use Rattle.answers.specs.Answers.{header, data-text, answer-line};
 
 // three numbers of at most 20 digits, three commas, a minus and a line feed; data adds two bytes for each of its own
 pub const MOST_WITHOUT_DATA: usize = 65;
+
+pub const HEADER_LENGTH: usize = 19;
+
+// The first line, at the front of an area that holds it; its length.
+pub fn write_header(area: &mut [u8]) -> usize
+    requires { ⌜ 19 ≤ length (now area) ⌝ }
+    ensures { λ r. ⌜ (r ≡ length header) × (now (area .exit) ≡ onto 0 header (now (area .entry))) ⌝ }
+{
+    moves::copy_bytes(&mut area[..HEADER_LENGTH], b"line,code,key,data\n");
+    HEADER_LENGTH
+}
 
 // Data or a minus, from a place on; the place after it.
 fn put_data(data: &[u8], area: &mut [u8], at: usize) -> usize

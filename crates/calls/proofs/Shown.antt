@@ -1,5 +1,5 @@
 -- Which answers have bytes: those of an accepted get, and no others.
-use mathlib.Core.Path.{_≡_, refl, sym, ap, _∙_}
+use mathlib.Core.Path.{_≡_, refl, sym, _∙_}
 use mathlib.Core.List.{List, []}
 use mathlib.Core.Bool.{false}
 use Prim.Native.Nat.{ℕ}

@@ -3,13 +3,13 @@ use mathlib.Core.Path.{_≡_, refl, sym, ap, _∙_}
 use mathlib.Core.List.{List, [], _∷_}
 use mathlib.Core.Bool.{true}
 use mathlib.Core.Option.{Option, some, none}
-use Prim.Native.Nat.{ℕ, suc, _≤_}
+use Prim.Native.Nat.{ℕ, _≤_}
 use native.Mathlib.Omega.{arith}
 use lib.ListN.{length, getD, take}
 use Rattle.lists.proofs.Tests.{by}
 use Rattle.area.specs.Area.{onto}
 use Rattle.decimal.specs.Decimal.{and-then}
-use Rattle.rules.specs.Event.{Event, Parts, kind-at, event-of, parts-from, event-from}
+use Rattle.rules.specs.Event.{Parts, kind-at, event-of, parts-from, event-from}
 use Rattle.text.specs.Lines.{read-parts, read-event}
 use Rattle.text.proofs.Laws.{form-ok}
 use Rattle.text.proofs.RoundTrip.{WellFormed, well-formed, parts-well-formed}

@@ -1,6 +1,6 @@
 -- The outcome of a call that lends a block of zeros and an area is the rules' step, and its answer is written from it.
 use mathlib.Core.Path.{_≡_, refl, sym, ap, _∙_}
-use mathlib.Core.List.{List, [], _∷_}
+use mathlib.Core.List.{List, _∷_}
 use mathlib.Core.Bool.{true, cond}
 use Prim.Native.Nat.{ℕ, zero, suc, _≤_}
 use native.Mathlib.Omega.{arith}
@@ -12,11 +12,11 @@ use Rattle.lists.specs.Tests.{_and_, _or_, every}
 use Rattle.lists.proofs.Tests.{by, both}
 use Rattle.area.specs.Area.{onto}
 use Rattle.rules.specs.declared.settings.Settings.{Settings}
-use Rattle.rules.specs.Call.{Call, get-kind, is-zero-block, lends, event-called}
+use Rattle.rules.specs.Call.{Call, get-kind, is-zero-block, event-called}
 use Rattle.rules.specs.Event.{Event, event-from}
 use Rattle.rules.specs.Reads.{zeros}
 use Rattle.rules.specs.Step.{Outcome as Result, step}
-use Rattle.layout.specs.Store.{decode-bytes, render-bytes}
+use Rattle.layout.specs.Store.{decode-bytes}
 use Rattle.lent.specs.declared.Answer.{Answer}
 use Rattle.lent.specs.declared.Answer.the-variants.{Yes, No}
 use Rattle.lent.specs.Stores.{StoreOf}

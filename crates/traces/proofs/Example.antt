@@ -2,7 +2,6 @@
 use mathlib.Core.Path.{_≡_, refl}
 use mathlib.Core.List.{List, [], _∷_, _++_}
 use Prim.Native.Nat.{ℕ}
-use Rattle.lists.specs.Tests.{_and_}
 use Rattle.rules.specs.Event.{ascii, kinds, kind-at, event-of}
 use Rattle.rules.proofs.Examples.{rules-open}
 use Rattle.decimal.specs.Decimal.{digits, decimal, push, and-then, spelled, number-of}
@@ -11,9 +10,9 @@ use Rattle.text.specs.Words.{same-bytes, kind-from, kind-of-word}
 use Rattle.text.specs.Fields.{parted, before, fields}
 use Rattle.text.specs.Lines.{take-numbers, take-bytes, parts-of-kind, parts-of-fields, is-line, without-feed, read-parts, read-event, settings-at}
 use Rattle.text.specs.Lines.{settings-of-fields, read-settings}
-use Rattle.answers.specs.Answers.{data-text, answer-line}
+use Rattle.answers.specs.Answers.{header, data-text, answer-line}
 use Rattle.lines.specs.Lines.{lines-from, lines}
-use Rattle.traces.specs.Trace.{can-trace, header, refused, event-in, answers, with-settings, trace-lines, trace-text}
+use Rattle.traces.specs.Trace.{can-trace, refused, event-in, answers, with-settings, trace-lines, trace-text}
 
 -- lines of text, each with its line feed
 unfoldable pub text : List (List ℕ) → List ℕ
@@ -22,8 +21,9 @@ text (l ∷ ls) = l ++ (10 ∷ text ls)
 
 -- to unfold this is to unfold how lines are read and written
 unfoldable lines-open : ℕ
-unfolding push and-then spelled number-of is-digit digit-value only-digits unhex spells-bytes bytes-of ascii kinds kind-at same-bytes kind-from kind-of-word before
-    fields take-numbers take-bytes parts-of-kind parts-of-fields is-line without-feed read-parts read-event settings-at settings-of-fields read-settings event-of digits decimal
+unfolding push and-then spelled number-of is-digit digit-value only-digits unhex spells-bytes bytes-of ascii kinds kind-at same-bytes kind-from kind-of-word
+    before fields take-numbers take-bytes parts-of-kind parts-of-fields is-line without-feed read-parts read-event settings-at settings-of-fields
+    read-settings event-of digits decimal
     hex-digit hex parted data-text answer-line lines-from lines
 lines-open = 0
 

@@ -13,9 +13,10 @@ use Rattle.rules.specs.State.{State}
 use Rattle.rules.specs.Event.{Parts, event-of}
 use Rattle.decimal.specs.Decimal.{and-then}
 use Rattle.text.specs.Lines.{line-feed, read-event, read-settings}
+use Rattle.answers.specs.Answers.{header}
 use Rattle.lines.specs.Lines.{kept, lines-from, lines}
 use Rattle.lines.proofs.Kept.{kept-parts, kept-settings, kept-none, kept-some, kept-more}
-use Rattle.traces.specs.Trace.{can-trace, header, refused, event-or-unknown, event-in, outcome, answer-text, answers, with-settings, trace-lines}
+use Rattle.traces.specs.Trace.{can-trace, refused, event-or-unknown, event-in, outcome, answer-text, answers, with-settings, trace-lines}
 use Rattle.traces.specs.Trace.{trace-text}
 use Rattle.traces.specs.Machine.{Phase, opening, running, stopped, Machine, Fed, settings-said, settings-next, line-said, line-next}
 use Rattle.traces.specs.Machine.{at-phase, feed, start, ended, last-said}

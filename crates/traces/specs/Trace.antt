@@ -8,13 +8,13 @@ use lib.Dec.{leb}
 use Rattle.lists.specs.Tests.{_and_}
 use Rattle.rules.specs.declared.settings.Settings.{Settings}
 use Rattle.rules.specs.Limits.{in-limits}
-use Rattle.rules.specs.Event.{Event, ascii}
+use Rattle.rules.specs.Event.{Event}
 use Rattle.rules.specs.State.{State}
 use Rattle.rules.specs.Format.{format}
 use Rattle.rules.specs.Step.{Outcome, step}
 use Rattle.layout.specs.Store.{store-bytes}
-use Rattle.text.specs.Lines.{line-feed, read-event, read-settings}
-use Rattle.answers.specs.Answers.{answer-line}
+use Rattle.text.specs.Lines.{read-event, read-settings}
+use Rattle.answers.specs.Answers.{header, answer-line}
 use Rattle.lines.specs.Lines.{lines}
 
 -- the largest store that the program has room for, in bytes
@@ -23,9 +23,6 @@ most-bytes = 49152
 
 unfoldable pub can-trace : Settings → Bool
 can-trace c = in-limits c and leb (store-bytes c) most-bytes
-
-unfoldable pub header : List ℕ
-header = ascii "line,code,key,data" ++ (line-feed ∷ [])
 
 -- settings malformed, refused, or of a store that is too large
 unfoldable pub refused : List ℕ

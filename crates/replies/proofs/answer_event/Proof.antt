@@ -90,7 +90,8 @@ write-answer-requires : tie.Need-write-answer-requires
 write-answer-requires c κs =
     let n = c .before .before .shown-length in
     let e = count (c .before .before .before .before .before .before .before .before .before) (n .result) (n .ensures .1) in
-    omega (arith, c .before .before .before .before .before .before .before .before .before .before .before .before .before .before .before .before .before .before .pre .1, small (c .before .before .before .before .before .before .before .before .before .before .before .before .before), e, n .ensures .1)
+    let z = c .before .before .before .before .before .before .before .before .before .before .before .before .before in
+    omega (arith, z .before .before .before .before .before .pre .1, small z, e, n .ensures .1)
 
 enum-known-answer-2 : tie.Need-enum-known-answer-2
 enum-known-answer-2 c = search needs
@@ -108,7 +109,8 @@ write-answer-requires-2 : tie.Need-write-answer-requires-2
 write-answer-requires-2 c κs =
     let n = c .before .before .shown-length2 in
     let e = count (c .before .before .before .before .before .before .before .before .before) (n .result) (n .ensures .1) in
-    omega (arith, c .before .before .before .before .before .before .before .before .before .before .before .before .before .before .before .before .before .before .pre .1, small (c .before .before .before .before .before .before .before .before .before .before .before .before .before), e, n .ensures .1)
+    let z = c .before .before .before .before .before .before .before .before .before .before .before .before .before in
+    omega (arith, z .before .before .before .before .before .pre .1, small z, e, n .ensures .1)
 
 same-length : tie.Need-same-length
 same-length c = search needs

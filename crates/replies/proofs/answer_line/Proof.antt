@@ -1,5 +1,4 @@
 use mathlib.Core.Path.{_≡_, sym, ap, _∙_}
-use Prim.Native.Nat.{ℕ, _≤_}
 use native.Mathlib.Omega.{arith}
 use lib.ListN.{length, take, drop, length-append}
 use lib.Seq.{take-at, length-take-le}
@@ -79,8 +78,8 @@ same-length-2 c = search needs
 returns : tie.Need-returns
 returns c =
     let at-parsed = c .before .before .before .before .before .before .before .before .before in
-    let a = c .before .before .before .before .before .before .before .before .before .before .before .before .before .before .before .before .before .before .before .before .args in
-    let f = c .before .before .before .before .before .before .before .before .before .before .before .before in
+    let f = at-parsed .before .before .before in
+    let a = f .before .before .before .before .before .before .before .before .args in
     let z = f .before .before .before .settings in
     let e = c .before .before .before .before .answer-event in
     let g = at-parsed .parsed .given in
