@@ -1,0 +1,92 @@
+//! Random lists of events: plans carried out step by step, mixed with events of any kind and field.
+mod fields;
+mod plans;
+mod start;
+mod tasks;
+
+pub use start::{edited, settings};
+pub use tasks::Task;
+
+use crate::damage::Damage;
+use crate::model::{Block, Call, State, CRASH, LOSE};
+use crate::trial::Act;
+use call_tests::random::Random;
+use std::collections::VecDeque;
+
+/// How a list behaves.
+#[derive(Clone, Debug)]
+pub struct Temper {
+    /// of a hundred events so many of any kind and field
+    pub wild: u64,
+    /// of a hundred tasks of a plan so many left out
+    pub skipped: u64,
+    /// crashes and losses strike whole stores alone
+    pub careful: bool,
+    /// of a thousand acts so many on a damaged copy
+    pub probes: u64,
+}
+
+impl Temper {
+    pub fn random(r: &mut Random) -> Self {
+        let (wild, skipped) = match r.below(6) {
+            0 => (0, 0),
+            1 => (2, 2),
+            2 | 3 => (10, 10),
+            4 => (40, 20),
+            _ => (95, 30),
+        };
+        Temper { wild, skipped, careful: r.one_in(2), probes: 15 }
+    }
+}
+
+pub struct Generator {
+    pub blocks: Vec<Block>,
+    temper: Temper,
+    /// plans under way, each with what it still has to do
+    plans: Vec<VecDeque<Task>>,
+}
+
+impl Generator {
+    pub fn new(r: &mut Random, temper: Temper) -> Self {
+        Generator { blocks: fields::some_blocks(r), temper, plans: Vec::new() }
+    }
+
+    pub fn act(&mut self, r: &mut Random, state: &State) -> Act {
+        if r.below(1000) < self.temper.probes {
+            let damage = Damage::random(r, state.settings, crate::decode::length(state.settings));
+            return Act::Probe(damage, self.wild(r, state));
+        }
+        Act::Step(self.call(r, state))
+    }
+
+    pub fn call(&mut self, r: &mut Random, state: &State) -> Call {
+        let call = if r.below(100) < self.temper.wild { self.wild(r, state) } else { self.planned(r, state) };
+        if self.temper.careful && matches!(call.kind, CRASH | LOSE) && !state.is_whole() {
+            self.plans.clear();
+            self.plans.push(plans::repair(r, state).into());
+            return self.planned(r, state);
+        }
+        call
+    }
+
+    /// The next task of one of the plans.
+    fn planned(&mut self, r: &mut Random, state: &State) -> Call {
+        loop {
+            self.plans.retain(|p| !p.is_empty());
+            let at_once = if self.temper.wild == 0 { 1 } else { 3 };
+            if self.plans.is_empty() || self.plans.len() < at_once && r.one_in(8) {
+                self.plans.push(plans::random(r, state, &self.blocks).into());
+            }
+            let plan = r.below(self.plans.len() as u64) as usize;
+            let Some(task) = self.plans[plan].pop_front() else { continue };
+            let skipped = r.below(100) < self.temper.skipped || task.is_idle(state) && !r.one_in(20);
+            if !skipped {
+                return task.call(r, state);
+            }
+        }
+    }
+
+    fn wild(&self, r: &mut Random, state: &State) -> Call {
+        fields::wild(r, state, &self.blocks)
+    }
+}

@@ -1,0 +1,101 @@
+//! Events of any kind, their fields mostly in range and mostly of what the state holds.
+use crate::model::{Block, Call, Key, State, BUCKETS, PROXIES};
+use call_tests::random::Random;
+use call_tests::text::model::KINDS;
+
+pub fn pick<T: Clone>(r: &mut Random, list: &[T]) -> Option<T> {
+    let n = list.len() as u64;
+    (n > 0).then(|| list[r.below(n) as usize].clone())
+}
+
+/// A few blocks in few buckets, so that copies fill; of one proxy or of all.
+pub fn some_blocks(r: &mut Random) -> Vec<Block> {
+    let (proxies, buckets, low) = (r.among(1, 4), *[1, 1, 2, 3, 16].get(r.below(5) as usize).unwrap(), r.among(1, 4));
+    let shift = r.below(4);
+    let count = r.among(2, 14);
+    (0..count).map(|_| block(r.below(proxies), (r.below(buckets) + shift) % 16, r.below(low) + (r.below(2) << 14))).collect()
+}
+
+/// A block of a proxy and a bucket; the bits of the bucket in `rest` are not used.
+pub fn block(proxy: u64, bucket: u64, rest: u64) -> Block {
+    let low = rest & 1023 | rest >> 14 << 14;
+    Block(proxy << 49 | bucket << 10 | low & ((1 << 49) - 1))
+}
+
+/// A key that stands somewhere, or one near.
+fn key(r: &mut Random, state: &State) -> Key {
+    let items = state.proxies.iter().flat_map(|p| p.items.values().copied());
+    let logs = state.bricks.values().flat_map(|b| b.log.iter().map(|c| c.key));
+    let keys: Vec<Key> = items.chain(logs).collect();
+    match pick(r, &keys) {
+        Some(key) if !r.one_in(6) => key,
+        Some(key) => Key(key.0.wrapping_add(r.below(3)).wrapping_sub(1)),
+        None => Key::new(r.among(1, state.settings.places), r.below(3)),
+    }
+}
+
+fn number_of(r: &mut Random, end: u64) -> u64 {
+    match r.below(60) {
+        0 => end,
+        1 => r.number(),
+        _ => r.below(end.max(1)),
+    }
+}
+
+fn any_block(r: &mut Random, blocks: &[Block]) -> u64 {
+    match r.below(40) {
+        0 => r.number(),
+        1 => r.below(1 << 51),
+        2 => block(r.below(4), r.below(16), r.below(4)).0,
+        _ => pick(r, blocks).map_or(0, |b| b.0),
+    }
+}
+
+/// Any number is a kind's now and then.
+fn kind(r: &mut Random) -> u64 {
+    const OFTEN: [u64; 14] = [1, 2, 3, 4, 4, 5, 5, 6, 8, 8, 9, 10, 10, 12];
+    match r.below(100) {
+        0 => r.number(),
+        1..=39 => OFTEN[r.below(OFTEN.len() as u64) as usize],
+        _ => 1 + r.below(KINDS.len() as u64),
+    }
+}
+
+fn length(r: &mut Random, size: usize) -> usize {
+    if r.one_in(50) {
+        r.below(2 * size as u64 + 2) as usize
+    } else {
+        size
+    }
+}
+
+fn numbers(r: &mut Random, state: &State, blocks: &[Block], kind: u64) -> [u64; 3] {
+    let block = any_block(r, blocks);
+    let proxy = if r.one_in(20) { number_of(r, PROXIES as u64) } else { block >> 49 };
+    let place = number_of(r, state.settings.places);
+    match kind {
+        1 => [proxy, place, block],
+        2 => [if r.one_in(40) { r.number() } else { key(r, state).0 }, r.next(), r.next()],
+        4 | 9..=11 => [proxy, block, r.next()],
+        5 => [block, r.next(), r.next()],
+        6 | 7 => [number_of(r, state.bag.len() as u64), r.next(), r.next()],
+        12 | 13 => [number_of(r, PROXIES as u64), r.next(), r.next()],
+        19 | 20 if r.one_in(2) => [pick(r, blocks).map_or(0, |b| b.bucket() as u64), r.next(), r.next()],
+        19 | 20 => [number_of(r, BUCKETS as u64), r.next(), r.next()],
+        _ => [place, r.next(), r.next()],
+    }
+}
+
+pub fn wild(r: &mut Random, state: &State, blocks: &[Block]) -> Call {
+    let kind = kind(r);
+    let [a, b, c] = numbers(r, state, blocks, kind);
+    let size = state.size();
+    let data = if kind == 1 { length(r, size) } else { 0 };
+    let mut zero = vec![0; if kind == 10 { length(r, size) } else { 0 }];
+    if !zero.is_empty() && r.one_in(100) {
+        let at = r.below(zero.len() as u64) as usize;
+        zero[at] = 1 << r.below(8);
+    }
+    let room = if kind == 10 { length(r, size) } else { 0 };
+    Call { kind, a, b, c, data: r.bytes(data), zero, room }
+}

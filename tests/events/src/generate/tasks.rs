@@ -1,0 +1,112 @@
+//! One step of a plan: which event it is, is found in the state when its turn comes.
+use super::fields::pick;
+use crate::model::{Block, Call, Id, Key, State};
+use call_tests::random::Random;
+
+#[derive(Clone, Debug)]
+pub enum Task {
+    Put(Block, usize),
+    /// of the block's item, or else of its mapping
+    Copy(Block),
+    SaveHome(Block),
+    SaveTarget(Block),
+    Map(Block),
+    Send(Block),
+    /// the newest relay of the block
+    Deliver(Block),
+    /// any relay
+    DeliverAny,
+    DropAny,
+    SavePrimary(Block),
+    SaveBackup(Block),
+    Done(Block),
+    Get(Block),
+    Abandon(Block),
+    Learn(usize),
+    Reset(usize),
+    Crash(usize),
+    Lose(usize),
+    Rise(usize),
+    Join(usize),
+    View,
+    Fetch(usize),
+    Ready(usize),
+    Mend(usize),
+    Collect(usize),
+}
+
+fn place_of(state: &State, id: Id) -> u64 {
+    state.places.iter().position(|&p| p == Some(id)).unwrap_or(0) as u64
+}
+
+fn key_of(state: &State, block: Block) -> Key {
+    let item = state.proxies[block.proxy()].items.get(&block).copied();
+    item.or_else(|| state.mapped(block)).unwrap_or(Key::new(1, 0))
+}
+
+fn target(state: &State, key: Key) -> Id {
+    state.members_from(key.home()).map(|b| b.id).find(|&id| id != key.home()).unwrap_or(1)
+}
+
+fn newest_relay(state: &State, block: Block) -> u64 {
+    state.bag.iter().rposition(|relay| relay.block == block).unwrap_or(0) as u64
+}
+
+fn any_relay(r: &mut Random, state: &State) -> u64 {
+    pick(r, &(0..state.bag.len() as u64).collect::<Vec<_>>()).unwrap_or(0)
+}
+
+impl Task {
+    /// The kind and the numbers.
+    fn event(&self, r: &mut Random, state: &State) -> (u64, [u64; 3]) {
+        let one = |kind: u64, number: u64| (kind, [number, 0, 0]);
+        let of_proxy = |kind: u64, block: Block| (kind, [block.proxy() as u64, block.0, 0]);
+        let pair = |block: Block| state.buckets[block.bucket()].pair;
+        match *self {
+            Task::Put(block, place) => (1, [block.proxy() as u64, place as u64, block.0]),
+            Task::Copy(block) => one(2, key_of(state, block).0),
+            Task::SaveHome(block) => one(3, place_of(state, key_of(state, block).home())),
+            Task::SaveTarget(block) => one(3, place_of(state, target(state, key_of(state, block)))),
+            Task::Map(block) => of_proxy(4, block),
+            Task::Send(block) => one(5, block.0),
+            Task::Deliver(block) => one(6, newest_relay(state, block)),
+            Task::DeliverAny => one(6, any_relay(r, state)),
+            Task::DropAny => one(7, any_relay(r, state)),
+            Task::SavePrimary(block) => one(8, place_of(state, pair(block).primary)),
+            Task::SaveBackup(block) => one(8, place_of(state, pair(block).backup)),
+            Task::Done(block) => of_proxy(9, block),
+            Task::Get(block) => of_proxy(10, block),
+            Task::Abandon(block) => of_proxy(11, block),
+            Task::Learn(proxy) => one(12, proxy as u64),
+            Task::Reset(proxy) => one(13, proxy as u64),
+            Task::Crash(place) => one(14, place as u64),
+            Task::Lose(place) => one(15, place as u64),
+            Task::Rise(place) => one(16, place as u64),
+            Task::Join(place) => one(17, place as u64),
+            Task::View => one(18, 0),
+            Task::Fetch(bucket) => one(19, bucket as u64),
+            Task::Ready(bucket) => one(20, bucket as u64),
+            Task::Mend(place) => one(21, place as u64),
+            Task::Collect(place) => one(22, place as u64),
+        }
+    }
+
+    /// Whether it would change nothing, or could not be done.
+    pub fn is_idle(&self, state: &State) -> bool {
+        match *self {
+            Task::Learn(proxy) => state.proxies[proxy].known == state.view,
+            Task::Rise(place) => state.at(place).map_or(true, |b| b.up),
+            Task::Join(place) => state.at(place).is_some(),
+            Task::Deliver(_) | Task::DeliverAny | Task::DropAny => state.bag.is_empty(),
+            Task::Fetch(bucket) | Task::Ready(bucket) => state.buckets[bucket].ready,
+            _ => false,
+        }
+    }
+
+    pub fn call(&self, r: &mut Random, state: &State) -> Call {
+        let (kind, numbers) = self.event(r, state);
+        let size = state.size();
+        let data = if kind == 1 { r.bytes(size) } else { Vec::new() };
+        Call::new(kind, numbers, data, if kind == 10 { size } else { 0 })
+    }
+}

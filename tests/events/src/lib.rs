@@ -1,0 +1,11 @@
+//! An independent implementation of the rules, its bytes by docs/LAYOUT.md, and random events to compare it with the proved calls.
+pub mod counts;
+pub mod damage;
+pub mod decode;
+pub mod encode;
+pub mod generate;
+pub mod history;
+pub mod lists;
+pub mod model;
+pub mod shrink;
+pub mod trial;

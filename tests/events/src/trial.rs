@@ -1,0 +1,130 @@
+//! A list of events on the proved calls and on the model side by side; whatever differs ends it.
+use crate::counts::Counts;
+use crate::damage::Damage;
+use crate::decode::decode;
+use crate::encode::encode;
+use crate::history::History;
+use crate::model::{step, Answer, Call, Settings, State, CRASH, GET, LOSE};
+use call_tests::store;
+use call_tests::text::model::Event;
+
+/// What an answer area holds before a call.
+const AREA: u8 = 0x5a;
+
+#[derive(Clone, Debug)]
+pub enum Start {
+    /// formatted over these bytes
+    Format(Settings, Vec<u8>),
+    /// a sound store that no list need lead to
+    Edited(Vec<u8>),
+}
+
+#[derive(Clone, Debug)]
+pub enum Act {
+    Step(Call),
+    /// a step on a damaged copy of the store, which then goes
+    Probe(Damage, Call),
+}
+
+/// The same store twice: as the proved calls write it, and as the model says.
+pub struct Trial {
+    pub state: State,
+    proved: Vec<u8>,
+    expected: Vec<u8>,
+    /// of a list that began with format
+    pub history: Option<History>,
+    pub counts: Counts,
+}
+
+fn same<T: PartialEq + std::fmt::Debug>(what: &str, proved: T, model: T) -> Result<(), String> {
+    if proved == model {
+        Ok(())
+    } else {
+        Err(format!("{what}: proved {proved:?}, model {model:?}"))
+    }
+}
+
+fn same_bytes(proved: &[u8], model: &[u8]) -> Result<(), String> {
+    if proved == model {
+        return Ok(());
+    }
+    let at = proved.iter().zip(model).position(|(p, m)| p != m);
+    Err(format!("the store differs at byte {at:?}, word {:?}", at.map(|i| i / 8)))
+}
+
+/// One proved call; the answer as the model gives it, and that no area is written but as it says.
+pub fn proved_step(bytes: &mut [u8], call: &Call) -> Result<Answer, String> {
+    let mut area = vec![AREA; call.room];
+    let event = Event { code: 0, kind: call.kind, a: call.a, b: call.b, c: call.c };
+    let told = store::step(bytes, &event, &call.data, &call.zero, &mut area);
+    let is_read = told.code == 0 && call.kind == GET;
+    if !is_read && area.iter().any(|&b| b != AREA) {
+        return Err("the answer area is written".to_string());
+    }
+    Ok(Answer { code: told.code, key: told.key, data: is_read.then_some(area) })
+}
+
+impl Trial {
+    pub fn new(start: &Start) -> Result<Self, String> {
+        let (state, proved, history) = match start {
+            Start::Format(settings, bytes) => {
+                let mut proved = bytes.clone();
+                same("length", store::length(*settings), bytes.len() as u64)?;
+                same("format", store::format(&mut proved, *settings), 0)?;
+                (State::formatted(*settings).ok_or("settings")?, proved, Some(History::default()))
+            }
+            Start::Edited(bytes) => (decode(bytes).ok_or("no sound store")?, bytes.clone(), None),
+        };
+        let (Start::Format(_, bytes) | Start::Edited(bytes)) = start;
+        let mut expected = bytes.clone();
+        encode(&state, &mut expected);
+        same_bytes(&proved, &expected)?;
+        same("check", store::check(&proved), 0)?;
+        Ok(Trial { state, proved, expected, history, counts: Counts::default() })
+    }
+
+    pub fn take(&mut self, act: &Act) -> Result<Answer, String> {
+        match act {
+            Act::Step(call) => self.step(call),
+            Act::Probe(damage, call) => self.probe(damage, call),
+        }
+    }
+
+    fn step(&mut self, call: &Call) -> Result<Answer, String> {
+        let whole = matches!(call.kind, CRASH | LOSE) && self.state.is_whole();
+        let answer = step(&mut self.state, call);
+        if answer.code == 0 {
+            encode(&self.state, &mut self.expected);
+        }
+        let told = proved_step(&mut self.proved, call)?;
+        self.counts.add(call.kind, told.code);
+        same("answer", &told, &answer)?;
+        same_bytes(&self.proved, &self.expected)?;
+        same("check", store::check(&self.proved), 0)?;
+        if let Some(history) = &mut self.history {
+            history.watch(call, &answer, whole)?;
+        }
+        Ok(answer)
+    }
+
+    /// 2 and no byte changed where the damage makes the store unsound, else the model's outcome from what the bytes then say.
+    fn probe(&mut self, damage: &Damage, call: &Call) -> Result<Answer, String> {
+        let mut proved = self.proved.clone();
+        damage.apply(&mut proved);
+        let mut expected = proved.clone();
+        let answer = match decode(&expected) {
+            None => Answer::refused(2),
+            Some(mut state) => {
+                let answer = step(&mut state, call);
+                encode(&state, &mut expected);
+                answer
+            }
+        };
+        same("check of a damaged store", store::check(&proved) == 2, answer.code == 2)?;
+        let told = proved_step(&mut proved, call)?;
+        self.counts.add(call.kind, told.code);
+        same("answer of a damaged store", &told, &answer)?;
+        same_bytes(&proved, &expected)?;
+        Ok(answer)
+    }
+}

@@ -1,0 +1,19 @@
+//! Random lists of events by calls: the proved store and the model, compared after every event in code, key, data and each byte.
+use event_tests::lists::lists;
+
+fn setting(name: &str, default: u64) -> u64 {
+    std::env::var(name).ok().and_then(|n| n.parse().ok()).unwrap_or(default)
+}
+
+/// A million events, or what DISK_EVENTS says; DISK_SEED gives other lists.
+#[test]
+fn random_lists() {
+    let (seed, events) = (setting("DISK_SEED", 1), setting("DISK_EVENTS", 1_000_000));
+    println!("seed {seed}, {events} events");
+    let sum = lists(seed, events).unwrap_or_else(|why| panic!("{why}"));
+    println!("{} events in {} lists, {} of them with falls on whole stores alone", sum.events, sum.lists, sum.careful);
+    println!("{}", sum.counts.table());
+    assert!(sum.counts.impossible().is_empty(), "the rules have no such answer: {:?}", sum.counts.impossible());
+    assert!(sum.counts.missing().is_empty(), "did not happen: {:?}", sum.counts.missing());
+    assert!(sum.careful > 0);
+}
