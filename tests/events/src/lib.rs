@@ -1,10 +1,12 @@
 //! An independent implementation of the rules, its bytes by docs/LAYOUT.md, and random events to compare it with the proved calls.
+pub mod both;
 pub mod counts;
 pub mod damage;
 pub mod decode;
 pub mod encode;
 pub mod generate;
 pub mod history;
+pub mod lines;
 pub mod lists;
 pub mod model;
 pub mod shrink;

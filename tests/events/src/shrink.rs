@@ -27,8 +27,8 @@ pub fn shrink(start: &Start, mut acts: Vec<Act>) -> Vec<Act> {
     acts
 }
 
-/// A kind that is none has no word: its line is no event, which answers 3 as well.
-fn line(call: &Call) -> String {
+/// The line of a call. A kind that is none has no word: its line is no event, which answers 3 as well.
+pub fn line(call: &Call) -> String {
     if !(1..=KINDS.len() as u64).contains(&call.kind) {
         return format!("{},{},{},{}\n", call.kind, call.a, call.b, call.c);
     }
