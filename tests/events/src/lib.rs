@@ -10,4 +10,5 @@ pub mod lines;
 pub mod lists;
 pub mod model;
 pub mod shrink;
+pub mod situations;
 pub mod trial;

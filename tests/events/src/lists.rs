@@ -2,7 +2,9 @@
 use crate::counts::Counts;
 use crate::decode::length;
 use crate::generate::{edited, settings, Generator, Temper};
+use crate::model::{CRASH, LOSE};
 use crate::shrink::{replay, show, shrink};
+use crate::situations::{Met, Moment};
 use crate::trial::{Act, Start, Trial};
 use call_tests::random::Random;
 
@@ -12,41 +14,50 @@ pub struct Sum {
     pub counts: Counts,
     pub events: u64,
     pub lists: u64,
+    /// of every fourth list
+    pub met: Met,
     /// lists from format whose crashes and losses, at least one, all struck whole stores
     pub careful: u64,
 }
 
-fn start(r: &mut Random) -> Start {
+/// Stores from here on have short lists, since each byte is compared after every event.
+const LARGE: usize = 1 << 18;
+
+/// A start, and how many acts follow.
+fn start(r: &mut Random) -> (Start, u64) {
     let s = settings(r);
-    if r.one_in(4) {
-        Start::Edited(edited(r, s))
+    let acts = if length(s) < LARGE { r.among(50, 1200) } else { 60 };
+    if r.one_in(4) && length(s) < LARGE {
+        (Start::Edited(edited(r, s)), acts)
     } else {
-        Start::Format(s, r.bytes(length(s)))
+        (Start::Format(s, r.bytes(length(s))), acts)
     }
 }
 
-/// One list of its own seed; where it fails, the list made short.
+/// Why a list fails, and that list made short.
+fn explain(seed: u64, start: &Start, acts: Vec<Act>) -> String {
+    let short = shrink(acts, |acts| replay(start, acts).is_err());
+    let why = replay(start, &short).err().unwrap_or_default();
+    format!("seed {seed}: {why}\n{}", show(start, &short))
+}
+
+/// One list of its own seed.
 fn list(seed: u64, most: u64, sum: &mut Sum) -> Result<(), String> {
     let r = &mut Random::new(seed);
-    let (start, temper) = (start(r), Temper::random(r));
+    let ((start, length), temper) = (start(r), Temper::random(r));
     let mut generator = Generator::new(r, temper);
-    let mut acts = Vec::new();
-    let failed = |acts: Vec<Act>| {
-        let short = shrink(&start, acts);
-        let why = replay(&start, &short).err().unwrap_or_default();
-        format!("seed {seed}: {why}\n{}", show(&start, &short))
-    };
-    let mut trial = Trial::new(&start).map_err(|why| format!("seed {seed}: {why}\n{}", show(&start, &[])))?;
-    let mut falls = 0;
-    for _ in 0..r.among(50, 1200).min(most) {
+    let mut trial = Trial::new(&start).map_err(|_| explain(seed, &start, Vec::new()))?;
+    let (mut acts, mut falls, watched) = (Vec::new(), 0, sum.lists % 4 == 0);
+    for _ in 0..length.min(most) {
         let act = generator.act(r, &trial.state);
-        acts.push(act);
-        let act = &acts[acts.len() - 1];
-        match trial.take(act) {
-            Err(_) => return Err(failed(acts)),
-            Ok(answer) => {
-                sum.events += matches!(act, Act::Step(_)) as u64;
-                falls += matches!(act, Act::Step(call) if matches!(call.kind, 14 | 15) && answer.code == 0) as u64;
+        acts.push(act.clone());
+        let before = watched.then(|| trial.state.clone());
+        let answer = trial.take(&act).map_err(|_| explain(seed, &start, std::mem::take(&mut acts)))?;
+        if let Act::Step(call) = &act {
+            sum.events += 1;
+            falls += (matches!(call.kind, CRASH | LOSE) && answer.code == 0) as u64;
+            if let Some(before) = &before {
+                sum.met.add(&Moment { before, after: &trial.state, call }, answer.code);
             }
         }
     }

@@ -9,22 +9,25 @@ pub fn replay(start: &Start, acts: &[Act]) -> Result<(), String> {
     acts.iter().try_for_each(|act| trial.take(act).map(drop))
 }
 
-/// Drops runs of acts, halves first, then shorter ones, as long as the rest still fails.
-pub fn shrink(start: &Start, mut acts: Vec<Act>) -> Vec<Act> {
-    let mut run = acts.len().div_ceil(2);
+/// Drops runs of a list, halves first, then shorter ones, as long as the rest still fails; until no single one can go.
+pub fn shrink<T: Clone>(mut list: Vec<T>, fails: impl Fn(&[T]) -> bool) -> Vec<T> {
+    let mut run = list.len().div_ceil(2);
     while run > 0 {
+        let before = list.len();
         let mut at = 0;
-        while at < acts.len() {
-            let rest = [&acts[..at], &acts[(at + run).min(acts.len())..]].concat();
-            if replay(start, &rest).is_err() {
-                acts = rest;
+        while at < list.len() {
+            let rest = [&list[..at], &list[(at + run).min(list.len())..]].concat();
+            if fails(&rest) {
+                list = rest;
             } else {
                 at += run;
             }
         }
-        run /= 2;
+        if run > 1 || list.len() == before {
+            run /= 2;
+        }
     }
-    acts
+    list
 }
 
 /// The line of a call. A kind that is none has no word: its line is no event, which answers 3 as well.

@@ -13,7 +13,9 @@ fn random_lists() {
     let sum = lists(seed, events).unwrap_or_else(|why| panic!("{why}"));
     println!("{} events in {} lists, {} of them with falls on whole stores alone", sum.events, sum.lists, sum.careful);
     println!("{}", sum.counts.table());
+    println!("{}", sum.met.table());
     assert!(sum.counts.impossible().is_empty(), "the rules have no such answer: {:?}", sum.counts.impossible());
     assert!(sum.counts.missing().is_empty(), "did not happen: {:?}", sum.counts.missing());
+    assert!(sum.met.missing().is_empty(), "not met: {:?}", sum.met.missing());
     assert!(sum.careful > 0);
 }

@@ -1,15 +1,16 @@
 //! Plans: what a store in use goes through.
 use super::fields::{block, pick};
 use super::tasks::Task;
-use crate::model::{Block, State, BUCKETS, PROXIES};
+use crate::model::{Block, State, BUCKETS, MOST_ITEMS, PROXIES};
 use call_tests::random::Random;
 
-/// Now and then the two saves, or the map, come in another order.
+/// A write from put to done and a read. An older write of the block that has an item is finished or abandoned first.
+/// Now and then two neighbours change places.
 fn write(r: &mut Random, state: &State, block: Block) -> Vec<Task> {
-    let place = r.below(state.settings.places) as usize;
-    let mut tasks = vec![
+    let mut tasks = if r.one_in(2) { vec![Task::Abandon(block)] } else { Vec::new() };
+    tasks.extend([
         Task::Learn(block.proxy()),
-        Task::Put(block, place),
+        Task::Put(block, member_place(r, state)),
         Task::Copy(block),
         Task::SaveHome(block),
         Task::SaveTarget(block),
@@ -20,7 +21,7 @@ fn write(r: &mut Random, state: &State, block: Block) -> Vec<Task> {
         Task::SaveBackup(block),
         Task::Done(block),
         Task::Get(block),
-    ];
+    ]);
     if r.one_in(4) {
         let at = r.below(tasks.len() as u64 - 1) as usize;
         tasks.swap(at, at + 1);
@@ -28,10 +29,19 @@ fn write(r: &mut Random, state: &State, block: Block) -> Vec<Task> {
     tasks
 }
 
+/// Mostly one with a member.
+fn member_place(r: &mut Random, state: &State) -> usize {
+    let members: Vec<usize> = (0..state.places.len()).filter(|&place| state.member_at(place).is_some()).collect();
+    match pick(r, &members) {
+        Some(place) if !r.one_in(20) => place,
+        _ => r.below(state.settings.places) as usize,
+    }
+}
+
 /// The same block again before its first relay is delivered: relays late and doubled.
 fn race(r: &mut Random, state: &State, block: Block) -> Vec<Task> {
     let mut tasks = write(r, state, block);
-    let at = r.among(6, 8) as usize;
+    let at = tasks.len() - r.among(4, 6) as usize;
     let repeats = r.among(1, 6);
     tasks.splice(at..at, (0..repeats).map(|_| Task::Send(block)));
     tasks.extend((0..repeats).map(|i| if i % 3 == 2 { Task::DropAny } else { Task::DeliverAny }));
@@ -92,15 +102,19 @@ fn rebuild(r: &mut Random, state: &State, all: bool) -> Vec<Task> {
     tasks
 }
 
-/// More blocks of one proxy than it can have items for; after a view they wait in a buffer.
+/// More blocks of one proxy and bucket than it can have items for; after a view more than a buffer holds.
 fn flood(r: &mut Random, state: &State, proxy: u64) -> Vec<Task> {
-    let bucket = r.below(16);
-    let blocks = (0..20).map(|i| block(proxy, (bucket + i % 3) % 16, i / 3));
-    let tasks = blocks.flat_map(|b| {
-        let place = r.below(state.settings.places) as usize;
-        [Task::Put(b, place), Task::SaveHome(b), Task::Map(b)]
-    });
-    learn_all().chain(tasks).collect()
+    let (bucket, abandoned) = (r.below(16), r.one_in(2));
+    let mut tasks = if r.one_in(2) { vec![Task::View] } else { Vec::new() };
+    tasks.extend(learn_all());
+    for i in 0..MOST_ITEMS as u64 + 4 {
+        let block = block(proxy, bucket, i);
+        tasks.extend([Task::Put(block, member_place(r, state)), Task::SaveHome(block), Task::Map(block)]);
+        if abandoned {
+            tasks.push(Task::Abandon(block));
+        }
+    }
+    tasks
 }
 
 /// Maps that meet a view: the bucket is made ready after them.
@@ -108,8 +122,7 @@ fn late_maps(r: &mut Random, state: &State, blocks: &[Block]) -> Vec<Task> {
     let mut tasks = vec![Task::View];
     tasks.extend(learn_all());
     for &b in blocks {
-        let place = r.below(state.settings.places) as usize;
-        tasks.extend([Task::Put(b, place), Task::SaveHome(b), Task::Map(b), Task::Get(b)]);
+        tasks.extend([Task::Put(b, member_place(r, state)), Task::SaveHome(b), Task::Map(b), Task::Get(b)]);
     }
     tasks.extend(blocks.iter().flat_map(|b| [Task::Fetch(b.bucket()), Task::Ready(b.bucket())]));
     tasks
@@ -120,10 +133,14 @@ fn fall(r: &mut Random, state: &State) -> Vec<Task> {
     vec![if r.one_in(3) { Task::Lose(place) } else { Task::Crash(place) }]
 }
 
+/// Every place an up member and every bucket ready.
+fn is_settled(state: &State) -> bool {
+    (0..state.places.len()).all(|place| state.member_at(place).is_some()) && state.buckets.iter().all(|b| b.ready)
+}
+
 /// What a store that is not whole needs next.
 pub fn repair(r: &mut Random, state: &State) -> Vec<Task> {
-    let members = (0..state.places.len()).all(|place| state.member_at(place).is_some());
-    if !members || state.buckets.iter().any(|b| !b.ready) {
+    if !is_settled(state) {
         rebuild(r, state, true)
     } else if !state.nothing_pending() || r.one_in(2) {
         settle(state)
@@ -134,17 +151,20 @@ pub fn repair(r: &mut Random, state: &State) -> Vec<Task> {
 
 pub fn random(r: &mut Random, state: &State, blocks: &[Block]) -> Vec<Task> {
     let one = pick(r, blocks).unwrap_or(Block(0));
+    if !is_settled(state) && r.one_in(3) {
+        let all = !r.one_in(3);
+        return rebuild(r, state, all);
+    }
     match r.below(100) {
-        0..=39 => write(r, state, one),
-        40..=44 => race(r, state, one),
-        45..=54 => read(blocks),
-        55..=64 => settle(state),
-        65..=71 => sweep(r, state),
-        72..=81 => repair(r, state),
-        82..=85 => rebuild(r, state, false),
-        86..=95 => fall(r, state),
-        96..=97 => late_maps(r, state, blocks),
-        98 => fill_bag(r, one),
+        0..=59 => write(r, state, one),
+        60..=68 => race(r, state, one),
+        69..=74 => read(blocks),
+        75..=79 => settle(state),
+        80..=83 => sweep(r, state),
+        84..=86 => repair(r, state),
+        87..=94 => fall(r, state),
+        95..=96 => late_maps(r, state, blocks),
+        97 => fill_bag(r, one),
         _ => flood(r, state, one.proxy() as u64),
     }
 }

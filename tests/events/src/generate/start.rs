@@ -9,10 +9,20 @@ use call_tests::store::random::sound_store;
 
 /// Mostly small, so that room runs out.
 pub fn settings(r: &mut Random) -> Settings {
-    match r.below(40) {
-        0 => Settings::new(r.among(3, 8), 8 * r.among(1, 64), r.among(2, 64), r.among(4, 200)),
-        1..=8 => Settings::new(r.among(3, 8), 8 * r.among(1, 4), r.among(2, 12), r.among(20, 60)),
+    match r.below(200) {
+        0 => largest(r),
+        1..=5 => Settings::new(r.among(3, 8), 8 * r.among(1, 64), r.among(2, 64), r.among(4, 200)),
+        6..=45 => Settings::new(r.among(3, 8), 8 * r.among(1, 4), r.among(2, 12), r.among(20, 60)),
         _ => Settings::new(r.among(3, 6), 8 * r.among(1, 2), r.among(2, 5), r.among(4, 20)),
+    }
+}
+
+/// One setting at its limit.
+fn largest(r: &mut Random) -> Settings {
+    match r.below(3) {
+        0 => Settings::new(8, 8192, 2, 4),
+        1 => Settings::new(3, 8, 1024, 4),
+        _ => Settings::new(3, 8, 2, 65_536),
     }
 }
 
@@ -45,7 +55,7 @@ fn used(r: &mut Random, s: Settings) -> State {
 }
 
 fn edit(r: &mut Random, state: &mut State) {
-    match r.below(10) {
+    match r.below(12) {
         0 => late_view(r, state),
         1 => late_orders(r, state),
         2 | 3 => late_sequences(r, state),
@@ -54,6 +64,8 @@ fn edit(r: &mut Random, state: &mut State) {
         6 => doubled_relays(r, state),
         7 => turned_flags(r, state),
         8 => other_pairs(r, state),
+        9 => other_bytes(r, state),
+        10 => more_holders(r, state),
         _ => many_waiting(r, state),
     }
 }
@@ -102,6 +114,26 @@ fn full_backup(r: &mut Random, state: &mut State) {
     }
 }
 
+/// Other bytes under one key at several bricks, which no list leads to: it shows whose are read.
+fn other_bytes(r: &mut Random, state: &mut State) {
+    let size = state.size();
+    let chunks = state.bricks.values_mut().flat_map(|b| &mut b.log);
+    chunks.for_each(|chunk| chunk.data = r.bytes(size));
+}
+
+/// A chunk at bricks that had it not, with bytes of its own.
+fn more_holders(r: &mut Random, state: &mut State) {
+    let (most, size) = (state.chunks(), state.size());
+    let keys: Vec<Key> = state.bricks.values().flat_map(|b| b.log.iter().map(|c| c.key)).collect();
+    for key in keys {
+        for brick in state.bricks.values_mut() {
+            if brick.log.len() < most && brick.chunk(key).is_none() && !r.one_in(3) {
+                brick.log.push(Chunk { key, saved: r.one_in(2), data: r.bytes(size) });
+            }
+        }
+    }
+}
+
 fn doubled_relays(r: &mut Random, state: &mut State) {
     for mut relay in state.bag.clone() {
         if r.one_in(4) {
@@ -139,9 +171,10 @@ fn other_pairs(r: &mut Random, state: &mut State) {
     }
 }
 
-/// Buffers nearly full, of any buckets, a block twice too.
+/// Buffers nearly full, of any buckets, a block twice too; and buckets for whose blocks a buffer is there.
 fn many_waiting(r: &mut Random, state: &mut State) {
     let Some(key) = some_key(r, state) else { return };
+    state.buckets.iter_mut().filter(|_| r.one_in(2)).for_each(|b| b.ready = false);
     for brick in state.bricks.values_mut().filter(|b| b.up) {
         let count = r.among(28, MOST_WAITING as u64) as usize;
         while brick.buffer.len() < count {

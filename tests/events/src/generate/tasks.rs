@@ -93,7 +93,11 @@ impl Task {
 
     /// Whether it would change nothing, or could not be done.
     pub fn is_idle(&self, state: &State) -> bool {
+        let has_item = |block: Block| state.proxies[block.proxy()].items.contains_key(&block);
         match *self {
+            Task::Put(block, place) => has_item(block) || state.member_at(place).is_none(),
+            Task::Map(block) | Task::Done(block) | Task::Abandon(block) => !has_item(block),
+            Task::Send(block) => state.mapped(block).is_none(),
             Task::Learn(proxy) => state.proxies[proxy].known == state.view,
             Task::Rise(place) => state.at(place).map_or(true, |b| b.up),
             Task::Join(place) => state.at(place).is_some(),
