@@ -24,9 +24,14 @@ impl Both {
         (answer.code, answer.key, data(&answer))
     }
 
-    /// Lines that are all accepted, parted by spaces.
-    pub fn accepted(&mut self, lines: &str) {
-        lines.split_whitespace().for_each(|l| assert_eq!(self.line(l).0, 0, "{l} in {lines}"));
+    /// Lines that are all accepted, parted by spaces; the key that the last one answers.
+    pub fn accepted(&mut self, lines: &str) -> u64 {
+        let keys = lines.split_whitespace().map(|line| {
+            let (code, key, _) = self.line(line);
+            assert_eq!(code, 0, "{line} in {lines}");
+            key
+        });
+        keys.last().unwrap_or(0)
     }
 
     /// What the last of some lines is told.

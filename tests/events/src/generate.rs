@@ -35,7 +35,7 @@ impl Temper {
             4 => (40, 20),
             _ => (95, 30),
         };
-        Temper { wild, skipped, careful: r.one_in(2), probes: 15 }
+        Temper { wild, skipped, careful: r.one_in(2), probes: 30 }
     }
 }
 

@@ -109,18 +109,20 @@ impl Trial {
 
     /// 2 and no byte changed where the damage makes the store unsound, else the model's outcome from what the bytes then say.
     fn probe(&mut self, damage: &Damage, call: &Call) -> Result<Answer, String> {
+        same("decoded", decode(&self.expected).as_ref(), Some(&self.state))?;
         let mut proved = self.proved.clone();
         damage.apply(&mut proved);
         let mut expected = proved.clone();
-        let answer = match decode(&expected) {
-            None => Answer::refused(2),
-            Some(mut state) => {
-                let answer = step(&mut state, call);
-                encode(&state, &mut expected);
-                answer
-            }
-        };
-        same("check of a damaged store", store::check(&proved) == 2, answer.code == 2)?;
+        let damaged = decode(&expected);
+        same("check of a damaged store", store::check(&proved), if damaged.is_some() { 0 } else { 2 })?;
+        let alike = damaged.as_ref().map_or(2, |state| !state.is_alike(&self.state) as u64);
+        same("alike", store::alike(&self.proved, &proved), alike)?;
+        same("alike", store::alike(&proved, &self.proved), alike)?;
+        let answer = damaged.map_or(Answer::refused(2), |mut state| {
+            let answer = step(&mut state, call);
+            encode(&state, &mut expected);
+            answer
+        });
         let told = proved_step(&mut proved, call)?;
         self.counts.add(call.kind, told.code);
         same("answer of a damaged store", &told, &answer)?;

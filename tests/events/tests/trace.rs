@@ -39,13 +39,15 @@ fn run(input: &[u8]) -> String {
     feed(spawn(Command::new(program())), move |pipe| pipe.write_all(&input))
 }
 
-fn check(input: &[u8]) {
+/// How many lines were answered.
+fn check(input: &[u8]) -> usize {
     let (printed, expected) = (run(input), trace(input));
     if printed != expected {
         let at = printed.lines().zip(expected.lines()).position(|(p, e)| p != e);
         let input = String::from_utf8_lossy(input);
         panic!("line {at:?} of the output: {:?}\n{input}", at.map(|i| (printed.lines().nth(i), expected.lines().nth(i))));
     }
+    printed.lines().count() - 1
 }
 
 fn small_settings(r: &mut Random) -> Settings {
@@ -111,16 +113,18 @@ fn text(r: &mut Random, events: u64) -> Vec<u8> {
     input
 }
 
+/// At least 100,000 events.
 #[test]
 fn random_events() {
     let mut r = Random::new(1);
-    for _ in 0..110 {
+    let mut lines = 0;
+    while lines < 100_000 {
         let events = r.among(500, 1500);
         let mut input = text(&mut r, events);
         if r.one_in(3) {
             input.truncate(r.below(input.len() as u64 + 1) as usize);
         }
-        check(&input);
+        lines += check(&input);
     }
 }
 
@@ -128,7 +132,7 @@ fn random_events() {
 #[test]
 fn cut_inputs() {
     let input = b"3,8,2,4\nlearn,0\nput,0,0,5,a1a1a1a1a1a1a1a1\nsavelog,0\nmap,0,5\nget,0,6\n\n";
-    (0..=input.len()).for_each(|n| check(&input[..n]));
+    (0..=input.len()).for_each(|n| drop(check(&input[..n])));
 }
 
 #[test]

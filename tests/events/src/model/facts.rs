@@ -1,5 +1,5 @@
 //! What the rules say of a state: who is needed, what is pending, what is whole.
-use super::{Block, Brick, Chunk, Copy, Id, Key, State, Table};
+use super::{Block, Brick, Chunk, Copy, Id, Key, State, Table, BUCKETS};
 
 static NOTHING: Copy = Copy { memory: Table::new(), disk: Table::new() };
 
@@ -101,5 +101,15 @@ impl State {
             && self.buckets.iter().all(|b| b.ready)
             && self.nothing_pending()
             && mapped.all(|&key| self.saved_at(key) >= 2)
+    }
+
+    /// Same settings, view and members and, for each bucket, the same blocks and keys in the primary's memory.
+    pub fn is_alike(&self, other: &State) -> bool {
+        let members = |state: &State| state.members_from(0).map(|b| b.id).collect::<Vec<Id>>();
+        let memory = |state: &State, bucket: usize| state.four(bucket)[0].clone();
+        self.settings == other.settings
+            && self.view == other.view
+            && members(self) == members(other)
+            && (0..BUCKETS).all(|bucket| memory(self, bucket) == memory(other, bucket))
     }
 }

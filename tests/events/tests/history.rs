@@ -1,0 +1,107 @@
+//! The history machine finds what the claim about lists forbids.
+use event_tests::history::History;
+use event_tests::model::{Answer, Call};
+
+const A1: u8 = 0xa1;
+const B2: u8 = 0xb2;
+
+fn call(kind: u64, numbers: [u64; 3], byte: u8) -> Call {
+    Call::new(kind, numbers, vec![byte; 8], 8)
+}
+
+fn told(key: u64, data: Option<u8>) -> Answer {
+    Answer { code: 0, key, data: data.map(|byte| vec![byte; 8]) }
+}
+
+fn put(history: &mut History, block: u64, key: u64, byte: u8) -> Result<(), String> {
+    history.watch(&call(1, [0, 0, block], byte), &told(key, None), false)
+}
+
+fn confirm(history: &mut History, block: u64) -> Result<(), String> {
+    history.watch(&call(9, [0, block, 0], 0), &told(0, None), false)
+}
+
+fn read(history: &mut History, block: u64, key: u64, byte: u8) -> Result<(), String> {
+    history.watch(&call(10, [0, block, 0], 0), &told(key, Some(byte)), false)
+}
+
+/// An event of one field, accepted or refused.
+fn event(history: &mut History, kind: u64, a: u64, code: u64, whole: bool) -> Result<(), String> {
+    history.watch(&call(kind, [a, 0, 0], 0), &Answer { code, key: 0, data: None }, whole)
+}
+
+/// Block 5 written twice, with keys 1 and 2; the first write confirmed.
+fn written_twice() -> History {
+    let mut history = History::default();
+    put(&mut history, 5, 1, A1).unwrap();
+    confirm(&mut history, 5).unwrap();
+    put(&mut history, 5, 2, B2).unwrap();
+    history
+}
+
+#[test]
+fn one_key_twice() {
+    let mut history = written_twice();
+    assert!(put(&mut history, 6, 3, A1).is_ok());
+    assert!(put(&mut history, 7, 1, A1).is_err());
+}
+
+#[test]
+fn reads_that_may_be() {
+    let mut history = written_twice();
+    assert!(read(&mut history, 5, 1, A1).is_ok());
+    assert!(read(&mut history, 5, 2, B2).is_ok());
+    assert!(read(&mut history, 9, 0, 0).is_ok());
+}
+
+#[test]
+fn a_read_older_than_a_shown_one() {
+    let mut history = written_twice();
+    assert!(read(&mut history, 5, 2, B2).is_ok());
+    assert!(read(&mut history, 5, 1, A1).is_err());
+}
+
+#[test]
+fn a_read_older_than_a_confirmed_one() {
+    let mut history = written_twice();
+    confirm(&mut history, 5).unwrap();
+    assert!(read(&mut history, 5, 1, A1).is_err());
+}
+
+#[test]
+fn zeros_after_a_confirmed_write() {
+    assert!(read(&mut written_twice(), 5, 0, 0).is_err());
+}
+
+#[test]
+fn other_bytes_and_other_blocks() {
+    assert!(read(&mut written_twice(), 5, 1, B2).is_err());
+    assert!(read(&mut written_twice(), 6, 1, A1).is_err());
+    assert!(read(&mut written_twice(), 5, 7, A1).is_err());
+    assert!(read(&mut written_twice(), 9, 0, A1).is_err());
+    assert!(confirm(&mut written_twice(), 9).is_err());
+}
+
+/// What is refused for want, where every fall struck a whole store, and where one did not.
+#[test]
+fn want() {
+    for (whole, forbidden) in [(true, true), (false, false)] {
+        let mut history = History::default();
+        assert!(event(&mut history, 14, 0, 0, whole).is_ok());
+        assert_eq!(event(&mut history, 10, 0, 11, false).is_err(), forbidden);
+        assert!(event(&mut history, 19, 3, 13, false).is_ok());
+        event(&mut history, 18, 0, 0, false).unwrap();
+        assert_eq!(event(&mut history, 19, 3, 13, false).is_err(), forbidden);
+        event(&mut history, 20, 3, 0, false).unwrap();
+        assert!(event(&mut history, 19, 3, 13, false).is_ok());
+        assert_eq!(event(&mut history, 19, 4, 13, false).is_err(), forbidden);
+    }
+}
+
+/// A crash that is refused strikes nothing.
+#[test]
+fn refused_falls() {
+    let mut history = History::default();
+    assert!(event(&mut history, 14, 0, 13, false).is_ok());
+    assert!(event(&mut history, 10, 0, 11, false).is_err());
+}
