@@ -1,16 +1,35 @@
 //! Ways to damage a store's bytes.
-use crate::model::Settings;
+use crate::decode::length;
+use crate::encode::encode;
+use crate::model::{Settings, State};
 use call_tests::random::Random;
 use call_tests::store::model::{get, put};
 
 #[derive(Clone, Debug, PartialEq, Eq)]
 pub enum Damage {
-    Byte { at: usize, mask: u8 },
-    Word { at: usize, value: u64 },
+    Byte {
+        at: usize,
+        mask: u8,
+    },
+    Word {
+        at: usize,
+        value: u64,
+    },
     /// a word moved by a little, which often stays in its range
-    Shift { at: usize, by: u64 },
-    /// two runs of words swapped
-    Swap { one: usize, two: usize, words: usize },
+    Shift {
+        at: usize,
+        by: u64,
+    },
+    /// a run of words and the next one swapped
+    Swap {
+        at: usize,
+        words: usize,
+    },
+    /// a run of words written over the next one
+    Repeat {
+        at: usize,
+        words: usize,
+    },
     Cut(usize),
     Longer(usize),
 }
@@ -49,20 +68,29 @@ fn value(r: &mut Random) -> u64 {
     }
 }
 
+/// A word that is in use and not 0, from a random one on.
+fn used_word(r: &mut Random, state: &State) -> u64 {
+    let mut image = vec![0; length(state.settings)];
+    encode(state, &mut image);
+    let words = image.len() / 8;
+    let from = r.below(words as u64) as usize;
+    (from..words).find(|&at| get(&image, at) != 0).unwrap_or(0) as u64
+}
+
 impl Damage {
-    pub fn random(r: &mut Random, s: Settings, length: usize) -> Self {
-        let words = length as u64 / 8;
-        let at = word(r, s, words) as usize;
-        match r.below(12) {
+    pub fn random(r: &mut Random, state: &State) -> Self {
+        let bytes = length(state.settings);
+        let words = bytes / 8;
+        let at = if r.one_in(2) { used_word(r, state) } else { word(r, state.settings, words as u64) } as usize;
+        let row = [1, 2, 2, 5][r.below(4) as usize];
+        let first = at.min(words - 2 * row);
+        match r.below(16) {
             0..=2 => Damage::Byte { at: 8 * at + r.below(8) as usize, mask: 1 << r.below(8) },
-            3..=5 => Damage::Word { at, value: value(r) },
-            6..=8 => Damage::Shift { at, by: [1, 2, u64::MAX][r.below(3) as usize] },
-            9..=10 => {
-                let row = [1, 2, 5, 8][r.below(4) as usize];
-                let one = at.min(words as usize - 2 * row);
-                Damage::Swap { one, two: one + row, words: row }
-            }
-            _ if r.one_in(2) => Damage::Cut(r.below(length as u64) as usize),
+            3..=6 => Damage::Word { at, value: value(r) },
+            7..=9 => Damage::Shift { at, by: [1, 2, u64::MAX][r.below(3) as usize] },
+            10..=11 => Damage::Swap { at: first, words: row },
+            12..=13 => Damage::Repeat { at: first, words: row },
+            14 => Damage::Cut(r.below(bytes as u64) as usize),
             _ => Damage::Longer(r.among(1, 64) as usize),
         }
     }
@@ -75,7 +103,8 @@ impl Damage {
                 let old = get(store, at);
                 put(store, at, old.wrapping_add(by));
             }
-            Damage::Swap { one, two, words } => (0..8 * words).for_each(|i| store.swap(8 * one + i, 8 * two + i)),
+            Damage::Swap { at, words } => (8 * at..8 * (at + words)).for_each(|i| store.swap(i, i + 8 * words)),
+            Damage::Repeat { at, words } => store.copy_within(8 * at..8 * (at + words), 8 * (at + words)),
             Damage::Cut(length) => store.truncate(length),
             Damage::Longer(by) => store.resize(store.len() + by, 0),
         }

@@ -55,14 +55,7 @@ impl<'a> Reader<'a> {
     }
 
     fn bucket(&mut self) -> Option<Bucket> {
-        Some(Bucket {
-            pair: self.pair()?,
-            last_ready: self.pair()?,
-            ready: self.flag()?,
-            fetched: self.flag()?,
-            sent: self.word()?,
-            taken: self.word()?,
-        })
+        Some(Bucket { pair: self.pair()?, last_ready: self.pair()?, ready: self.flag()?, fetched: self.flag()?, sent: self.word()?, taken: self.word()? })
     }
 
     fn proxy(&mut self) -> Option<Proxy> {

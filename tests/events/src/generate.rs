@@ -53,8 +53,7 @@ impl Generator {
 
     pub fn act(&mut self, r: &mut Random, state: &State) -> Act {
         if r.below(1000) < self.temper.probes {
-            let damage = Damage::random(r, state.settings, crate::decode::length(state.settings));
-            return Act::Probe(damage, self.wild(r, state));
+            return Act::Probe(Damage::random(r, state), self.wild(r, state));
         }
         Act::Step(self.call(r, state))
     }
