@@ -1,4 +1,5 @@
 //! Ways to damage a store's bytes.
+use crate::choose::one_of;
 use crate::decode::length;
 use crate::encode::encode;
 use crate::model::{Settings, State};
@@ -63,7 +64,7 @@ fn value(r: &mut Random) -> u64 {
     const ENDS: [u64; 8] = [8, 32, 64, 255, 1 << 32, 1 << 49, 1 << 51, 1 << 56];
     match r.below(3) {
         0 => r.below(4),
-        1 => (ENDS[r.below(8) as usize] + r.below(3)).wrapping_sub(1),
+        1 => (one_of(r, &ENDS) + r.below(3)).wrapping_sub(1),
         _ => r.number(),
     }
 }
@@ -82,12 +83,12 @@ impl Damage {
         let bytes = length(state.settings);
         let words = bytes / 8;
         let at = if r.one_in(2) { used_word(r, state) } else { word(r, state.settings, words as u64) } as usize;
-        let row = [1, 2, 2, 5][r.below(4) as usize];
+        let row = one_of(r, &[1, 2, 2, 5]);
         let first = at.min(words - 2 * row);
         match r.below(16) {
             0..=2 => Damage::Byte { at: 8 * at + r.below(8) as usize, mask: 1 << r.below(8) },
             3..=6 => Damage::Word { at, value: value(r) },
-            7..=9 => Damage::Shift { at, by: [1, 2, u64::MAX][r.below(3) as usize] },
+            7..=9 => Damage::Shift { at, by: one_of(r, &[1, 2, u64::MAX]) },
             10..=11 => Damage::Swap { at: first, words: row },
             12..=13 => Damage::Repeat { at: first, words: row },
             14 => Damage::Cut(r.below(bytes as u64) as usize),

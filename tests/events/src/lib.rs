@@ -1,5 +1,6 @@
 //! An independent implementation of the rules, its bytes by docs/LAYOUT.md, and random events to compare it with the proved calls.
 pub mod both;
+pub mod choose;
 pub mod counts;
 pub mod damage;
 pub mod decode;

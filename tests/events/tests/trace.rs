@@ -2,6 +2,8 @@
 use call_tests::random::Random;
 use call_tests::text::model::LONGEST;
 use call_tests::text::random::WAYS;
+use event_tests::choose::one_of;
+use event_tests::decode::length;
 use event_tests::generate::{settings, Generator, Temper};
 use event_tests::lines::{self, trace, Trace, HEADER, LARGEST};
 use event_tests::model::Settings;
@@ -53,7 +55,7 @@ fn check(input: &[u8]) -> usize {
 fn small_settings(r: &mut Random) -> Settings {
     loop {
         let s = settings(r);
-        if event_tests::decode::length(s) <= LARGEST {
+        if length(s) <= LARGEST {
             return s;
         }
     }
@@ -89,7 +91,7 @@ fn malformed(r: &mut Random, line: &[u8]) -> Vec<u8> {
 /// Longer than a line may be, with an event where a buffer of some size would end.
 fn overlong(r: &mut Random, line: &[u8]) -> Vec<u8> {
     let sizes = [LONGEST, LONGEST - 1, LONGEST + 1, 1 << 12, 1 << 13, 1 << 14, 1 << 15, 1 << 16, 2 * LONGEST];
-    let fill = sizes[r.below(sizes.len() as u64) as usize];
+    let fill = one_of(r, &sizes);
     let cut = r.below(line.len() as u64 + 1) as usize;
     [b"x".repeat(fill - cut.min(fill)).as_slice(), line].concat()
 }
@@ -100,7 +102,7 @@ fn text(r: &mut Random, events: u64) -> Vec<u8> {
     let mut trace = Trace::new(&input).unwrap();
     let temper = Temper { probes: 0, ..Temper::random(r) };
     let mut generator = Generator::new(r, temper);
-    let noise = *[0, 2, 10].get(r.below(3) as usize).unwrap();
+    let noise = one_of(r, &[0, 2, 10]);
     for _ in 0..events {
         let mut next = line(&generator.call(r, &trace.state)).into_bytes();
         if r.below(100) < noise {
@@ -132,7 +134,9 @@ fn random_events() {
 #[test]
 fn cut_inputs() {
     let input = b"3,8,2,4\nlearn,0\nput,0,0,5,a1a1a1a1a1a1a1a1\nsavelog,0\nmap,0,5\nget,0,6\n\n";
-    (0..=input.len()).for_each(|n| drop(check(&input[..n])));
+    for n in 0..=input.len() {
+        check(&input[..n]);
+    }
 }
 
 #[test]
@@ -153,8 +157,8 @@ fn settings_lines() {
 fn largest_stores() {
     let all = (3..=8).flat_map(|n| (1..=400).flat_map(move |s| (2..=24).map(move |m| Settings::new(n, 8 * s, m, 4 + s % 7))));
     let mut near: Vec<Settings> = all.filter(|s| s.in_limits()).collect();
-    near.sort_by_key(|&s| event_tests::decode::length(s).abs_diff(LARGEST));
-    let (passed, refused): (Vec<_>, Vec<_>) = near[..40].iter().copied().partition(|&s| event_tests::decode::length(s) <= LARGEST);
+    near.sort_by_key(|&s| length(s).abs_diff(LARGEST));
+    let (passed, refused): (Vec<_>, Vec<_>) = near[..40].iter().copied().partition(|&s| length(s) <= LARGEST);
     assert!(!passed.is_empty() && !refused.is_empty());
     for s in near.into_iter().take(40) {
         check(&[settings_line(s).as_slice(), b"learn,0\nget,0,5\nlose,2\njoin,2\nview\n"].concat());

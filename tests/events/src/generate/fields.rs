@@ -1,18 +1,13 @@
 //! Events of any kind, their fields mostly in range and mostly of what the state holds.
-use crate::model::{Block, Call, Key, State, BUCKETS, PROXIES};
+use crate::choose::{one_of, pick};
+use crate::model::{Block, Call, Key, State, BUCKETS, GET, PROXIES, PUT};
 use call_tests::random::Random;
 use call_tests::text::model::KINDS;
 
-pub fn pick<T: Clone>(r: &mut Random, list: &[T]) -> Option<T> {
-    let n = list.len() as u64;
-    (n > 0).then(|| list[r.below(n) as usize].clone())
-}
-
 /// A few blocks in few buckets, so that copies fill; of one proxy or of all.
 pub fn some_blocks(r: &mut Random) -> Vec<Block> {
-    let (proxies, buckets, low) = (r.among(1, 4), *[1, 1, 2, 3, 16].get(r.below(5) as usize).unwrap(), r.among(1, 4));
-    let shift = r.below(4);
-    let count = r.among(2, 14);
+    let (proxies, buckets, low) = (r.among(1, 4), one_of(r, &[1, 1, 2, 3, 16]), r.among(1, 4));
+    let (shift, count) = (r.below(4), r.among(2, 14));
     (0..count).map(|_| block(r.below(proxies), (r.below(buckets) + shift) % 16, r.below(low) + (r.below(2) << 14))).collect()
 }
 
@@ -56,16 +51,17 @@ fn kind(r: &mut Random) -> u64 {
     const OFTEN: [u64; 14] = [1, 2, 3, 4, 4, 5, 5, 6, 8, 8, 9, 10, 10, 12];
     match r.below(100) {
         0 => r.number(),
-        1..=39 => OFTEN[r.below(OFTEN.len() as u64) as usize],
+        1..=39 => one_of(r, &OFTEN),
         _ => 1 + r.below(KINDS.len() as u64),
     }
 }
 
-fn length(r: &mut Random, size: usize) -> usize {
-    if r.one_in(50) {
-        r.below(2 * size as u64 + 2) as usize
-    } else {
-        size
+/// The length of an area that the kind looks at; one that it does not look at has any.
+fn length(r: &mut Random, size: usize, looked_at: bool) -> usize {
+    match r.below(50) {
+        0 => r.below(2 * size as u64 + 2) as usize,
+        _ if looked_at => size,
+        _ => 0,
     }
 }
 
@@ -87,15 +83,14 @@ fn numbers(r: &mut Random, state: &State, blocks: &[Block], kind: u64) -> [u64; 
 }
 
 pub fn wild(r: &mut Random, state: &State, blocks: &[Block]) -> Call {
-    let kind = kind(r);
+    let (kind, size) = (kind(r), state.size());
     let [a, b, c] = numbers(r, state, blocks, kind);
-    let size = state.size();
-    let data = if kind == 1 { length(r, size) } else { 0 };
-    let mut zero = vec![0; if kind == 10 { length(r, size) } else { 0 }];
+    let data = length(r, size, kind == PUT);
+    let mut zero = vec![0; length(r, size, kind == GET)];
     if !zero.is_empty() && r.one_in(100) {
         let at = r.below(zero.len() as u64) as usize;
         zero[at] = 1 << r.below(8);
     }
-    let room = if kind == 10 { length(r, size) } else { 0 };
+    let room = length(r, size, kind == GET);
     Call { kind, a, b, c, data: r.bytes(data), zero, room }
 }

@@ -1,6 +1,7 @@
 //! Plans: what a store in use goes through.
-use super::fields::{block, pick};
+use super::fields::block;
 use super::tasks::Task;
+use crate::choose::pick;
 use crate::model::{Block, State, BUCKETS, MOST_ITEMS, PROXIES};
 use call_tests::random::Random;
 

@@ -1,6 +1,7 @@
 //! Where lists start: settings, and sound stores that are edited or made up.
-use super::fields::{block, pick};
+use super::fields::block;
 use super::{Generator, Temper};
+use crate::choose::{one_of, pick};
 use crate::decode::length;
 use crate::encode::encode;
 use crate::model::*;
@@ -88,7 +89,7 @@ fn late_orders(r: &mut Random, state: &mut State) {
 
 fn late_sequences(r: &mut Random, state: &mut State) {
     for brick in state.bricks.values_mut() {
-        brick.ceiling = SEQUENCES - [0, 1, 1023, 1024, 1025, 2048][r.below(6) as usize];
+        brick.ceiling = SEQUENCES - one_of(r, &[0, 1, 1023, 1024, 1025, 2048]);
         brick.next = brick.ceiling - r.below(4);
     }
 }

@@ -1,5 +1,5 @@
 //! One step of a plan: which event it is, is found in the state when its turn comes.
-use super::fields::pick;
+use crate::choose::pick;
 use crate::model::{Block, Call, Id, Key, State};
 use call_tests::random::Random;
 
