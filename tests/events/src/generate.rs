@@ -8,7 +8,7 @@ pub use start::{edited, settings};
 pub use tasks::Task;
 
 use crate::damage::Damage;
-use crate::model::{Block, Call, State, CRASH, LOSE};
+use crate::model::{kind, Block, Call, State};
 use crate::trial::Act;
 use call_tests::random::Random;
 use std::collections::VecDeque;
@@ -60,7 +60,7 @@ impl Generator {
 
     pub fn call(&mut self, r: &mut Random, state: &State) -> Call {
         let call = if r.below(100) < self.temper.wild { self.wild(r, state) } else { self.planned(r, state) };
-        if self.temper.careful && matches!(call.kind, CRASH | LOSE) && !state.is_whole() {
+        if self.temper.careful && matches!(call.kind, kind::CRASH | kind::LOSE) && !state.is_whole() {
             self.plans.clear();
             self.plans.push(plans::repair(r, state).into());
             return self.planned(r, state);

@@ -1,8 +1,6 @@
 //! The claim about lists of events, executed: a machine that is fed the events and their answers and nothing of the store.
-use crate::model::{Answer, Call, BUCKETS, CRASH, FETCH, GET, LOSE, PUT, READY, VIEW};
+use crate::model::{kind, Answer, Call, BUCKETS};
 use std::collections::{HashMap, HashSet};
-
-const DONE: u64 = 9;
 
 /// A block's writes, numbered from 1, and its mark.
 #[derive(Clone, Debug, Default)]
@@ -31,23 +29,23 @@ impl History {
     /// Takes the next event of a list. Whether the store was whole before it matters for an accepted crash or loss alone.
     pub fn watch(&mut self, call: &Call, answer: &Answer, whole: bool) -> Result<(), String> {
         match (call.kind, answer.code) {
-            (PUT, 0) => self.put(call, answer.key),
-            (DONE, 0) => self.confirm(call.b),
-            (GET, 0) => self.read(call.b, answer),
-            (CRASH | LOSE, 0) => {
+            (kind::PUT, 0) => self.put(call, answer.key),
+            (kind::DONE, 0) => self.confirm(call.b),
+            (kind::GET, 0) => self.read(call.b, answer),
+            (kind::CRASH | kind::LOSE, 0) => {
                 self.whole_before_falls &= whole;
                 Ok(())
             }
-            (VIEW, 0) => {
+            (kind::VIEW, 0) => {
                 self.unready = [true; BUCKETS];
                 Ok(())
             }
-            (READY, 0) => {
+            (kind::READY, 0) => {
                 self.unready[call.a as usize] = false;
                 Ok(())
             }
-            (GET, 11) if self.whole_before_falls => Err("a get for want of bytes".to_string()),
-            (FETCH, 13) if self.whole_before_falls && self.unready[call.a as usize] => Err("a fetch for want of a source".to_string()),
+            (kind::GET, 11) if self.whole_before_falls => Err("a get for want of bytes".to_string()),
+            (kind::FETCH, 13) if self.whole_before_falls && self.unready[call.a as usize] => Err("a fetch for want of a source".to_string()),
             _ => Ok(()),
         }
     }

@@ -2,7 +2,7 @@
 use crate::counts::Counts;
 use crate::decode::length;
 use crate::generate::{edited, settings, Generator, Temper};
-use crate::model::{CRASH, LOSE};
+use crate::model::kind;
 use crate::shrink::{replay, show, shrink};
 use crate::situations::{Met, Moment};
 use crate::trial::{Act, Start, Trial};
@@ -55,7 +55,7 @@ fn list(seed: u64, most: u64, sum: &mut Sum) -> Result<(), String> {
         let answer = trial.take(&act).map_err(|_| explain(seed, &start, std::mem::take(&mut acts)))?;
         if let Act::Step(call) = &act {
             sum.events += 1;
-            falls += (matches!(call.kind, CRASH | LOSE) && answer.code == 0) as u64;
+            falls += (matches!(call.kind, kind::CRASH | kind::LOSE) && answer.code == 0) as u64;
             if let Some(before) = &before {
                 sum.met.add(&Moment { before, after: &trial.state, call }, answer.code);
             }

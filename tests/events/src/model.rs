@@ -2,6 +2,7 @@
 mod call;
 mod chunks;
 mod facts;
+pub mod kind;
 mod maps;
 mod membership;
 mod numbers;
@@ -12,7 +13,7 @@ mod step;
 mod upkeep;
 mod views;
 
-pub use call::{Call, Event, CRASH, DELIVER, FETCH, GET, LOSE, PUT, READY, VIEW};
+pub use call::{Call, Event};
 pub use numbers::{Block, Id, Key, View, BLOCKS, LAST_ID, LAST_NUMBER, SEQUENCES};
 pub use pairs::{pairs, Pair};
 pub use state::{Brick, Bucket, Chunk, Copy, Proxy, Relay, State, Table, BUCKETS, MOST_ITEMS, MOST_RELAYS, MOST_WAITING, PROXIES};

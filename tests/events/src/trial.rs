@@ -4,7 +4,7 @@ use crate::damage::Damage;
 use crate::decode::decode;
 use crate::encode::encode;
 use crate::history::History;
-use crate::model::{step, Answer, Call, Settings, State, CRASH, GET, LOSE};
+use crate::model::{kind, step, Answer, Call, Settings, State};
 use call_tests::store;
 use call_tests::text::model::Event;
 
@@ -57,7 +57,7 @@ pub fn proved_step(bytes: &mut [u8], call: &Call) -> Result<Answer, String> {
     let mut area = vec![AREA; call.room];
     let event = Event { code: 0, kind: call.kind, a: call.a, b: call.b, c: call.c };
     let told = store::step(bytes, &event, &call.data, &call.zero, &mut area);
-    let is_read = told.code == 0 && call.kind == GET;
+    let is_read = told.code == 0 && call.kind == kind::GET;
     if !is_read && area.iter().any(|&b| b != AREA) {
         return Err("the answer area is written".to_string());
     }
@@ -91,7 +91,7 @@ impl Trial {
     }
 
     fn step(&mut self, call: &Call) -> Result<Answer, String> {
-        let whole = matches!(call.kind, CRASH | LOSE) && self.state.is_whole();
+        let whole = matches!(call.kind, kind::CRASH | kind::LOSE) && self.state.is_whole();
         let answer = step(&mut self.state, call);
         if answer.code == 0 {
             encode(&self.state, &mut self.expected);

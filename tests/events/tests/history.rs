@@ -1,6 +1,6 @@
 //! The history machine finds what the claim about lists forbids.
 use event_tests::history::History;
-use event_tests::model::{Answer, Call};
+use event_tests::model::{kind, Answer, Call};
 
 const A1: u8 = 0xa1;
 const B2: u8 = 0xb2;
@@ -14,15 +14,15 @@ fn told(key: u64, data: Option<u8>) -> Answer {
 }
 
 fn put(history: &mut History, block: u64, key: u64, byte: u8) -> Result<(), String> {
-    history.watch(&call(1, [0, 0, block], byte), &told(key, None), false)
+    history.watch(&call(kind::PUT, [0, 0, block], byte), &told(key, None), false)
 }
 
 fn confirm(history: &mut History, block: u64) -> Result<(), String> {
-    history.watch(&call(9, [0, block, 0], 0), &told(0, None), false)
+    history.watch(&call(kind::DONE, [0, block, 0], 0), &told(0, None), false)
 }
 
 fn read(history: &mut History, block: u64, key: u64, byte: u8) -> Result<(), String> {
-    history.watch(&call(10, [0, block, 0], 0), &told(key, Some(byte)), false)
+    history.watch(&call(kind::GET, [0, block, 0], 0), &told(key, Some(byte)), false)
 }
 
 /// An event of one field, accepted or refused.
@@ -87,14 +87,14 @@ fn other_bytes_and_other_blocks() {
 fn want() {
     for (whole, forbidden) in [(true, true), (false, false)] {
         let mut history = History::default();
-        assert!(event(&mut history, 14, 0, 0, whole).is_ok());
-        assert_eq!(event(&mut history, 10, 0, 11, false).is_err(), forbidden);
-        assert!(event(&mut history, 19, 3, 13, false).is_ok());
-        event(&mut history, 18, 0, 0, false).unwrap();
-        assert_eq!(event(&mut history, 19, 3, 13, false).is_err(), forbidden);
-        event(&mut history, 20, 3, 0, false).unwrap();
-        assert!(event(&mut history, 19, 3, 13, false).is_ok());
-        assert_eq!(event(&mut history, 19, 4, 13, false).is_err(), forbidden);
+        assert!(event(&mut history, kind::CRASH, 0, 0, whole).is_ok());
+        assert_eq!(event(&mut history, kind::GET, 0, 11, false).is_err(), forbidden);
+        assert!(event(&mut history, kind::FETCH, 3, 13, false).is_ok());
+        event(&mut history, kind::VIEW, 0, 0, false).unwrap();
+        assert_eq!(event(&mut history, kind::FETCH, 3, 13, false).is_err(), forbidden);
+        event(&mut history, kind::READY, 3, 0, false).unwrap();
+        assert!(event(&mut history, kind::FETCH, 3, 13, false).is_ok());
+        assert_eq!(event(&mut history, kind::FETCH, 4, 13, false).is_err(), forbidden);
     }
 }
 
@@ -102,6 +102,6 @@ fn want() {
 #[test]
 fn refused_falls() {
     let mut history = History::default();
-    assert!(event(&mut history, 14, 0, 13, false).is_ok());
-    assert!(event(&mut history, 10, 0, 11, false).is_err());
+    assert!(event(&mut history, kind::CRASH, 0, 13, false).is_ok());
+    assert!(event(&mut history, kind::GET, 0, 11, false).is_err());
 }

@@ -1,6 +1,6 @@
 //! Events of any kind, their fields mostly in range and mostly of what the state holds.
 use crate::choose::{one_of, pick};
-use crate::model::{Block, Call, Key, State, BUCKETS, GET, PROXIES, PUT};
+use crate::model::{kind, Block, Call, Key, State, BUCKETS, PROXIES};
 use call_tests::random::Random;
 use call_tests::text::model::KINDS;
 
@@ -47,8 +47,8 @@ fn any_block(r: &mut Random, blocks: &[Block]) -> u64 {
 }
 
 /// Any number is a kind's now and then.
-fn kind(r: &mut Random) -> u64 {
-    const OFTEN: [u64; 14] = [1, 2, 3, 4, 4, 5, 5, 6, 8, 8, 9, 10, 10, 12];
+fn any_kind(r: &mut Random) -> u64 {
+    const OFTEN: [u64; 10] = [kind::PUT, kind::COPY, kind::SAVELOG, kind::MAP, kind::SEND, kind::DELIVER, kind::SAVEMAP, kind::DONE, kind::GET, kind::LEARN];
     match r.below(100) {
         0 => r.number(),
         1..=39 => one_of(r, &OFTEN),
@@ -70,27 +70,27 @@ fn numbers(r: &mut Random, state: &State, blocks: &[Block], kind: u64) -> [u64; 
     let proxy = if r.one_in(20) { number_of(r, PROXIES as u64) } else { block >> 49 };
     let place = number_of(r, state.settings.places);
     match kind {
-        1 => [proxy, place, block],
-        2 => [if r.one_in(40) { r.number() } else { key(r, state).0 }, r.next(), r.next()],
-        4 | 9..=11 => [proxy, block, r.next()],
-        5 => [block, r.next(), r.next()],
-        6 | 7 => [number_of(r, state.bag.len() as u64), r.next(), r.next()],
-        12 | 13 => [number_of(r, PROXIES as u64), r.next(), r.next()],
-        19 | 20 if r.one_in(2) => [pick(r, blocks).map_or(0, |b| b.bucket() as u64), r.next(), r.next()],
-        19 | 20 => [number_of(r, BUCKETS as u64), r.next(), r.next()],
+        kind::PUT => [proxy, place, block],
+        kind::COPY => [if r.one_in(40) { r.number() } else { key(r, state).0 }, r.next(), r.next()],
+        kind::MAP | kind::DONE | kind::GET | kind::ABANDON => [proxy, block, r.next()],
+        kind::SEND => [block, r.next(), r.next()],
+        kind::DELIVER | kind::DROP => [number_of(r, state.bag.len() as u64), r.next(), r.next()],
+        kind::LEARN | kind::RESET => [number_of(r, PROXIES as u64), r.next(), r.next()],
+        kind::FETCH | kind::READY if r.one_in(2) => [pick(r, blocks).map_or(0, |b| b.bucket() as u64), r.next(), r.next()],
+        kind::FETCH | kind::READY => [number_of(r, BUCKETS as u64), r.next(), r.next()],
         _ => [place, r.next(), r.next()],
     }
 }
 
 pub fn wild(r: &mut Random, state: &State, blocks: &[Block]) -> Call {
-    let (kind, size) = (kind(r), state.size());
+    let (kind, size) = (any_kind(r), state.size());
     let [a, b, c] = numbers(r, state, blocks, kind);
-    let data = length(r, size, kind == PUT);
-    let mut zero = vec![0; length(r, size, kind == GET)];
+    let data = length(r, size, kind == kind::PUT);
+    let mut zero = vec![0; length(r, size, kind == kind::GET)];
     if !zero.is_empty() && r.one_in(100) {
         let at = r.below(zero.len() as u64) as usize;
         zero[at] = 1 << r.below(8);
     }
-    let room = length(r, size, kind == GET);
+    let room = length(r, size, kind == kind::GET);
     Call { kind, a, b, c, data: r.bytes(data), zero, room }
 }

@@ -1,6 +1,6 @@
 //! One step of a plan: which event it is, is found in the state when its turn comes.
 use crate::choose::pick;
-use crate::model::{Block, Call, Id, Key, State};
+use crate::model::{kind, Block, Call, Id, Key, State};
 use call_tests::random::Random;
 
 #[derive(Clone, Debug)]
@@ -63,31 +63,31 @@ impl Task {
         let of_proxy = |kind: u64, block: Block| (kind, [block.proxy() as u64, block.0, 0]);
         let pair = |block: Block| state.buckets[block.bucket()].pair;
         match *self {
-            Task::Put(block, place) => (1, [block.proxy() as u64, place as u64, block.0]),
-            Task::Copy(block) => one(2, key_of(state, block).0),
-            Task::SaveHome(block) => one(3, place_of(state, key_of(state, block).home())),
-            Task::SaveTarget(block) => one(3, place_of(state, target(state, key_of(state, block)))),
-            Task::Map(block) => of_proxy(4, block),
-            Task::Send(block) => one(5, block.0),
-            Task::Deliver(block) => one(6, newest_relay(state, block)),
-            Task::DeliverAny => one(6, any_relay(r, state)),
-            Task::DropAny => one(7, any_relay(r, state)),
-            Task::SavePrimary(block) => one(8, place_of(state, pair(block).primary)),
-            Task::SaveBackup(block) => one(8, place_of(state, pair(block).backup)),
-            Task::Done(block) => of_proxy(9, block),
-            Task::Get(block) => of_proxy(10, block),
-            Task::Abandon(block) => of_proxy(11, block),
-            Task::Learn(proxy) => one(12, proxy as u64),
-            Task::Reset(proxy) => one(13, proxy as u64),
-            Task::Crash(place) => one(14, place as u64),
-            Task::Lose(place) => one(15, place as u64),
-            Task::Rise(place) => one(16, place as u64),
-            Task::Join(place) => one(17, place as u64),
-            Task::View => one(18, 0),
-            Task::Fetch(bucket) => one(19, bucket as u64),
-            Task::Ready(bucket) => one(20, bucket as u64),
-            Task::Mend(place) => one(21, place as u64),
-            Task::Collect(place) => one(22, place as u64),
+            Task::Put(block, place) => (kind::PUT, [block.proxy() as u64, place as u64, block.0]),
+            Task::Copy(block) => one(kind::COPY, key_of(state, block).0),
+            Task::SaveHome(block) => one(kind::SAVELOG, place_of(state, key_of(state, block).home())),
+            Task::SaveTarget(block) => one(kind::SAVELOG, place_of(state, target(state, key_of(state, block)))),
+            Task::Map(block) => of_proxy(kind::MAP, block),
+            Task::Send(block) => one(kind::SEND, block.0),
+            Task::Deliver(block) => one(kind::DELIVER, newest_relay(state, block)),
+            Task::DeliverAny => one(kind::DELIVER, any_relay(r, state)),
+            Task::DropAny => one(kind::DROP, any_relay(r, state)),
+            Task::SavePrimary(block) => one(kind::SAVEMAP, place_of(state, pair(block).primary)),
+            Task::SaveBackup(block) => one(kind::SAVEMAP, place_of(state, pair(block).backup)),
+            Task::Done(block) => of_proxy(kind::DONE, block),
+            Task::Get(block) => of_proxy(kind::GET, block),
+            Task::Abandon(block) => of_proxy(kind::ABANDON, block),
+            Task::Learn(proxy) => one(kind::LEARN, proxy as u64),
+            Task::Reset(proxy) => one(kind::RESET, proxy as u64),
+            Task::Crash(place) => one(kind::CRASH, place as u64),
+            Task::Lose(place) => one(kind::LOSE, place as u64),
+            Task::Rise(place) => one(kind::RISE, place as u64),
+            Task::Join(place) => one(kind::JOIN, place as u64),
+            Task::View => one(kind::VIEW, 0),
+            Task::Fetch(bucket) => one(kind::FETCH, bucket as u64),
+            Task::Ready(bucket) => one(kind::READY, bucket as u64),
+            Task::Mend(place) => one(kind::MEND, place as u64),
+            Task::Collect(place) => one(kind::COLLECT, place as u64),
         }
     }
 
@@ -110,7 +110,7 @@ impl Task {
     pub fn call(&self, r: &mut Random, state: &State) -> Call {
         let (kind, numbers) = self.event(r, state);
         let size = state.size();
-        let data = if kind == 1 { r.bytes(size) } else { Vec::new() };
-        Call::new(kind, numbers, data, if kind == 10 { size } else { 0 })
+        let data = if kind == kind::PUT { r.bytes(size) } else { Vec::new() };
+        Call::new(kind, numbers, data, if kind == kind::GET { size } else { 0 })
     }
 }

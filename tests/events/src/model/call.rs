@@ -1,15 +1,6 @@
 //! A call of the step with all that it lends, and question 3, which makes it an event.
 use super::step::{ask, Refusal};
-use super::{Block, Key, State, BUCKETS, PROXIES};
-
-pub const PUT: u64 = 1;
-pub const DELIVER: u64 = 6;
-pub const GET: u64 = 10;
-pub const CRASH: u64 = 14;
-pub const LOSE: u64 = 15;
-pub const VIEW: u64 = 18;
-pub const FETCH: u64 = 19;
-pub const READY: u64 = 20;
+use super::{kind, Block, Key, State, BUCKETS, PROXIES};
 
 #[derive(Clone, Debug, PartialEq, Eq)]
 pub struct Call {
@@ -76,34 +67,34 @@ pub fn event<'a>(state: &State, call: &'a Call) -> Result<Event<'a>, Refusal> {
     let index = |value| below(value, state.bag.len());
     let bucket = |value| below(value, BUCKETS);
     Ok(match call.kind {
-        1 => {
+        kind::PUT => {
             ask(3, call.data.len() == state.size())?;
             Event::Put { proxy: proxy(a)?, place: place(b)?, block: block(c)?, data: &call.data }
         }
-        2 => Event::Copy(key(a)?),
-        3 => Event::SaveLog(place(a)?),
-        4 => Event::Map(proxy(a)?, block(b)?),
-        5 => Event::Send(block(a)?),
-        6 => Event::Deliver(index(a)?),
-        7 => Event::Drop(index(a)?),
-        8 => Event::SaveMap(place(a)?),
-        9 => Event::Done(proxy(a)?, block(b)?),
-        10 => {
+        kind::COPY => Event::Copy(key(a)?),
+        kind::SAVELOG => Event::SaveLog(place(a)?),
+        kind::MAP => Event::Map(proxy(a)?, block(b)?),
+        kind::SEND => Event::Send(block(a)?),
+        kind::DELIVER => Event::Deliver(index(a)?),
+        kind::DROP => Event::Drop(index(a)?),
+        kind::SAVEMAP => Event::SaveMap(place(a)?),
+        kind::DONE => Event::Done(proxy(a)?, block(b)?),
+        kind::GET => {
             ask(3, call.zero.len() == state.size() && call.zero.iter().all(|&z| z == 0) && call.room == state.size())?;
             Event::Get(proxy(a)?, block(b)?)
         }
-        11 => Event::Abandon(proxy(a)?, block(b)?),
-        12 => Event::Learn(proxy(a)?),
-        13 => Event::Reset(proxy(a)?),
-        14 => Event::Crash(place(a)?),
-        15 => Event::Lose(place(a)?),
-        16 => Event::Rise(place(a)?),
-        17 => Event::Join(place(a)?),
-        18 => Event::View,
-        19 => Event::Fetch(bucket(a)?),
-        20 => Event::Ready(bucket(a)?),
-        21 => Event::Mend(place(a)?),
-        22 => Event::Collect(place(a)?),
+        kind::ABANDON => Event::Abandon(proxy(a)?, block(b)?),
+        kind::LEARN => Event::Learn(proxy(a)?),
+        kind::RESET => Event::Reset(proxy(a)?),
+        kind::CRASH => Event::Crash(place(a)?),
+        kind::LOSE => Event::Lose(place(a)?),
+        kind::RISE => Event::Rise(place(a)?),
+        kind::JOIN => Event::Join(place(a)?),
+        kind::VIEW => Event::View,
+        kind::FETCH => Event::Fetch(bucket(a)?),
+        kind::READY => Event::Ready(bucket(a)?),
+        kind::MEND => Event::Mend(place(a)?),
+        kind::COLLECT => Event::Collect(place(a)?),
         _ => return Err(Refusal(3)),
     })
 }
