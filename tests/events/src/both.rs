@@ -1,5 +1,5 @@
 //! Lines of text on the proved calls and on the model at once.
-use crate::decode::length;
+use crate::layout::length;
 use crate::lines::{call, data};
 use crate::model::Settings;
 use crate::trial::{Act, Start, Trial};

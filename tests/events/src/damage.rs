@@ -1,8 +1,8 @@
 //! Ways to damage a store's bytes.
 use crate::choose::one_of;
-use crate::decode::length;
 use crate::encode::encode;
-use crate::model::{Settings, State};
+use crate::layout;
+use crate::model::{Settings, State, BUCKETS};
 use call_tests::random::Random;
 use call_tests::store::model::{get, put};
 
@@ -35,27 +35,20 @@ pub enum Damage {
     Longer(usize),
 }
 
-const HEADER: u64 = 7;
-const BUCKETS: u64 = 16 * 8;
-/// The words before the first place.
-const BEFORE_PLACES: u64 = 720;
-/// The words of a place before its copies.
-const BEFORE_COPIES: u64 = 71;
-
 /// A word: every part of a store has its share of the damage, however small it is.
-fn word(r: &mut Random, s: Settings, words: u64) -> u64 {
-    let place = (words - BEFORE_PLACES) / s.places;
-    let begin = BEFORE_PLACES + place * r.below(s.places);
-    let log = 1 + 3 * s.chunks + s.chunks * s.size / 8;
-    match r.below(8) {
-        0 => r.below(HEADER),
-        1 => HEADER + r.below(BUCKETS),
-        2 => HEADER + BUCKETS + r.below(BEFORE_PLACES - HEADER - BUCKETS),
-        3 => begin + r.below(8),
-        4 => begin + BEFORE_COPIES + r.below(32 * (1 + 2 * s.entries)),
-        5 => begin + place - log + r.below(1 + 3 * s.chunks),
-        6 => begin + r.below(place),
-        _ => r.below(words),
+fn word(r: &mut Random, s: Settings) -> usize {
+    let mut within = |begin: usize, words: usize| begin + r.below(words as u64) as usize;
+    let place = within(0, s.places as usize) * layout::place(s) + layout::BEFORE_PLACES;
+    let buckets = BUCKETS * layout::BUCKET;
+    match within(0, 8) {
+        0 => within(0, layout::HEADER),
+        1 => within(layout::HEADER, buckets),
+        2 => within(layout::HEADER + buckets, layout::BEFORE_PLACES - layout::HEADER - buckets),
+        3 => within(place, 8),
+        4 => within(place + layout::BEFORE_COPIES, layout::copies(s)),
+        5 => within(place + layout::BEFORE_COPIES + layout::copies(s), layout::rows_of_log(s)),
+        6 => within(place, layout::place(s)),
+        _ => within(0, layout::words(s)),
     }
 }
 
@@ -70,19 +63,18 @@ fn value(r: &mut Random) -> u64 {
 }
 
 /// A word that is in use and not 0, from a random one on.
-fn used_word(r: &mut Random, state: &State) -> u64 {
-    let mut image = vec![0; length(state.settings)];
+fn used_word(r: &mut Random, state: &State) -> usize {
+    let mut image = vec![0; layout::length(state.settings)];
     encode(state, &mut image);
     let words = image.len() / 8;
     let from = r.below(words as u64) as usize;
-    (from..words).find(|&at| get(&image, at) != 0).unwrap_or(0) as u64
+    (from..words).find(|&at| get(&image, at) != 0).unwrap_or(0)
 }
 
 impl Damage {
     pub fn random(r: &mut Random, state: &State) -> Self {
-        let bytes = length(state.settings);
-        let words = bytes / 8;
-        let at = if r.one_in(2) { used_word(r, state) } else { word(r, state.settings, words as u64) } as usize;
+        let (bytes, words) = (layout::length(state.settings), layout::words(state.settings));
+        let at = if r.one_in(2) { used_word(r, state) } else { word(r, state.settings) };
         let row = one_of(r, &[1, 2, 2, 5]);
         let first = at.min(words - 2 * row);
         match r.below(16) {

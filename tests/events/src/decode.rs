@@ -1,9 +1,7 @@
 //! The state that bytes stand for, or none where they are no sound store.
-use crate::encode::words_after_id;
+use crate::layout;
 use crate::model::*;
 use std::collections::BTreeMap;
-
-const HEADER_WORDS: usize = 7;
 
 struct Reader<'a> {
     store: &'a [u8],
@@ -71,7 +69,7 @@ impl<'a> Reader<'a> {
     fn bag(&mut self) -> Option<Vec<Relay>> {
         let count = self.count(MOST_RELAYS)?;
         let bag = (0..count).map(|_| self.relay()).collect();
-        self.pass(5 * (MOST_RELAYS - count));
+        self.pass(layout::RELAY * (MOST_RELAYS - count));
         bag
     }
 
@@ -79,7 +77,7 @@ impl<'a> Reader<'a> {
     fn place(&mut self, s: Settings) -> Option<Option<Brick>> {
         let id = self.word()?;
         if id == 0 {
-            self.pass(words_after_id(s));
+            self.pass(layout::place(s) - 1);
             return Some(None);
         }
         let (up, member, began) = (self.flag()?, self.flag()?, self.flag()?);
@@ -104,7 +102,7 @@ impl<'a> Reader<'a> {
         }
         let log = rows.into_iter().map(|(key, saved)| Some(Chunk { key, saved, data: self.bytes(s.size as usize)?.to_vec() }));
         let log = log.collect();
-        self.pass((most - count) * s.size as usize / 8);
+        self.pass((most - count) * layout::cell(s));
         log
     }
 }
@@ -114,14 +112,9 @@ fn settings(reader: &mut Reader) -> Option<Settings> {
     s.in_limits().then_some(s)
 }
 
-/// The bytes of a store of these settings: header, buckets, proxies, bag, places.
-pub fn length(s: Settings) -> usize {
-    8 * (HEADER_WORDS + BUCKETS * 8 + PROXIES * (2 + 2 * MOST_ITEMS) + 1 + 5 * MOST_RELAYS + s.places as usize * (1 + words_after_id(s)))
-}
-
 fn read(store: &[u8]) -> Option<State> {
     let mut reader = Reader { store, at: 0 };
-    let settings = settings(&mut reader).filter(|&s| length(s) == store.len())?;
+    let settings = settings(&mut reader).filter(|&s| layout::length(s) == store.len())?;
     let (view, given, started) = (View(reader.word()?), reader.word()?, reader.word()?);
     let buckets = (0..BUCKETS).map(|_| reader.bucket()).collect::<Option<Vec<_>>>()?;
     let proxies = (0..PROXIES).map(|_| reader.proxy()).collect::<Option<Vec<_>>>()?;

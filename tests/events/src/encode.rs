@@ -1,14 +1,6 @@
 //! A state as the words of docs/LAYOUT.md, written in their order over the bytes that are there; what is not in use is passed over.
+use crate::layout;
 use crate::model::{Block, Brick, Bucket, Chunk, Key, Proxy, Relay, Settings, State, Table, MOST_ITEMS, MOST_RELAYS, MOST_WAITING};
-
-const RELAY_WORDS: usize = 5;
-
-/// The words of a place after its id.
-pub fn words_after_id(s: Settings) -> usize {
-    let (entries, chunks, cell) = (s.entries as usize, s.chunks as usize, s.size as usize / 8);
-    let (flags, numbers, buffer) = (3, 2, 1 + 2 * MOST_WAITING);
-    flags + numbers + buffer + 16 * 2 * (1 + 2 * entries) + 1 + 3 * chunks + chunks * cell
-}
 
 struct Pen<'a> {
     store: &'a mut [u8],
@@ -57,7 +49,7 @@ impl Pen<'_> {
     fn bag(&mut self, bag: &[Relay]) {
         self.word(bag.len() as u64);
         bag.iter().for_each(|r| self.words(&[r.view.0, r.bucket as u64, r.order, r.block.0, r.key.0]));
-        self.pass(RELAY_WORDS * (MOST_RELAYS - bag.len()));
+        self.pass(layout::RELAY * (MOST_RELAYS - bag.len()));
     }
 
     fn brick(&mut self, b: &Brick, s: Settings) {
@@ -80,7 +72,7 @@ impl Pen<'_> {
         positions.iter().for_each(|&row| self.word(row as u64));
         self.pass(unused);
         log.iter().for_each(|c| self.bytes(&c.data));
-        self.pass(unused * s.size as usize / 8);
+        self.pass(unused * layout::cell(s));
     }
 }
 
@@ -97,7 +89,7 @@ pub fn encode(state: &State, store: &mut [u8]) {
             Some(brick) => pen.brick(brick, s),
             None => {
                 pen.word(0);
-                pen.pass(words_after_id(s));
+                pen.pass(layout::place(s) - 1);
             }
         }
     }

@@ -7,6 +7,7 @@ pub mod decode;
 pub mod encode;
 pub mod generate;
 pub mod history;
+pub mod layout;
 pub mod lines;
 pub mod lists;
 pub mod model;

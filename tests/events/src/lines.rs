@@ -1,5 +1,5 @@
 //! Lines of text on a state: what the trace program has to print.
-use crate::decode::length;
+use crate::layout::length;
 use crate::model::{step, Answer, Call, Settings, State};
 use call_tests::text::model::{parse, parse_settings, Event};
 

@@ -1,7 +1,7 @@
 //! Many random lists, each on the proved calls and on the model.
 use crate::counts::Counts;
-use crate::decode::length;
 use crate::generate::{edited, settings, Generator, Temper};
+use crate::layout::length;
 use crate::model::kind;
 use crate::shrink::{replay, show, shrink};
 use crate::situations::{Met, Moment};

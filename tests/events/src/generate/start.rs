@@ -2,8 +2,8 @@
 use super::fields::block;
 use super::{Generator, Temper};
 use crate::choose::{one_of, pick};
-use crate::decode::length;
 use crate::encode::encode;
+use crate::layout::length;
 use crate::model::*;
 use call_tests::random::Random;
 use call_tests::store::random::sound_store;
@@ -34,7 +34,7 @@ pub fn edited(r: &mut Random, s: Settings) -> Vec<u8> {
         return sound_store(r, s, percent);
     }
     let mut state = used(r, s);
-    for _ in 0..r.among(1, 4) {
+    for _ in 0..r.among(1, 6) {
         edit(r, &mut state);
     }
     assert!(state.is_sound(), "{state:?}");
@@ -62,7 +62,7 @@ fn edit(r: &mut Random, state: &mut State) {
         2 | 3 => late_sequences(r, state),
         4 => state.given = state.given.max(LAST_ID - r.below(4)),
         5 => full_backup(r, state),
-        6 => doubled_relays(r, state),
+        6 => many_relays(r, state),
         7 => turned_flags(r, state),
         8 => other_pairs(r, state),
         9 => other_bytes(r, state),
@@ -135,14 +135,22 @@ fn more_holders(r: &mut Random, state: &mut State) {
     }
 }
 
-fn doubled_relays(r: &mut Random, state: &mut State) {
-    for mut relay in state.bag.clone() {
+/// Relays doubled and renumbered, of this view and others, until the bag is full or nearly so.
+fn many_relays(r: &mut Random, state: &mut State) {
+    let Some(key) = some_key(r, state) else { return };
+    let first = block(r.below(4), r.below(16), r.below(4));
+    let mut relays = state.bag.clone();
+    relays.push(Relay { view: state.view, bucket: first.bucket(), order: 1, block: first, key });
+    let most = MOST_RELAYS - r.below(3) as usize;
+    while state.bag.len() < most {
+        let mut relay = pick(r, &relays).expect("at least one");
         if r.one_in(4) {
             relay.order = r.below(LAST_NUMBER + 1);
         }
-        if state.bag.len() < MOST_RELAYS && !r.one_in(4) {
-            state.bag.push(relay);
+        if r.one_in(8) {
+            relay.view = View(r.below(LAST_NUMBER + 1));
         }
+        state.bag.push(relay);
     }
 }
 
