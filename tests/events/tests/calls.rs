@@ -5,17 +5,22 @@ fn setting(name: &str, default: u64) -> u64 {
     std::env::var(name).ok().and_then(|n| n.parse().ok()).unwrap_or(default)
 }
 
+/// So many events meet all that can be met.
+const ENOUGH: u64 = 1_000_000;
+
 /// A million events, or what DISK_EVENTS says; DISK_SEED gives other lists.
 #[test]
 fn random_lists() {
-    let (seed, events) = (setting("DISK_SEED", 1), setting("DISK_EVENTS", 1_000_000));
+    let (seed, events) = (setting("DISK_SEED", 1), setting("DISK_EVENTS", ENOUGH));
     println!("seed {seed}, {events} events");
     let sum = lists(seed, events).unwrap_or_else(|why| panic!("{why}"));
     println!("{} events in {} lists, {} of them with falls on whole stores alone", sum.events, sum.lists, sum.careful);
     println!("{}", sum.counts.table());
     println!("{}", sum.met.table());
     assert!(sum.counts.impossible().is_empty(), "the rules have no such answer: {:?}", sum.counts.impossible());
-    assert!(sum.counts.missing().is_empty(), "did not happen: {:?}", sum.counts.missing());
-    assert!(sum.met.missing().is_empty(), "not met: {:?}", sum.met.missing());
-    assert!(sum.careful > 0);
+    if events >= ENOUGH {
+        assert!(sum.counts.missing().is_empty(), "did not happen: {:?}", sum.counts.missing());
+        assert!(sum.met.missing().is_empty(), "not met: {:?}", sum.met.missing());
+        assert!(sum.careful > 0);
+    }
 }

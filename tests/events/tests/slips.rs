@@ -235,19 +235,22 @@ fn refusing_all() {
     both.accepted(&format!("crash,0 rise,0 lose,1 join,1 learn,1 savemap,2 {}", "savelog,2"));
 }
 
-/// Whichever brick falls from a whole store, and then whichever falls from the mended one, the block is shown.
+/// A brick crashes and rises, or is lost and a blank one joins; a new view, and every place is mended.
+fn fall_and_repair(place: usize, is_lost: bool) -> String {
+    let fall = if is_lost { format!("lose,{place} join,{place}") } else { format!("crash,{place} rise,{place}") };
+    format!("{fall} view learn,0 {} mend,0 mend,1 mend,2", all_ready())
+}
+
+/// Whichever bricks fall, each from a whole store, the block is shown.
 #[test]
 fn falls_from_whole_stores() {
-    for first in 0..3 {
-        for second in 0..3 {
-            let mut both = store(3);
-            both.accepted(&written(A1, 0));
-            for (fall, back) in [(first, "rise"), (second, "join")] {
-                assert!(both.0.state.is_whole());
-                let down = if back == "rise" { "crash" } else { "lose" };
-                both.accepted(&format!("{down},{fall} {back},{fall} view learn,0 {} mend,0 mend,1 mend,2", all_ready()));
-                assert_eq!(both.line("get,0,5"), shown(KEY, A1));
-            }
+    for falls in 0..6 * 6 * 6 {
+        let mut both = store(3);
+        both.accepted(&written(A1, 0));
+        for fall in [falls % 6, falls / 6 % 6, falls / 36] {
+            assert!(both.0.state.is_whole());
+            both.accepted(&fall_and_repair(fall % 3, fall >= 3));
+            assert_eq!(both.line("get,0,5"), shown(KEY, A1));
         }
     }
 }

@@ -49,6 +49,22 @@ fn race(r: &mut Random, state: &State, block: Block) -> Vec<Task> {
     tasks
 }
 
+/// Relays of an older write, in one half of the cases of an older view, that come after a newer write is done.
+/// Then the primary falls, and what the backup has is what is shown.
+fn late_relays(r: &mut Random, state: &State, block: Block) -> Vec<Task> {
+    let mut tasks = write(r, state, block);
+    let at = tasks.len() - 5;
+    tasks.splice(at..at, [Task::Send(block), Task::Send(block)]);
+    if r.one_in(2) {
+        tasks.extend(rebuild(r, state, true));
+    }
+    tasks.extend(write(r, state, block));
+    tasks.extend([Task::DeliverOldest(block), Task::DeliverOldest(block), Task::SaveBackup(block), Task::CrashPrimary(block), Task::View]);
+    tasks.extend(learn_all());
+    tasks.extend([Task::Fetch(block.bucket()), Task::Ready(block.bucket()), Task::Get(block)]);
+    tasks
+}
+
 /// More relays of a block than the bag holds.
 fn fill_bag(r: &mut Random, block: Block) -> Vec<Task> {
     let sends = (0..r.among(60, 70)).map(|_| Task::Send(block));
@@ -157,7 +173,8 @@ pub fn random(r: &mut Random, state: &State, blocks: &[Block]) -> Vec<Task> {
         return rebuild(r, state, all);
     }
     match r.below(100) {
-        0..=59 => write(r, state, one),
+        0..=55 => write(r, state, one),
+        56..=59 => late_relays(r, state, one),
         60..=68 => race(r, state, one),
         69..=74 => read(blocks),
         75..=79 => settle(state),

@@ -34,7 +34,7 @@ pub fn edited(r: &mut Random, s: Settings) -> Vec<u8> {
         return sound_store(r, s, percent);
     }
     let mut state = used(r, s);
-    for _ in 0..r.among(1, 6) {
+    for _ in 0..r.among(1, 8) {
         edit(r, &mut state);
     }
     assert!(state.is_sound(), "{state:?}");
@@ -82,7 +82,7 @@ fn late_view(r: &mut Random, state: &mut State) {
 
 fn late_orders(r: &mut Random, state: &mut State) {
     for bucket in &mut state.buckets {
-        bucket.sent = LAST_NUMBER - r.below(4);
+        bucket.sent = LAST_NUMBER - one_of(r, &[0, 0, 1, 2]);
         bucket.taken = LAST_NUMBER - r.below(6);
     }
 }
@@ -141,7 +141,7 @@ fn many_relays(r: &mut Random, state: &mut State) {
     let first = block(r.below(4), r.below(16), r.below(4));
     let mut relays = state.bag.clone();
     relays.push(Relay { view: state.view, bucket: first.bucket(), order: 1, block: first, key });
-    let most = MOST_RELAYS - r.below(3) as usize;
+    let most = MOST_RELAYS - one_of(r, &[0, 0, 0, 1, 2]);
     while state.bag.len() < most {
         let mut relay = pick(r, &relays).expect("at least one");
         if r.one_in(4) {

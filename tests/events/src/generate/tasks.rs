@@ -14,6 +14,8 @@ pub enum Task {
     Send(Block),
     /// the newest relay of the block
     Deliver(Block),
+    /// the oldest relay of the block
+    DeliverOldest(Block),
     /// any relay
     DeliverAny,
     DropAny,
@@ -25,6 +27,8 @@ pub enum Task {
     Learn(usize),
     Reset(usize),
     Crash(usize),
+    /// the place of the block's primary
+    CrashPrimary(Block),
     Lose(usize),
     Rise(usize),
     Join(usize),
@@ -52,6 +56,10 @@ fn newest_relay(state: &State, block: Block) -> u64 {
     state.bag.iter().rposition(|relay| relay.block == block).unwrap_or(0) as u64
 }
 
+fn oldest_relay(state: &State, block: Block) -> u64 {
+    state.bag.iter().position(|relay| relay.block == block).unwrap_or(0) as u64
+}
+
 fn any_relay(r: &mut Random, state: &State) -> u64 {
     pick(r, &(0..state.bag.len() as u64).collect::<Vec<_>>()).unwrap_or(0)
 }
@@ -70,6 +78,7 @@ impl Task {
             Task::Map(block) => of_proxy(kind::MAP, block),
             Task::Send(block) => one(kind::SEND, block.0),
             Task::Deliver(block) => one(kind::DELIVER, newest_relay(state, block)),
+            Task::DeliverOldest(block) => one(kind::DELIVER, oldest_relay(state, block)),
             Task::DeliverAny => one(kind::DELIVER, any_relay(r, state)),
             Task::DropAny => one(kind::DROP, any_relay(r, state)),
             Task::SavePrimary(block) => one(kind::SAVEMAP, place_of(state, pair(block).primary)),
@@ -80,6 +89,7 @@ impl Task {
             Task::Learn(proxy) => one(kind::LEARN, proxy as u64),
             Task::Reset(proxy) => one(kind::RESET, proxy as u64),
             Task::Crash(place) => one(kind::CRASH, place as u64),
+            Task::CrashPrimary(block) => one(kind::CRASH, place_of(state, pair(block).primary)),
             Task::Lose(place) => one(kind::LOSE, place as u64),
             Task::Rise(place) => one(kind::RISE, place as u64),
             Task::Join(place) => one(kind::JOIN, place as u64),
@@ -101,7 +111,7 @@ impl Task {
             Task::Learn(proxy) => state.proxies[proxy].known == state.view,
             Task::Rise(place) => state.at(place).map_or(true, |b| b.up),
             Task::Join(place) => state.at(place).is_some(),
-            Task::Deliver(_) | Task::DeliverAny | Task::DropAny => state.bag.is_empty(),
+            Task::Deliver(_) | Task::DeliverOldest(_) | Task::DeliverAny | Task::DropAny => state.bag.is_empty(),
             Task::Fetch(bucket) | Task::Ready(bucket) => state.buckets[bucket].ready,
             _ => false,
         }
