@@ -7,7 +7,7 @@ use event_tests::generate::{settings, Generator, Temper};
 use event_tests::layout::length;
 use event_tests::lines::{self, trace, Trace, HEADER, LARGEST};
 use event_tests::model::Settings;
-use event_tests::shrink::line;
+use event_tests::shrink::{line, shrink};
 use std::io::{Read, Write};
 use std::path::PathBuf;
 use std::process::{Child, Command, Stdio};
@@ -41,13 +41,17 @@ fn run(input: &[u8]) -> String {
     feed(spawn(Command::new(program())), move |pipe| pipe.write_all(&input))
 }
 
-/// How many lines were answered.
+fn differs(input: &[u8]) -> bool {
+    run(input) != trace(input)
+}
+
+/// How many lines were answered. An input that fails is made short.
 fn check(input: &[u8]) -> usize {
-    let (printed, expected) = (run(input), trace(input));
-    if printed != expected {
-        let at = printed.lines().zip(expected.lines()).position(|(p, e)| p != e);
-        let input = String::from_utf8_lossy(input);
-        panic!("line {at:?} of the output: {:?}\n{input}", at.map(|i| (printed.lines().nth(i), expected.lines().nth(i))));
+    let printed = run(input);
+    if printed != trace(input) {
+        let lines: Vec<&[u8]> = input.split_inclusive(|&b| b == b'\n').collect();
+        let short = shrink(lines, |lines| differs(&lines.concat())).concat();
+        panic!("{}\nprogram {:?}\nmodel {:?}", short.escape_ascii(), run(&short), trace(&short));
     }
     printed.lines().count() - 1
 }
