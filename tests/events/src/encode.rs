@@ -2,12 +2,12 @@
 use crate::layout;
 use crate::model::{Block, Brick, Bucket, Chunk, Key, Proxy, Relay, Settings, State, Table, MOST_ITEMS, MOST_RELAYS, MOST_WAITING};
 
-struct Pen<'a> {
+struct Writer<'a> {
     store: &'a mut [u8],
     at: usize,
 }
 
-impl Pen<'_> {
+impl Writer<'_> {
     fn bytes(&mut self, bytes: &[u8]) {
         self.store[self.at..self.at + bytes.len()].copy_from_slice(bytes);
         self.at += bytes.len();
@@ -79,19 +79,19 @@ impl Pen<'_> {
 /// Writes all that is in use over a store of the state's settings.
 pub fn encode(state: &State, store: &mut [u8]) {
     let s = state.settings;
-    let mut pen = Pen { store, at: 0 };
-    pen.words(&[s.places, s.size, s.entries, s.chunks, state.view.0, state.given, state.started]);
-    state.buckets.iter().for_each(|b| pen.bucket(b));
-    state.proxies.iter().for_each(|p| pen.proxy(p));
-    pen.bag(&state.bag);
+    let mut writer = Writer { store, at: 0 };
+    writer.words(&[s.places, s.size, s.entries, s.chunks, state.view.0, state.given, state.started]);
+    state.buckets.iter().for_each(|b| writer.bucket(b));
+    state.proxies.iter().for_each(|p| writer.proxy(p));
+    writer.bag(&state.bag);
     for place in 0..state.places.len() {
         match state.at(place) {
-            Some(brick) => pen.brick(brick, s),
+            Some(brick) => writer.brick(brick, s),
             None => {
-                pen.word(0);
-                pen.pass(layout::place(s) - 1);
+                writer.word(0);
+                writer.pass(layout::place(s) - 1);
             }
         }
     }
-    assert_eq!(pen.at, pen.store.len());
+    assert_eq!(writer.at, writer.store.len());
 }

@@ -15,7 +15,7 @@ use std::collections::VecDeque;
 
 /// How a list behaves.
 #[derive(Clone, Debug)]
-pub struct Temper {
+pub struct Profile {
     /// of a hundred events so many of any kind and field
     pub wild: u64,
     /// of a hundred tasks of a plan so many left out
@@ -26,7 +26,7 @@ pub struct Temper {
     pub probes: u64,
 }
 
-impl Temper {
+impl Profile {
     pub fn random(r: &mut Random) -> Self {
         let (wild, skipped) = match r.below(6) {
             0 => (0, 0),
@@ -35,32 +35,32 @@ impl Temper {
             4 => (40, 20),
             _ => (95, 30),
         };
-        Temper { wild, skipped, careful: r.one_in(2), probes: 30 }
+        Profile { wild, skipped, careful: r.one_in(2), probes: 30 }
     }
 }
 
 pub struct Generator {
     pub blocks: Vec<Block>,
-    temper: Temper,
+    profile: Profile,
     /// plans under way, each with what it still has to do
     plans: Vec<VecDeque<Task>>,
 }
 
 impl Generator {
-    pub fn new(r: &mut Random, temper: Temper) -> Self {
-        Generator { blocks: fields::some_blocks(r), temper, plans: Vec::new() }
+    pub fn new(r: &mut Random, profile: Profile) -> Self {
+        Generator { blocks: fields::some_blocks(r), profile, plans: Vec::new() }
     }
 
     pub fn act(&mut self, r: &mut Random, state: &State) -> Act {
-        if r.below(1000) < self.temper.probes {
+        if r.below(1000) < self.profile.probes {
             return Act::Probe(Damage::random(r, state), self.wild(r, state));
         }
         Act::Step(self.call(r, state))
     }
 
     pub fn call(&mut self, r: &mut Random, state: &State) -> Call {
-        let call = if r.below(100) < self.temper.wild { self.wild(r, state) } else { self.planned(r, state) };
-        if self.temper.careful && matches!(call.kind, kind::CRASH | kind::LOSE) && !state.is_whole() {
+        let call = if r.below(100) < self.profile.wild { self.wild(r, state) } else { self.planned(r, state) };
+        if self.profile.careful && matches!(call.kind, kind::CRASH | kind::LOSE) && !state.is_whole() {
             self.plans.clear();
             self.plans.push(plans::repair(r, state).into());
             return self.planned(r, state);
@@ -72,13 +72,13 @@ impl Generator {
     fn planned(&mut self, r: &mut Random, state: &State) -> Call {
         loop {
             self.plans.retain(|p| !p.is_empty());
-            let at_once = if self.temper.wild == 0 { 1 } else { 3 };
+            let at_once = if self.profile.wild == 0 { 1 } else { 3 };
             if self.plans.is_empty() || self.plans.len() < at_once && r.one_in(8) {
                 self.plans.push(plans::random(r, state, &self.blocks).into());
             }
             let plan = r.below(self.plans.len() as u64) as usize;
             let Some(task) = self.plans[plan].pop_front() else { continue };
-            let skipped = r.below(100) < self.temper.skipped || task.is_idle(state) && !r.one_in(20);
+            let skipped = r.below(100) < self.profile.skipped || task.is_idle(state) && !r.one_in(20);
             if !skipped {
                 return task.call(r, state);
             }

@@ -14,14 +14,14 @@ pub struct History {
     blocks: HashMap<u64, Writes>,
     keys: HashSet<u64>,
     /// whether each accepted crash and loss found a whole store
-    whole_before_falls: bool,
+    whole_before_losses: bool,
     /// buckets with an accepted view and no accepted ready since
     unready: [bool; BUCKETS],
 }
 
 impl Default for History {
     fn default() -> Self {
-        History { blocks: HashMap::new(), keys: HashSet::new(), whole_before_falls: true, unready: [false; BUCKETS] }
+        History { blocks: HashMap::new(), keys: HashSet::new(), whole_before_losses: true, unready: [false; BUCKETS] }
     }
 }
 
@@ -33,7 +33,7 @@ impl History {
             (kind::DONE, 0) => self.confirm(call.b),
             (kind::GET, 0) => self.read(call.b, answer),
             (kind::CRASH | kind::LOSE, 0) => {
-                self.whole_before_falls &= whole;
+                self.whole_before_losses &= whole;
                 Ok(())
             }
             (kind::VIEW, 0) => {
@@ -44,15 +44,15 @@ impl History {
                 self.unready[call.a as usize] = false;
                 Ok(())
             }
-            (kind::GET, 11) if self.whole_before_falls => Err("a get for want of bytes".to_string()),
-            (kind::FETCH, 13) if self.whole_before_falls && self.unready[call.a as usize] => Err("a fetch for want of a source".to_string()),
+            (kind::GET, 11) if self.whole_before_losses => Err("a get for want of bytes".to_string()),
+            (kind::FETCH, 13) if self.whole_before_losses && self.unready[call.a as usize] => Err("a fetch for want of a source".to_string()),
             _ => Ok(()),
         }
     }
 
     /// Whether the list so far is one that the claim on want speaks of.
     pub fn is_careful(&self) -> bool {
-        self.whole_before_falls
+        self.whole_before_losses
     }
 
     fn put(&mut self, call: &Call, key: u64) -> Result<(), String> {

@@ -1,6 +1,6 @@
 //! Many random lists, each on the proved calls and on the model.
 use crate::counts::Counts;
-use crate::generate::{edited, settings, Generator, Temper};
+use crate::generate::{edited, settings, Generator, Profile};
 use crate::layout::length;
 use crate::model::kind;
 use crate::shrink::{replay, show, shrink};
@@ -44,10 +44,10 @@ fn explain(seed: u64, start: &Start, acts: Vec<Act>) -> String {
 /// One list of its own seed.
 fn list(seed: u64, most: u64, sum: &mut Sum) -> Result<(), String> {
     let r = &mut Random::new(seed);
-    let ((start, length), temper) = (start(r), Temper::random(r));
-    let mut generator = Generator::new(r, temper);
+    let ((start, length), profile) = (start(r), Profile::random(r));
+    let mut generator = Generator::new(r, profile);
     let mut trial = Trial::new(&start).map_err(|_| explain(seed, &start, Vec::new()))?;
-    let (mut acts, mut falls, watched) = (Vec::new(), 0, sum.lists % 4 == 0);
+    let (mut acts, mut crashes, watched) = (Vec::new(), 0, sum.lists % 4 == 0);
     for _ in 0..length.min(most) {
         let act = generator.act(r, &trial.state);
         acts.push(act.clone());
@@ -55,14 +55,14 @@ fn list(seed: u64, most: u64, sum: &mut Sum) -> Result<(), String> {
         let answer = trial.take(&act).map_err(|_| explain(seed, &start, std::mem::take(&mut acts)))?;
         if let Act::Step(call) = &act {
             sum.events += 1;
-            falls += (matches!(call.kind, kind::CRASH | kind::LOSE) && answer.code == 0) as u64;
+            crashes += (matches!(call.kind, kind::CRASH | kind::LOSE) && answer.code == 0) as u64;
             if let Some(before) = &before {
                 sum.met.add(&Moment { before, after: &trial.state, call }, answer.code);
             }
         }
     }
     sum.lists += 1;
-    sum.careful += (falls > 0 && trial.history.is_some_and(|h| h.is_careful())) as u64;
+    sum.careful += (crashes > 0 && trial.history.is_some_and(|h| h.is_careful())) as u64;
     sum.counts.add_all(&trial.counts);
     Ok(())
 }

@@ -55,10 +55,10 @@ impl Moment<'_> {
     fn obstacles(&self) -> usize {
         let s = self.before;
         let down = s.bricks.values().any(|b| !b.up);
-        let strangers = s.bricks.values().any(|b| b.up && !b.member);
+        let not_members = s.bricks.values().any(|b| b.up && !b.member);
         let unready = s.buckets.iter().any(|b| !b.ready);
         let items = s.proxies.iter().any(|p| !p.items.is_empty());
-        [down, strangers, unready, !s.nothing_pending(), items].iter().filter(|&&no| no).count()
+        [down, not_members, unready, !s.nothing_pending(), items].iter().filter(|&&no| no).count()
     }
 
     fn log_grew(&self) -> bool {

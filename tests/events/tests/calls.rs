@@ -14,7 +14,7 @@ fn random_lists() {
     let (seed, events) = (setting("DISK_SEED", 1), setting("DISK_EVENTS", ENOUGH));
     println!("seed {seed}, {events} events");
     let sum = lists(seed, events).unwrap_or_else(|why| panic!("{why}"));
-    println!("{} events in {} lists, {} of them with falls on whole stores alone", sum.events, sum.lists, sum.careful);
+    println!("{} events in {} lists, in {} of them all crashes and losses struck whole stores", sum.events, sum.lists, sum.careful);
     println!("{}", sum.counts.table());
     println!("{}", sum.met.table());
     assert!(sum.counts.impossible().is_empty(), "the rules have no such answer: {:?}", sum.counts.impossible());

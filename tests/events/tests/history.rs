@@ -82,7 +82,7 @@ fn other_bytes_and_other_blocks() {
     assert!(confirm(&mut written_twice(), 9).is_err());
 }
 
-/// What is refused for want, where every fall struck a whole store, and where one did not.
+/// What is refused for want, where every crash struck a whole store, and where one did not.
 #[test]
 fn want() {
     for (whole, forbidden) in [(true, true), (false, false)] {
@@ -100,7 +100,7 @@ fn want() {
 
 /// A crash that is refused strikes nothing.
 #[test]
-fn refused_falls() {
+fn refused_crashes() {
     let mut history = History::default();
     assert!(event(&mut history, kind::CRASH, 0, 13, false).is_ok());
     assert!(event(&mut history, kind::GET, 0, 11, false).is_err());

@@ -236,20 +236,20 @@ fn refusing_all() {
 }
 
 /// A brick crashes and rises, or is lost and a blank one joins; a new view, and every place is mended.
-fn fall_and_repair(place: usize, is_lost: bool) -> String {
-    let fall = if is_lost { format!("lose,{place} join,{place}") } else { format!("crash,{place} rise,{place}") };
-    format!("{fall} view learn,0 {} mend,0 mend,1 mend,2", all_ready())
+fn crash_and_repair(place: usize, is_lost: bool) -> String {
+    let gone = if is_lost { format!("lose,{place} join,{place}") } else { format!("crash,{place} rise,{place}") };
+    format!("{gone} view learn,0 {} mend,0 mend,1 mend,2", all_ready())
 }
 
-/// Whichever bricks fall, each from a whole store, the block is shown.
+/// Whichever bricks crash or are lost, each from a whole store, the block is shown.
 #[test]
-fn falls_from_whole_stores() {
-    for falls in 0..6 * 6 * 6 {
+fn crashes_and_losses_of_whole_stores() {
+    for three in 0..6 * 6 * 6 {
         let mut both = store(3);
         both.accepted(&written(A1, 0));
-        for fall in [falls % 6, falls / 6 % 6, falls / 36] {
+        for one in [three % 6, three / 6 % 6, three / 36] {
             assert!(both.0.state.is_whole());
-            both.accepted(&fall_and_repair(fall % 3, fall >= 3));
+            both.accepted(&crash_and_repair(one % 3, one >= 3));
             assert_eq!(both.line("get,0,5"), shown(KEY, A1));
         }
     }

@@ -3,7 +3,7 @@ use call_tests::random::Random;
 use call_tests::text::model::LONGEST;
 use call_tests::text::random::WAYS;
 use event_tests::choose::one_of;
-use event_tests::generate::{settings, Generator, Temper};
+use event_tests::generate::{settings, Generator, Profile};
 use event_tests::layout::length;
 use event_tests::lines::{self, trace, Trace, HEADER, LARGEST};
 use event_tests::model::Settings;
@@ -104,8 +104,8 @@ fn overlong(r: &mut Random, line: &[u8]) -> Vec<u8> {
 fn text(r: &mut Random, events: u64) -> Vec<u8> {
     let mut input = settings_line(small_settings(r));
     let mut trace = Trace::new(&input).unwrap();
-    let temper = Temper { probes: 0, ..Temper::random(r) };
-    let mut generator = Generator::new(r, temper);
+    let profile = Profile { probes: 0, ..Profile::random(r) };
+    let mut generator = Generator::new(r, profile);
     let noise = one_of(r, &[0, 2, 10]);
     for _ in 0..events {
         let mut next = line(&generator.call(r, &trace.state)).into_bytes();

@@ -40,7 +40,7 @@ fn member_place(r: &mut Random, state: &State) -> usize {
 }
 
 /// The same block again before its first relay is delivered: relays late and doubled.
-fn race(r: &mut Random, state: &State, block: Block) -> Vec<Task> {
+fn repeated_sends(r: &mut Random, state: &State, block: Block) -> Vec<Task> {
     let mut tasks = write(r, state, block);
     let at = tasks.len() - r.among(4, 6) as usize;
     let repeats = r.among(1, 6);
@@ -50,7 +50,7 @@ fn race(r: &mut Random, state: &State, block: Block) -> Vec<Task> {
 }
 
 /// Relays of an older write, in one half of the cases of an older view, that come after a newer write is done.
-/// Then the primary falls, and what the backup has is what is shown.
+/// Then the primary crashes, and what the backup has is what is shown.
 fn late_relays(r: &mut Random, state: &State, block: Block) -> Vec<Task> {
     let mut tasks = write(r, state, block);
     let at = tasks.len() - 5;
@@ -89,8 +89,8 @@ fn settle(state: &State) -> Vec<Task> {
     sends.chain(saves).chain(mends).chain(learn_all()).collect()
 }
 
-/// Items end, then the logs are swept.
-fn sweep(r: &mut Random, state: &State) -> Vec<Task> {
+/// Items end, then every log is collected.
+fn collect_all(r: &mut Random, state: &State) -> Vec<Task> {
     let mut tasks = settle(state);
     let items: Vec<Block> = state.proxies.iter().flat_map(|p| p.items.keys().copied()).collect();
     tasks.extend(items.iter().flat_map(|&b| [Task::Done(b), Task::Abandon(b)]));
@@ -120,7 +120,7 @@ fn rebuild(r: &mut Random, state: &State, all: bool) -> Vec<Task> {
 }
 
 /// More blocks of one proxy and bucket than it can have items for; after a view more than a buffer holds.
-fn flood(r: &mut Random, state: &State, proxy: u64) -> Vec<Task> {
+fn many_puts(r: &mut Random, state: &State, proxy: u64) -> Vec<Task> {
     let (bucket, abandoned) = (r.below(16), r.one_in(2));
     let mut tasks = if r.one_in(2) { vec![Task::View] } else { Vec::new() };
     tasks.extend(learn_all());
@@ -145,7 +145,7 @@ fn late_maps(r: &mut Random, state: &State, blocks: &[Block]) -> Vec<Task> {
     tasks
 }
 
-fn fall(r: &mut Random, state: &State) -> Vec<Task> {
+fn crash_or_lose(r: &mut Random, state: &State) -> Vec<Task> {
     let place = r.below(state.settings.places) as usize;
     vec![if r.one_in(3) { Task::Lose(place) } else { Task::Crash(place) }]
 }
@@ -162,7 +162,7 @@ pub fn repair(r: &mut Random, state: &State) -> Vec<Task> {
     } else if !state.nothing_pending() || r.one_in(2) {
         settle(state)
     } else {
-        sweep(r, state)
+        collect_all(r, state)
     }
 }
 
@@ -175,14 +175,14 @@ pub fn random(r: &mut Random, state: &State, blocks: &[Block]) -> Vec<Task> {
     match r.below(100) {
         0..=55 => write(r, state, one),
         56..=59 => late_relays(r, state, one),
-        60..=68 => race(r, state, one),
+        60..=68 => repeated_sends(r, state, one),
         69..=74 => read(blocks),
         75..=79 => settle(state),
-        80..=83 => sweep(r, state),
+        80..=83 => collect_all(r, state),
         84..=86 => repair(r, state),
-        87..=94 => fall(r, state),
+        87..=94 => crash_or_lose(r, state),
         95..=96 => late_maps(r, state, blocks),
         97 => fill_bag(r, one),
-        _ => flood(r, state, one.proxy() as u64),
+        _ => many_puts(r, state, one.proxy() as u64),
     }
 }
