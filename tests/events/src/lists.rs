@@ -47,7 +47,7 @@ fn list(seed: u64, most: u64, sum: &mut Sum) -> Result<(), String> {
     let ((start, length), profile) = (start(r), Profile::random(r));
     let mut generator = Generator::new(r, profile);
     let mut trial = Trial::new(&start).map_err(|_| explain(seed, &start, Vec::new()))?;
-    let (mut acts, mut crashes, watched) = (Vec::new(), 0, sum.lists % 4 == 0);
+    let (mut acts, mut crashes, watched) = (Vec::new(), 0, sum.lists.is_multiple_of(4));
     for _ in 0..length.min(most) {
         let act = generator.act(r, &trial.state);
         acts.push(act.clone());

@@ -230,9 +230,9 @@ fn code_0_with_nothing_stored() {
 #[test]
 fn refusing_all() {
     let mut both = store(3);
-    both.accepted(&format!("{} drop,0", format!("{} send,5", mapped(A1, 0))));
+    both.accepted(&format!("{} send,5 drop,0", mapped(A1, 0)));
     both.accepted("abandon,0,5 send,5 deliver,0 savemap,0 savemap,1 mend,0 mend,1 mend,2 collect,0 collect,1 collect,2 reset,0");
-    both.accepted(&format!("crash,0 rise,0 lose,1 join,1 learn,1 savemap,2 {}", "savelog,2"));
+    both.accepted("crash,0 rise,0 lose,1 join,1 learn,1 savemap,2 savelog,2");
 }
 
 /// A brick crashes and rises, or is lost and a blank one joins; a new view, and every place is mended.

@@ -109,7 +109,7 @@ impl Task {
             Task::Map(block) | Task::Done(block) | Task::Abandon(block) => !has_item(block),
             Task::Send(block) => state.mapped(block).is_none(),
             Task::Learn(proxy) => state.proxies[proxy].known == state.view,
-            Task::Rise(place) => state.at(place).map_or(true, |b| b.up),
+            Task::Rise(place) => state.at(place).is_none_or(|b| b.up),
             Task::Join(place) => state.at(place).is_some(),
             Task::Deliver(_) | Task::DeliverOldest(_) | Task::DeliverAny | Task::DropAny => state.bag.is_empty(),
             Task::Fetch(bucket) | Task::Ready(bucket) => state.buckets[bucket].ready,

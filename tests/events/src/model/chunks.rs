@@ -31,7 +31,7 @@ impl State {
         ask(6, home.is_some())?;
         let target = self.members_from(key.home()).find(|b| b.id != key.home());
         let adds = target.filter(|b| b.chunk(key).is_none());
-        ask(10, adds.map_or(true, |b| b.log.len() < self.chunks()))?;
+        ask(10, adds.is_none_or(|b| b.log.len() < self.chunks()))?;
         let chunk = home.unwrap().chunk(key);
         ask(11, chunk.is_some())?;
 

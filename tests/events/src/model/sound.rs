@@ -21,7 +21,7 @@ impl State {
 
     /// Of a brick that is present only what it has numbered already.
     fn is_sound_key(&self, key: Key) -> bool {
-        self.is_given(key.home()) && self.bricks.get(&key.home()).map_or(true, |b| key.sequence() < b.next)
+        self.is_given(key.home()) && self.bricks.get(&key.home()).is_none_or(|b| key.sequence() < b.next)
     }
 
     fn is_sound_bucket(&self, bucket: &Bucket) -> bool {
