@@ -7,11 +7,11 @@ use native.Mathlib.Nat.{pow-suc, div-lt-iff-lt-mul, zero-add}
 use native.Mathlib.Numerals.{add-one}
 use native.Mathlib.Omega.{arith}
 use borrow.Author.Tests.{lt-ltb, le-ltb, ne-eqb}
-use lib.Dec.{lit<}
-use lib.ListN.{length, take, drop, getD, set, length-append}
+use lib.Dec.{lit<, eqb}
+use lib.ListN.{length, take, drop, getD, set, length-append, length-set}
 use lib.Seq.{drop-cons, set-split, drop-at, length-take-le}
 use Rattle.area.specs.Area.{onto}
-use Rattle.lists.proofs.Tests.{by-lt}
+use Rattle.lists.proofs.Tests.{by, by-lt}
 use Rattle.decimal.specs.Decimal.{digits, decimal, push, and-then, spelled, number-of, answer}
 use Rattle.decimal.specs.declared.Number.the-variants.{Value, Malformed}
 
@@ -76,7 +76,7 @@ pub width-more : (n : ℕ) → 10 ≤ n → n < 2 ^ 64 → length (decimal n) �
 width-more n h b = ap length (decimal-more n h b) ∙ length-append (decimal (n / 10)) ((48 + n % 10) ∷ [])
 
 -- two more digits
-width-two : (n : ℕ) → 100 ≤ n → n < 2 ^ 64 → length (decimal n) ≡ length (decimal (n / 100)) + 2
+pub width-two : (n : ℕ) → 100 ≤ n → n < 2 ^ 64 → length (decimal n) ≡ length (decimal (n / 100)) + 2
 width-two n h b =
     let e : n / 10 / 10 ≡ n / 100 = omega arith in
     omega (arith, width-more n (omega arith) b, width-more (n / 10) (omega arith) (omega arith), ap (λ (k : ℕ). length (decimal k)) e)
@@ -102,10 +102,27 @@ write-turn x i area h b hi =
     ap (drop i) (set-split area i (48 + x % 10) hi) ∙ drop-at (take i area) _ i (length-take-le i area (omega arith)) in
     rw (e, decimal-more x h b, append-assoc, add-one)
 
+-- a turn that writes two digits
+pub write-two : (x i : ℕ) (area : List ℕ) → 100 ≤ x → x < 2 ^ 64 → 1 ≤ i → i < length area
+    → decimal (x / 100) ++ drop (i - 1) (set (set area i (48 + x % 10)) (i - 1) (48 + x / 10 % 10)) ≡ decimal x ++ drop (i + 1) area
+write-two x i area h b least hi =
+    let before = set area i (48 + x % 10) in
+    let e : x / 10 / 10 ≡ x / 100 = omega arith in
+    let j : i - 1 + 1 ≡ i = omega arith in
+    let n = length-set area i (48 + x % 10) in
+    let turn = write-turn (x / 10) (i - 1) before (omega arith) (omega arith) (omega arith) in
+    (rw (e, j) at turn) ∙ write-turn x i area (omega arith) b hi
+
 pub write-last : (x : ℕ) (area : List ℕ) → x < 10 → 0 < length area → set area 0 (48 + x % 10) ≡ decimal x ++ drop 1 area
 write-last x area h p =
     let e : 48 + x % 10 ≡ 48 + x = omega arith in
     rw (decimal-small x h, e) (set-split area 0 (48 + x) p)
+
+pub write-last-two : (x : ℕ) (area : List ℕ) → 10 ≤ x → x < 100 → 1 < length area
+    → set (set area 1 (48 + x % 10)) 0 (48 + x / 10 % 10) ≡ decimal x ++ drop 2 area
+write-last-two x area h g p =
+    let n = length-set area 1 (48 + x % 10) in
+    write-last (x / 10) (set area 1 (48 + x % 10)) (omega arith) (omega arith) ∙ write-turn x 1 area h (omega arith) p
 
 pub write-done : (t l m : List ℕ) → m ≡ t ++ drop (length t) l → m ≡ onto 0 t l
 unfolding onto
@@ -192,3 +209,10 @@ unfolding number-of
 no-leading-zero [] h e = absurd (omega arith)
 no-leading-zero (b ∷ []) h e = refl
 no-leading-zero (b ∷ c ∷ s) h e = rw (ne-eqb b 48 e)
+
+-- what spells no number is none
+pub spells-none : (s : List ℕ) → spelled 0 s ≡ none → number-of s ≡ none
+unfolding number-of
+spells-none [] e = refl
+spells-none (b ∷ []) e = e
+spells-none (b ∷ c ∷ s) e = by (eqb b 48) (λ q. rw q) (λ q. rw q e)

@@ -1,5 +1,6 @@
 // Numbers of 64 bits in decimal text, read and written.
 ghost use mathlib.Core.Path.{_≡_};
+ghost use mathlib.Core.Option.{some};
 ghost use Prim.Native.Nat.{_+_, _%_, _≤_, _<_};
 ghost use lib.ListN.{length};
 ghost use Rattle.area.specs.Area.{onto};
@@ -11,8 +12,8 @@ pub enum Number {
     Malformed,
 }
 
-// A number with one more digit.
-fn push_digit(number: u64, b: u8) -> Number
+// A number with one more digit. Below a tenth of 2^64 every digit fits, so that a division is rare.
+pub fn push_digit(number: u64, b: u8) -> Number
     ensures { λ r. ⌜ r ≡ answer (push number b) ⌝ }
 {
     if b < 48 {
@@ -22,43 +23,30 @@ fn push_digit(number: u64, b: u8) -> Number
         return Number::Malformed;
     }
     let d = (b - 48) as u64;
+    if number < 0x1999_9999_9999_9999 {
+        return Number::Value(10 * number + d);
+    }
     if (0xffff_ffff_ffff_ffff - d) / 10 < number {
         return Number::Malformed;
     }
     Number::Value(10 * number + d)
 }
 
-// The number that digits spell, leading zeros and no digits taken too.
-fn spell(digits: &[u8]) -> Number
-    ensures { λ r. ⌜ r ≡ answer (spelled 0 (now (digits .entry))) ⌝ }
-{
-    let mut number: u64 = 0;
-    let mut i = 0;
-    while i < digits.len() {
-        let next = push_digit(number, digits[i]);
-        let Number::Value(w) = next else {
-            return Number::Malformed;
-        };
-        number = w;
-        i += 1;
-    }
-    Number::Value(number)
-}
-
-// The number that a whole text is, written as `write` writes it.
-pub fn read(digits: &[u8]) -> Number
+// The number that a whole text is, written as `write` writes it, where its digits spell this number.
+pub fn whole(digits: &[u8], number: u64) -> Number
+    requires { ⌜ spelled 0 (now digits) ≡ some number ⌝ }
     ensures { λ r. ⌜ r ≡ answer (number-of (now (digits .entry))) ⌝ }
 {
     if digits.len() == 0 {
         return Number::Malformed;
     }
     if digits.len() == 1 {
-        return spell(digits);
+        return Number::Value(number);
     }
     if digits[0] == 48 {
         return Number::Malformed;
     }
-    spell(digits)
+    Number::Value(number)
 }
 
 // How many digits a number has.
@@ -98,7 +86,7 @@ fn last_digit(x: u64) -> u8
     48 + (x % 10) as u8
 }
 
-// The digits at the front of an area; how many they are.
+// The digits at the front of an area, two in each turn; how many they are.
 fn write_front(number: u64, area: &mut [u8]) -> usize
     requires { ⌜ length (decimal number) ≤ length (now area) ⌝ }
     ensures { λ r. ⌜ (r ≡ length (decimal number)) × (now (area .exit) ≡ onto 0 (decimal number) (now (area .entry))) ⌝ }
@@ -106,10 +94,16 @@ fn write_front(number: u64, area: &mut [u8]) -> usize
     let n = width(number);
     let mut x = number;
     let mut i = n - 1;
-    while 10 <= x {
+    while 100 <= x {
         area[i] = last_digit(x);
-        x = x / 10;
-        i -= 1;
+        area[i - 1] = last_digit(x / 10);
+        x = x / 100;
+        i -= 2;
+    }
+    if 10 <= x {
+        area[1] = last_digit(x);
+        area[0] = last_digit(x / 10);
+        return n;
     }
     area[0] = last_digit(x);
     n
