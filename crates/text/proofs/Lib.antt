@@ -1,4 +1,5 @@
 pub mod Laws
+pub mod Packed
 pub mod Fields
 pub mod Lines
 pub mod RoundTrip

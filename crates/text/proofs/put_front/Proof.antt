@@ -4,40 +4,48 @@ use mathlib.Core.List.{List, [], _∷_}
 use Prim.Native.Nat.{ℕ, _-_, _≤_}
 use native.Mathlib.Numerals.{add-one}
 use native.Mathlib.Omega.{arith}
+use borrow.Author.Needs.{needs}
 use lib.ListN.{length, getD, take}
+use lib.Seq.{take-suc, take-all, length-take-le}
 use Rattle.area.specs.Area.{onto}
 use Rattle.area.proofs.Laws.{onto-then, onto-nothing}
-use lib.Seq.{take-suc, length-take-le}
-use borrow.Author.Needs.{needs}
 use Rattle.text.proofs.put_front.Statement.{statement}
 use Rattle.text.proofs.put_front.Tie as tie
+use Rattle.text.proofs.put_front.Reads as reads
+use Rattle.text.proofs.put_front.Lts as lts
+use Rattle.area.proofs.put.Reads as put-reads
 
 abbrev Inv-loop : tie.InvT-loop
-Inv-loop word n area₀ i₀ area i = (i ≤ n) × (length area ≡ length area₀) × (area ≡ onto 0 (take i word) area₀)
+Inv-loop word area₀ i₀ area i = (i ≤ length word) × (length area ≡ length area₀) × (area ≡ onto 0 (take i word) area₀)
 
 abbrev μ-loop : tie.MeasureT-loop
-μ-loop word n area₀ i₀ area i = n - i
+μ-loop word area₀ i₀ area i = length word - i
 
+-- src/lib.rt:102:5
 loop-holds : tie.Need-loop-holds Inv-loop μ-loop
-loop-holds c = (search needs, refl, sym (onto-nothing 0 (c .before .args .area .now)))
+loop-holds c = (search needs, refl, sym (onto-nothing 0 (c .before .before .args .area .now)))
 
-element-copy-out-put : tie.Need-element-copy-out-put Inv-loop μ-loop
-element-copy-out-put c = search needs
+-- src/lib.rt:103:28
+shared-slice-read-put : tie.Need-shared-slice-read-put Inv-loop μ-loop
+shared-slice-read-put c = search needs
 
+-- src/lib.rt:103:9
 put-requires : tie.Need-put-requires Inv-loop μ-loop
 put-requires c κs = search needs
 
+-- src/lib.rt:104:9
 add-i : tie.Need-add-i Inv-loop μ-loop
 add-i c = search needs
 
+-- src/lib.rt:102:5
 loop-less : tie.Need-loop-less Inv-loop μ-loop
 loop-less c = search needs
 
+-- src/lib.rt:102:5
 loop-again : tie.Need-loop-again Inv-loop μ-loop
 loop-again c =
-    let a = c .before .before .before .before .before .before .before .before .args in
+    let a = c .before .before .before .before .before .before .before .before .before .args in
     let w = a .word .now in
-    let seven = c .before .before .before .before .before .before .before .before .pre .1 in
     let l = c .before .before .before .before .before .before .loop in
     let p = c .before .before .put in
     let lt : length (take (l .i) w) ≡ l .i = length-take-le (l .i) w (omega arith) in (
@@ -47,15 +55,17 @@ loop-again c =
           ∙ ap (λ (t : List ℕ). onto 0 t (a .area .now)) (sym (take-suc w (l .i) 0 (omega arith)) ∙ ap (λ (k : ℕ). take k w) (sym (add-one (l .i)))),
     )
 
+-- src/lib.rt:97:1
 same-length : tie.Need-same-length Inv-loop μ-loop
 same-length c = c .before .loop .inv .1
 
+-- src/lib.rt:97:1
 returns : tie.Need-returns Inv-loop μ-loop
 returns c =
-    let a = c .before .before .before .args in
+    let a = c .before .before .before .before .args in
     let l = c .before .loop in
-    let e : l .i ≡ a .n = omega arith in
-    l .inv .2 ∙ ap (λ (k : ℕ). onto 0 (take k (a .word .now)) (a .area .now)) e
+    let e : l .i ≡ length (a .word .now) = omega arith in
+    (e, l .inv .2 ∙ ap (λ (t : List ℕ). onto 0 t (a .area .now)) (take-all (l .i) (a .word .now) (omega arith)))
 
 pub put-front-spec : {M : Type 1} → statement M
 put-front-spec =
@@ -64,7 +74,7 @@ put-front-spec =
     Inv-loop
     μ-loop
     loop-holds
-    element-copy-out-put
+    shared-slice-read-put
     put-requires
     add-i
     loop-less
