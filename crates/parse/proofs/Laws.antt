@@ -3,30 +3,34 @@ use mathlib.Core.Path.{_≡_, refl, sym, ap, _∙_}
 use mathlib.Core.Bool.{Bool, true, false}
 use mathlib.Core.List.{List, [], _∷_, _++_, append-nil}
 use mathlib.Core.Option.{Option, some, none}
-use Prim.Native.Nat.{ℕ, zero, suc, _+_, _-_, _*_, _≤_, _<_}
+use Prim.Native.Nat.{ℕ, zero, suc, _+_, _-_, _*_, _^_, _≤_, _<_}
 use native.Mathlib.Numerals.{add-one}
 use native.Mathlib.Omega.{arith}
 use borrow.Author.Tests.{le-leb, lt-leb, eq-eqb, ne-eqb}
 use lib.Dec.{eqb}
-use lib.ListN.{length, take, drop, getD, length-drop, drop-of-length-le}
-use lib.Seq.{drop-cons, take-suc, drop-drop, take-all}
+use lib.ListN.{length, take, drop, getD, length-append, length-drop, drop-of-length-le, List·getD-append}
+use lib.Seq.{drop-cons, take-suc, drop-drop, take-all, length-take-le, getD-take, getD-drop}
 use Rattle.area.specs.Area.{onto}
 use Rattle.lists.proofs.Tests.{by, by-lt}
 use Rattle.area.proofs.Laws.{onto-nothing}
 use Rattle.area.proofs.Each.{Above, each-none, each-more}
-use Rattle.decimal.specs.Decimal.{number-of, and-then, answer}
+use Rattle.decimal.specs.Decimal.{push, spelled, number-of, and-then, answer}
+use Rattle.decimal.proofs.Laws.{spelled-append, spells-none}
 use Rattle.hex.specs.Hex.{only-digits, unhex, spells-bytes, bytes-of}
 use Rattle.hex.proofs.Laws.{digit-cases, digits-head}
 use Rattle.rules.specs.Event.{kind-at, Parts}
-use Rattle.text.specs.Words.{kind-of-word}
+use Rattle.text.specs.Words.{kind-of-word, packed-upto, packed, kind-of-packed}
 use Rattle.text.specs.Table.{kind-number}
 use Rattle.text.specs.Fields.{comma, parted, before, fields}
 use Rattle.text.specs.Lines.{Taken, taken, take-numbers, take-bytes, parts-of-kind, parts-of-fields, is-line, without-feed, read-parts}
 use Rattle.text.specs.Lines.{settings-at, settings-of-fields, read-settings}
 use Rattle.text.proofs.Laws.{kind-some, number-some}
-use Rattle.text.proofs.Fields.{before-before, before-nothing, at-comma, at-other, first, fields-there, fields-back}
+use Rattle.text.proofs.Packed.{Bytes, packed-turn, packed-more, packed-agree, kind-by-number, too-long}
+use Rattle.text.proofs.Fields.{front-nothing, before-before, before-nothing, at-comma, at-other, first, fields-there, fields-back}
 use Rattle.parse.specs.Answers.{has-data, with-room, parsed, answer-to, bytes-read, settings-answer}
-use Rattle.parse.specs.Steps.{fields-from, first-number, rest, FieldIs, Three, Found}
+use Rattle.parse.specs.Steps.{fields-from, first-number, rest, first-kind, WordIs, Closed, FieldIs, Three, Found}
+use Rattle.parse.specs.declared.Word.{Word}
+use Rattle.parse.specs.declared.Word.the-variants.{Packed, Long}
 use Rattle.parse.specs.declared.Field.{Field}
 use Rattle.parse.specs.declared.Field.the-variants.{Value, Malformed}
 use Rattle.parse.specs.declared.Parsed.the-variants.{Is, Refused}
@@ -87,12 +91,114 @@ module _ (s : List ℕ) (i : ℕ) (inv : fields s ≡ before (take i s) (fields 
       let d : drop i s ≡ [] = drop-of-length-le s {i = i} (omega arith) in
       inv ∙ rw (d, before-nothing (take i s) [], from-past s (i + 1) (omega arith))
 
--- the field that starts at a place, as a part finds it
-pub next-field : (s part : List ℕ) (at e : ℕ) → at ≤ length s → part ≡ drop at s → fields part ≡ take e part ∷ fields-from part (e + 1)
-    → fields-from s at ≡ take e (drop at s) ∷ fields-from s (at + e + 1)
-next-field s part at e h p f =
-    let n : at + (e + 1) ≡ at + e + 1 = omega arith in
-    from-within s at h ∙ (rw p at f) ∙ ap (λ (l : List (List ℕ)). take e (drop at s) ∷ l) (from-from s at (e + 1) h ∙ ap (fields-from s) n)
+-- a field that goes on after its first i bytes
+goes-on : (s : List ℕ) (i : ℕ) → fields s ≡ before (take i s) (fields (drop i s)) → i < length s → (getD s i 0 ≡ comma → ⊥)
+    → (f : List ℕ) × (fs : List (List ℕ)) × (fields s ≡ (take i s ++ (getD s i 0 ∷ f)) ∷ fs)
+unfolding before
+goes-on s i inv h e =
+    let f = first (drop (suc i) s) in
+    (f .0, f .1, inv ∙ rw (drop-cons s i 0 h, at-other (getD s i 0) (drop (suc i) s) e, f .2))
+
+-- ---- the word
+
+module _ (s : List ℕ) (i : ℕ) (h : i ≤ length s) where
+  front-length : length (take i s) ≡ i
+  front-length = length-take-le i s h
+
+  front-packed : packed (take i s) ≡ packed-upto s i
+  unfolding packed
+  front-packed = rw front-length (packed-agree (take i s) s i (λ j q. getD-take i s j 0 q))
+
+  front-bytes : Bytes s (length s) → Bytes (take i s) (length (take i s))
+  front-bytes b j q = let n = front-length in let e = getD-take i s j 0 (omega arith) in let g = b j (omega arith) in omega arith
+
+  pub word-read : (p : ℕ) → Bytes s (length s) → p ≡ packed-upto s i → fields s ≡ take i s ∷ fields-from s (i + 1)
+      → (first-kind (fields s) ≡ kind-of-packed p) × (rest (fields s) ≡ fields-from s (i + 1)) × (i ≤ length s)
+  unfolding first-kind rest
+  word-read p b e f =
+      (rw (f, e) (kind-by-number (take i s) (front-bytes b) ∙ ap kind-of-packed front-packed), rw f, h)
+
+-- no kind has a word of more than 7 bytes
+pub word-long : (s : List ℕ) (i : ℕ) → fields s ≡ before (take i s) (fields (drop i s)) → i < length s → (getD s i 0 ≡ comma → ⊥)
+    → 2 ^ 56 ≤ packed-upto s i → first-kind (fields s) ≡ none
+unfolding first-kind packed
+word-long s i inv h e big =
+    let g = goes-on s i inv h e in
+    let w = take i s ++ (getD s i 0 ∷ g .0) in
+    let n = front-length s i (omega arith) in
+    let l = length-append (take i s) (getD s i 0 ∷ g .0) in
+    let same : packed-upto w i ≡ packed-upto s i =
+    packed-agree w s i (λ j q. List·getD-append (take i s) (getD s i 0 ∷ g .0) 0 j (omega arith) ∙ getD-take i s j 0 q) in
+    let more = packed-more w (i + 1) (length w) (omega arith) in
+    rw (g .2) (too-long w (omega (arith, same, more, packed-turn w i, big)))
+
+-- ---- a number, byte by byte
+
+pub record Spelling (t : List ℕ) (j v : ℕ) : Type 0 where
+  pub field : fields t ≡ before (take j t) (fields (drop j t))
+  pub value : spelled 0 (take j t) ≡ some v
+
+spelling-start : (t : List ℕ) → Spelling t 0 0
+unfolding spelled
+spelling-start t = record { field = sym (front-nothing t); value = refl }
+
+-- at the place where it starts
+pub spelling-from : (t : List ℕ) (at : ℕ) → Spelling t (at - at) 0
+spelling-from t at = let n : at - at ≡ 0 = omega arith in rw n (spelling-start t)
+
+module _ (t : List ℕ) (j v : ℕ) (inv : Spelling t j v) (h : j < length t) (e : getD t j 0 ≡ comma → ⊥) where
+  pub spelling-turn : (w : ℕ) → push v (getD t j 0) ≡ some w → Spelling t (j + 1) w
+  unfolding spelled and-then
+  spelling-turn w p =
+      record {
+        field = end-turn t j (inv .field) h e;
+        value = rw (add-one, take-suc t j 0 h, spelled-append 0 (take j t) (getD t j 0 ∷ []), inv .value, p);
+      }
+
+  pub spelling-stop : push v (getD t j 0) ≡ none → first-number (fields t) ≡ none
+  unfolding first-number spelled and-then
+  spelling-stop p =
+      let g = goes-on t j (inv .field) h e in
+      rw (g .2)
+      (spells-none (take j t ++ (getD t j 0 ∷ g .0)) (rw (spelled-append 0 (take j t) (getD t j 0 ∷ g .0), inv .value, p)))
+
+-- the same of the bytes from a place on
+module _ (s : List ℕ) (at i v : ℕ) (from : at ≤ i) (to : i ≤ length s) where
+  within : length (drop at s) ≡ length s - at
+  within = length-drop at s
+
+  pub there : getD (drop at s) (i - at) 0 ≡ getD s i 0
+  there = let n : at + (i - at) ≡ i = omega arith in getD-drop at s (i - at) 0 ∙ ap (λ (k : ℕ). getD s k 0) n
+
+  shifted : fields (drop at s) ≡ take (i - at) (drop at s) ∷ fields-from (drop at s) (i - at + 1)
+      → fields-from s at ≡ take (i - at) (drop at s) ∷ fields-from s (i + 1)
+  shifted f =
+      let n : at + (i - at + 1) ≡ i + 1 = omega arith in
+      from-within s at (omega arith) ∙ f ∙ ap (λ (l : List (List ℕ)). take (i - at) (drop at s) ∷ l) (from-from s at (i - at + 1) (omega arith) ∙ ap (fields-from s) n)
+
+  module _ (inv : Spelling (drop at s) (i - at) v) where
+    pub closed-comma : i < length s → getD s i 0 ≡ comma → Closed s at i v
+    closed-comma h e =
+        let n = within in
+        record { from = from; to = to; field = shifted (end-comma (drop at s) (i - at) (inv .field) (omega arith) (there ∙ e)); value = inv .value }
+
+    pub closed-end : i ≡ length s → Closed s at i v
+    closed-end e =
+        let n = within in
+        record { from = from; to = to; field = shifted (end-text (drop at s) (i - at) (inv .field) (omega arith)); value = inv .value }
+
+    module _ (h : i < length s) (e : getD s i 0 ≡ comma → ⊥) where
+      inside : i - at < length (drop at s)
+      inside = let n = within in omega arith
+
+      pub number-turn : (w : ℕ) → push v (getD s i 0) ≡ some w → Spelling (drop at s) (i + 1 - at) w
+      number-turn w p =
+          let n : i - at + 1 ≡ i + 1 - at = omega arith in
+          rw n at (spelling-turn (drop at s) (i - at) v inv inside (λ q. e (sym there ∙ q)) w (ap (push v) there ∙ p))
+
+      pub number-stop : push v (getD s i 0) ≡ none → first-number (fields-from s at) ≡ none
+      number-stop p =
+          ap first-number (from-within s at (omega arith)) ∙ spelling-stop (drop at s) (i - at) v inv inside (λ q. e (sym there ∙ q)) (ap (push v) there ∙ p)
 
 -- ---- numbers
 
@@ -225,10 +331,20 @@ unfolding kind-number and-then
 no-kind none g h n = refl
 no-kind (some k) g h n = absurd (omega (arith, h k refl))
 
-pub unknown : (S : ℕ) (s w : List ℕ) (fs : List (List ℕ)) → fields s ≡ w ∷ fs → (r : ℕ) → r ≡ kind-number (kind-of-word w) → r ≡ 0
-    → parts-of-fields S (fields s) ≡ none
-unfolding parts-of-fields
-unknown S s w fs f r e z = rw f (no-kind (kind-of-word w) (λ k. parts-of-kind S k fs) (λ k h. kind-some w k h .least) (sym e ∙ z))
+pub unknown : (S : ℕ) (fs : List (List ℕ)) → kind-number (first-kind fs) ≡ 0 → parts-of-fields S fs ≡ none
+unfolding parts-of-fields first-kind
+unknown S [] e = refl
+unknown S (w ∷ fs) e = no-kind (kind-of-word w) (λ k. parts-of-kind S k fs) (λ k h. kind-some w k h .least) e
+
+known : (S k : ℕ) (fs gs : List (List ℕ)) → first-kind fs ≡ some k → rest fs ≡ gs → parts-of-fields S fs ≡ parts-of-kind S k gs
+unfolding parts-of-fields first-kind rest and-then
+known S k [] gs e r = let z : _≡_ {A = ℕ} 0 1 = cc in absurd (omega arith)
+known S k (w ∷ fs) gs e r = rw (e, r)
+
+-- a word that is too long
+pub unnamed : (S : ℕ) (fs : List (List ℕ)) → first-kind fs ≡ none → parts-of-fields S fs ≡ none
+unfolding kind-number
+unnamed S fs e = unknown S fs (ap kind-number e)
 
 module _ (S k : ℕ) (fs : List (List ℕ)) where
   kind-wrong : take-numbers (kind-at k .numbers) fs ≡ none → parts-of-kind S k fs ≡ none
@@ -258,18 +374,17 @@ field-too-many : (S : ℕ) (s : List ℕ) → take-bytes false S (fields s) ≡ 
 unfolding take-bytes
 field-too-many S s = rw (first s .2)
 
--- what the code has found: the word's field and those after it, the kind, and its row of the table
-pub record Row (s w : List ℕ) (fs : List (List ℕ)) (k n : ℕ) (p : Bool) : Type 0 where
-  pub split : fields s ≡ w ∷ fs
-  pub kind : k ≡ kind-number (kind-of-word w)
+-- what the code has found: the fields after the word, the kind, and its row of the table
+pub record Row (s : List ℕ) (fs : List (List ℕ)) (k n : ℕ) (p : Bool) : Type 0 where
+  pub others : rest (fields s) ≡ fs
+  pub kind : k ≡ kind-number (first-kind (fields s))
   pub least : 1 ≤ k
   pub numbers : n ≡ kind-at k .numbers
   pub payload : p ≡ kind-at k .payload
 
-module _ (S : ℕ) (s w : List ℕ) (fs : List (List ℕ)) (k n : ℕ) (p : Bool) (row : Row s w fs k n p) where
+module _ (S : ℕ) (s : List ℕ) (fs : List (List ℕ)) (k n : ℕ) (p : Bool) (row : Row s fs k n p) where
   of-kind : parts-of-fields S (fields s) ≡ parts-of-kind S k fs
-  unfolding parts-of-fields and-then
-  of-kind = rw (row .split, number-some (kind-of-word w) k (row .least) (sym (row .kind)))
+  of-kind = known S k (fields s) fs (number-some (first-kind (fields s)) k (row .least) (sym (row .kind))) (row .others)
 
   pub body-wrong : take-numbers n fs ≡ none → parts-of-fields S (fields s) ≡ none
   body-wrong e = of-kind ∙ kind-wrong S k fs (rw (row .numbers) at e)
@@ -402,6 +517,17 @@ module _ (s : List ℕ) where
 
 pub part-all : (s : List ℕ) (at : ℕ) → take (length s - at) (drop at s) ≡ drop at s
 part-all s at = let n = length-drop at s in take-all (length s - at) (drop at s) (omega arith)
+
+pub record Named (s : List ℕ) (p end : ℕ) : Type 0 where
+  pub kind : first-kind (fields s) ≡ kind-of-packed p
+  pub others : rest (fields s) ≡ fields-from s (end + 1)
+  pub within : end ≤ length s
+
+pub word-of : (s : List ℕ) (p end : ℕ) (r : Word) → WordIs s r → r ≡ Packed p end → Named s p end
+word-of s p end r h e = let g : WordIs s (Packed p end) = rw e at h in record { kind = g .0; others = g .1; within = g .2 }
+
+pub no-word : (s : List ℕ) (r : Word) → WordIs s r → r ≡ Long → first-kind (fields s) ≡ none
+no-word s r h e = rw e at h
 
 pub next-of : (s : List ℕ) (at v p : ℕ) (r : Field) → FieldIs s at r → r ≡ Value v p → Next (fields-from s at) v (fields-from s p)
 next-of s at v p r h e = let g : FieldIs s at (Value v p) = rw e at h in record { number = g .0; others = g .1 }

@@ -3,16 +3,19 @@ use mathlib.Core.Bool.{Bool, true, false, cond}
 use mathlib.Core.List.{List, [], _∷_}
 use mathlib.Core.Option.{Option, some, none}
 use mathlib.Core.Path.{_≡_}
-use Prim.Native.Nat.{ℕ, _≤_}
+use Prim.Native.Nat.{ℕ, _+_, _-_, _≤_}
 use lib.Dec.{leb}
 use lib.ListN.{length, getD, take, drop}
-use Rattle.decimal.specs.Decimal.{number-of}
+use Rattle.decimal.specs.Decimal.{spelled, number-of}
 use Rattle.hex.specs.Hex.{unhex, spells-bytes}
+use Rattle.text.specs.Words.{kind-of-word, kind-of-packed}
 use Rattle.text.specs.Fields.{fields}
 use Rattle.rules.specs.Event.{Parts}
 use Rattle.text.specs.Lines.{taken, take-numbers, parts-of-fields}
 use Rattle.parse.specs.Answers.{has-data, answer-to, bytes-read}
 use Rattle.parse.specs.declared.Parsed.the-variants.{Is}
+use Rattle.parse.specs.declared.Word.{Word}
+use Rattle.parse.specs.declared.Word.the-variants.{Packed, Long}
 use Rattle.parse.specs.declared.Field.{Field}
 use Rattle.parse.specs.declared.Field.the-variants.{Value, Malformed}
 use Rattle.parse.specs.declared.Numbers.{Numbers}
@@ -31,6 +34,21 @@ first-number (f ∷ fs) = number-of f
 unfoldable pub rest : List (List ℕ) → List (List ℕ)
 rest [] = []
 rest (f ∷ fs) = fs
+
+unfoldable pub first-kind : List (List ℕ) → Option ℕ
+first-kind [] = none
+first-kind (f ∷ fs) = kind-of-word f
+
+abbrev pub WordIs : List ℕ → Word → Type 0
+WordIs s (Packed p end) = (first-kind (fields s) ≡ kind-of-packed p) × (rest (fields s) ≡ fields-from s (end + 1)) × (end ≤ length s)
+WordIs s Long = first-kind (fields s) ≡ none
+
+-- the field from a place ends at another, and its bytes spell a number
+pub record Closed (s : List ℕ) (at end v : ℕ) : Type 0 where
+  pub from : at ≤ end
+  pub to : end ≤ length s
+  pub field : fields-from s at ≡ take (end - at) (drop at s) ∷ fields-from s (end + 1)
+  pub value : spelled 0 (take (end - at) (drop at s)) ≡ some v
 
 abbrev pub FieldIs : List ℕ → ℕ → Field → Type 0
 FieldIs s at (Value v next) = (first-number (fields-from s at) ≡ some v) × (rest (fields-from s at) ≡ fields-from s next)

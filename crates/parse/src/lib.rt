@@ -1,13 +1,12 @@
 // The event that a line of text gives.
 ghost use mathlib.Core.Path.{_≡_};
-ghost use mathlib.Core.List.{_∷_};
-ghost use Prim.Native.Nat.{_+_, _≤_, _<_};
-ghost use lib.ListN.{length, take};
+ghost use Prim.Native.Nat.{_≤_, _<_};
+ghost use lib.ListN.{length};
 ghost use Rattle.area.specs.Area.{onto};
 ghost use Rattle.text.specs.Fields.{fields};
 ghost use Rattle.text.specs.Lines.{parts-of-fields, settings-of-fields, read-settings};
 ghost use Rattle.parse.specs.Answers.{parsed, with-room, answer-to, bytes-read, settings-answer};
-ghost use Rattle.parse.specs.Steps.{fields-from, FieldIs, NumbersAre, ReadingIs};
+ghost use Rattle.parse.specs.Steps.{WordIs, Closed, FieldIs, NumbersAre, ReadingIs};
 use decimal::Number;
 
 // A kind with its numbers, those that it does not have 0, or a no to question 3.
@@ -25,6 +24,12 @@ pub enum SettingsLine {
         chunks: u64,
     },
     Refused,
+}
+
+// A field as one number, a 1 and its bytes, and where it ends; or a field that is longer than every word.
+pub enum Word {
+    Packed(u64, usize),
+    Long,
 }
 
 // A number, and where the next field starts; past the end there is none.
@@ -57,36 +62,67 @@ pub enum Reading {
     Refused,
 }
 
-// Where the first field of a text ends.
-fn field_end(body: &[u8]) -> usize
-    ensures { λ r. ⌜ (r ≤ length (now (body .entry))) × (fields (now (body .entry)) ≡ take r (now (body .entry)) ∷ fields-from (now (body .entry)) (r + 1)) ⌝ }
+fn wide(b: u8) -> u64
+    ensures { λ r. ⌜ (r ≡ b) × (r < 256) ⌝ }
 {
+    b as u64
+}
+
+// The first field of a text, as the number that a word is looked up by.
+fn first_word(body: &[u8]) -> Word
+    ensures { λ r. ⌜ WordIs (now (body .entry)) r ⌝ }
+{
+    let mut packed: u64 = 1;
     let mut i = 0;
     while i < body.len() {
         if body[i] == b',' {
-            return i;
+            return Word::Packed(packed, i);
         }
+        if 0x0100_0000_0000_0000 <= packed {
+            return Word::Long;
+        }
+        packed = 256 * packed + wide(body[i]);
         i += 1;
     }
-    i
+    Word::Packed(packed, i)
 }
 
-// The number in the field that starts at a place.
+// The number in the field from a place to its end, where its digits spell this number.
+fn closed(body: &[u8], at: usize, end: usize, number: u64) -> Field
+    requires { ⌜ Closed (now body) at end number ⌝ }
+    ensures { λ r. ⌜ FieldIs (now (body .entry)) at r ⌝ }
+{
+    let whole = decimal::whole(&body[at..end], number);
+    match whole {
+        Number::Value(v) => Field::Value(v, end + 1),
+        Number::Malformed => Field::Malformed,
+    }
+}
+
+// The number in the field that starts at a place, in one pass.
 fn next_number(body: &[u8], at: usize) -> Field
     ensures { λ r. ⌜ FieldIs (now (body .entry)) at r ⌝ }
 {
     if body.len() < at {
         return Field::Malformed;
     }
-    let end = at + field_end(&body[at..]);
-    let number = decimal::read(&body[at..end]);
-    match number {
-        Number::Value(v) => Field::Value(v, end + 1),
-        Number::Malformed => Field::Malformed,
+    let mut number: u64 = 0;
+    let mut i = at;
+    while i < body.len() {
+        if body[i] == b',' {
+            return closed(body, at, i, number);
+        }
+        let next = decimal::push_digit(number, body[i]);
+        let Number::Value(w) = next else {
+            return Field::Malformed;
+        };
+        number = w;
+        i += 1;
     }
+    closed(body, at, i, number)
 }
 
-// The n numbers from the field that starts at a place.
+// The n numbers from the field that starts at a place. Where there are none, no call is made.
 fn numbers_from(body: &[u8], at: usize, n: u8) -> Numbers
     requires { ⌜ n ≤ 3 ⌝ }
     ensures { λ r. ⌜ NumbersAre n (now (body .entry)) at r ⌝ }
@@ -99,6 +135,14 @@ fn numbers_from(body: &[u8], at: usize, n: u8) -> Numbers
             next: at,
         };
     }
+    some_numbers(body, at, n)
+}
+
+// The same, of one number or more.
+fn some_numbers(body: &[u8], at: usize, n: u8) -> Numbers
+    requires { ⌜ (1 ≤ n) × (n ≤ 3) ⌝ }
+    ensures { λ r. ⌜ NumbersAre n (now (body .entry)) at r ⌝ }
+{
     let first = next_number(body, at);
     let Field::Value(a, second_at) = first else {
         return Numbers::Wrong;
@@ -134,8 +178,11 @@ fn numbers_from(body: &[u8], at: usize, n: u8) -> Numbers
 fn read_body(body: &[u8], size: usize) -> Reading
     ensures { λ r. ⌜ ReadingIs size (now (body .entry)) r ⌝ }
 {
-    let end = field_end(body);
-    let kind = text::find_kind(&body[..end]);
+    let word = first_word(body);
+    let Word::Packed(packed, end) = word else {
+        return Reading::Refused;
+    };
+    let kind = text::find_kind(packed);
     if kind == 0 {
         return Reading::Refused;
     }

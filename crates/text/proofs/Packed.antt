@@ -25,6 +25,10 @@ unfolding packed-upto
 packed-least w zero = omega arith
 packed-least w (suc n) = omega (arith, packed-least w n)
 
+pub packed-none : (w : List ℕ) → packed-upto w 0 ≡ 1
+unfolding packed-upto
+packed-none w = refl
+
 -- one byte more
 pub packed-turn : (w : List ℕ) (n : ℕ) → packed-upto w (n + 1) ≡ 256 * packed-upto w n + getD w n 0
 unfolding packed-upto

@@ -1,108 +1,128 @@
 -- `parse::next_number` meets its contract.
-use mathlib.Core.Path.{_≡_, sym, ap, _∙_}
-use mathlib.Core.List.{_∷_}
-use Prim.Native.Nat.{ℕ, _+_, _-_}
+use mathlib.Core.Path.{_≡_, sym, _∙_}
+use mathlib.Core.Option.{some, none}
+use Prim.Native.Nat.{_-_, _≤_}
 use native.Mathlib.Omega.{arith}
-use lib.ListN.{length, take, drop}
-use Rattle.decimal.specs.Decimal.{number-of}
-use Rattle.parse.specs.Steps.{fields-from}
-use Rattle.parse.proofs.Laws.{part-all, next-field, first-is, rest-is, first-of-none, from-past}
-use Rattle.decimal.proofs.Laws.{answer-value, answer-malformed}
 use borrow.Author.Needs.{needs}
+use lib.ListN.{length, getD, drop}
+use Rattle.decimal.specs.Decimal.{push}
+use Rattle.decimal.proofs.Laws.{answer-value, answer-malformed}
+use Rattle.parse.specs.Steps.{fields-from}
+use Rattle.parse.proofs.Laws.{from-past, first-of-none, Spelling, spelling-from, closed-comma, closed-end, number-turn, number-stop}
 use Rattle.parse.proofs.next_number.Statement.{statement}
 use Rattle.parse.proofs.next_number.Tie as tie
+use Rattle.parse.proofs.next_number.Reads as reads
+use Rattle.parse.proofs.next_number.Lts as lts
+use Rattle.decimal.proofs.push_digit.Reads as push-digit-reads
+use Rattle.parse.proofs.closed.Reads as closed-reads
 
--- the field that starts at the place
-field : (c : tie.After-field-end)
-    → fields-from (c .before .before .before .before .args .body .now) (c .before .before .before .before .args .at)
-    ≡ take (c .before .before .before .before .args .at + c .field-end .result - c .before .before .before .before .args .at)
-    (drop (c .before .before .before .before .args .at) (c .before .before .before .before .args .body .now))
-    ∷ fields-from (c .before .before .before .before .args .body .now) (c .before .before .before .before .args .at + c .field-end .result + 1)
-field c =
-    let a = c .before .before .before .before .args in
-    let e = c .field-end .result in
-    let n : e ≡ a .at + e - a .at = omega arith in
-    next-field (a .body .now) (take (length (a .body .now) - a .at) (drop (a .at) (a .body .now))) (a .at) e (c .before .before .if1 .left)
-    (part-all (a .body .now) (a .at)) (c .field-end .ensures .1)
-    ∙ ap (λ (k : ℕ). take k (drop (a .at) (a .body .now)) ∷ fields-from (a .body .now) (a .at + e + 1)) n
+abbrev Inv-loop : tie.InvT-loop
+Inv-loop body at number₀ i₀ number i = (at ≤ i) × (i ≤ length body) × Spelling (drop at body) (i - at) number
 
-returns : tie.Need-returns
+abbrev μ-loop : tie.MeasureT-loop
+μ-loop body at number₀ i₀ number i = length body - i
+
+-- src/lib.rt:107:9
+returns : tie.Need-returns Inv-loop μ-loop
 returns c =
     let a = c .before .before .args in
     first-of-none (fields-from (a .body .now) (a .at)) (from-past (a .body .now) (a .at) (c .if1 .taken))
 
-sub-field-end : tie.Need-sub-field-end
-sub-field-end c = search needs
+-- src/lib.rt:111:5
+loop-holds : tie.Need-loop-holds Inv-loop μ-loop
+loop-holds c =
+    let a = c .before .before .args in
+    (omega arith, omega arith, spelling-from (drop (a .at) (a .body .now)) (a .at))
 
-part-field-end-start : tie.Need-part-field-end-start
-part-field-end-start c = search needs
+-- src/lib.rt:112:12
+shared-slice-read-if2 : tie.Need-shared-slice-read-if2 Inv-loop μ-loop
+shared-slice-read-if2 c = search needs
 
-part-field-end-end : tie.Need-part-field-end-end
-part-field-end-end c = search needs
+-- src/lib.rt:113:13
+closed-requires : tie.Need-closed-requires Inv-loop μ-loop
+closed-requires c κs =
+    let a = c .before .before .before .before .before .before .args in
+    let l = c .before .before .before .loop in
+    closed-comma (a .body .now) (a .at) (l .i) (l .number) (l .inv .0) (l .inv .1) (l .inv .2) (omega arith) (c .if2 .taken)
 
-field-end-requires : tie.Need-field-end-requires
-field-end-requires c κs = search needs
+-- src/lib.rt:113:13
+returns-2 : tie.Need-returns-2 Inv-loop μ-loop
+returns-2 c = c .closed .ensures
 
-add-end : tie.Need-add-end
-add-end c = search needs
+-- src/lib.rt:115:48
+shared-slice-read-push-digit : tie.Need-shared-slice-read-push-digit Inv-loop μ-loop
+shared-slice-read-push-digit c = search needs
 
-sub-read : tie.Need-sub-read
-sub-read c = search needs
+-- src/lib.rt:115:13
+push-digit-requires : tie.Need-push-digit-requires Inv-loop μ-loop
+push-digit-requires c κs = search needs
 
-part-read-start : tie.Need-part-read-start
-part-read-start c = search needs
+-- src/lib.rt:116:27
+enum-known-next : tie.Need-enum-known-next Inv-loop μ-loop
+enum-known-next c = search needs
 
-part-read-end : tie.Need-part-read-end
-part-read-end c = search needs
-
-read-requires : tie.Need-read-requires
-read-requires c κs = search needs
-
-enum-known-number : tie.Need-enum-known-number
-enum-known-number c = search needs
-
-add-t16 : tie.Need-add-t16
-add-t16 c = search needs
-
-enum-told : tie.Need-enum-told
+-- src/lib.rt:117:13
+enum-told : tie.Need-enum-told Inv-loop μ-loop
 enum-told c = search needs
 
-returns-2 : tie.Need-returns-2
-returns-2 c =
-    let a = c .before .before .before .before .before .before .before .before .before .args in
-    let e = c .before .before .before .before .before .field-end .result in
-    let s = a .body .now in
-    let text = take (a .at + e - a .at) (drop (a .at) s) in
-    let f = field (c .before .before .before .before .before) in
-    let n = answer-value (number-of text) (c .before .number .given .0 .0) (sym (c .before .before .before .read .ensures) ∙ c .before .number .given .1) in
-    (first-is (fields-from s (a .at)) (fields-from s (a .at + e + 1)) text f ∙ n, rest-is (fields-from s (a .at)) (fields-from s (a .at + e + 1)) text f)
-
-returns-3 : tie.Need-returns-3
+-- src/lib.rt:117:13
+returns-3 : tie.Need-returns-3 Inv-loop μ-loop
 returns-3 c =
-    let a = c .before .before .before .before .before .before .before .before .args in
-    let e = c .before .before .before .before .field-end .result in
+    let a = c .before .before .before .before .before .before .before .before .before .before .args in
     let s = a .body .now in
-    let text = take (a .at + e - a .at) (drop (a .at) s) in
-    let f = field (c .before .before .before .before) in
-    first-is (fields-from s (a .at)) (fields-from s (a .at + e + 1)) text f
-    ∙ answer-malformed (number-of text) (sym (c .before .before .read .ensures) ∙ c .enum-told .given .1)
+    let l = c .before .before .before .before .before .before .before .loop in
+    let e : push (l .number) (getD s (l .i) 0) ≡ none =
+    answer-malformed (push (l .number) (getD s (l .i) 0)) (sym (c .before .before .push-digit .ensures) ∙ c .enum-told .given .1) in
+    number-stop s (a .at) (l .i) (l .number) (l .inv .0) (l .inv .1) (l .inv .2) (omega arith) (c .before .before .before .before .if2 .left) e
+
+-- src/lib.rt:120:9
+add-i : tie.Need-add-i Inv-loop μ-loop
+add-i c = search needs
+
+-- src/lib.rt:111:5
+loop-less : tie.Need-loop-less Inv-loop μ-loop
+loop-less c = search needs
+
+-- src/lib.rt:111:5
+loop-again : tie.Need-loop-again Inv-loop μ-loop
+loop-again c =
+    let a = c .before .before .before .before .before .before .before .before .before .before .before .args in
+    let s = a .body .now in
+    let l = c .before .before .before .before .before .before .before .before .loop in
+    let w = c .before .next .given .0 .0 in
+    let e : push (l .number) (getD s (l .i) 0) ≡ some w =
+    answer-value (push (l .number) (getD s (l .i) 0)) w (sym (c .before .before .before .push-digit .ensures) ∙ c .before .next .given .1) in
+    (omega arith, omega arith, number-turn s (a .at) (l .i) (l .number) (l .inv .0) (l .inv .1) (l .inv .2) (omega arith) (c .before .before .before .before .before .if2 .left) w e)
+
+-- src/lib.rt:122:5
+closed-requires-2 : tie.Need-closed-requires-2 Inv-loop μ-loop
+closed-requires-2 c κs =
+    let a = c .before .before .before .before .args in
+    let l = c .before .loop in
+    closed-end (a .body .now) (a .at) (l .i) (l .number) (l .inv .0) (l .inv .1) (l .inv .2) (omega arith)
+
+-- src/lib.rt:103:1
+returns-4 : tie.Need-returns-4 Inv-loop μ-loop
+returns-4 c = c .closed2 .ensures
 
 pub next-number-spec : {M : Type 1} → statement M
 next-number-spec =
     tie.close
     (tie.spec
+    Inv-loop
+    μ-loop
     returns
-    sub-field-end
-    part-field-end-start
-    part-field-end-end
-    field-end-requires
-    add-end
-    sub-read
-    part-read-start
-    part-read-end
-    read-requires
-    enum-known-number
-    add-t16
-    enum-told
+    loop-holds
+    shared-slice-read-if2
+    closed-requires
     returns-2
-    returns-3)
+    shared-slice-read-push-digit
+    push-digit-requires
+    enum-known-next
+    enum-told
+    returns-3
+    add-i
+    loop-less
+    loop-again
+    closed-requires-2
+    returns-4)

@@ -1,60 +1,93 @@
 -- `parse::read_body` meets its contract.
 use mathlib.Core.Path.{_≡_, sym, ap, _∙_}
 use mathlib.Core.Bool.{true, false}
-use Prim.Native.Nat.{_+_, _≤_}
+use mathlib.Core.List.{List}
+use Prim.Native.Nat.{ℕ, _+_, _≤_}
 use native.Mathlib.Omega.{arith}
-use lib.ListN.{length, take, drop}
-use Rattle.rules.specs.Event.{kind-at}
-use Rattle.parse.specs.Steps.{fields-from, Three}
-use Rattle.parse.proofs.Laws.{Row, unknown, body-wrong, body-plain, body-missing, body-extra, body-loaded, body-spoilt, from-within, from-past, part-all}
-use Rattle.text.proofs.Laws.{form-ok, row-numbers, row-payload}
+use lib.ListN.{length, drop}
 use Rattle.hex.specs.Hex.{spells-bytes}
-use lib.Seq.{length-take-le}
+use Rattle.rules.specs.Event.{kind-at}
+use Rattle.text.specs.Table.{kind-number}
+use Rattle.text.proofs.Laws.{form-ok, row-numbers, row-payload}
+use Rattle.parse.specs.Steps.{fields-from, Three}
+use Rattle.parse.proofs.Laws.{Named, word-of, no-word, unknown, unnamed, Row, body-wrong, body-plain, body-missing, body-extra, body-loaded}
+use Rattle.parse.proofs.Laws.{body-spoilt, from-within, from-past, part-all}
 use borrow.Author.Needs.{needs}
 use Rattle.parse.proofs.read_body.Statement.{statement}
 use Rattle.parse.proofs.read_body.Tie as tie
+use Rattle.parse.proofs.read_body.Reads as reads
+use Rattle.parse.proofs.read_body.Lts as lts
+use Rattle.hex.proofs.is_bytes.Reads as is-bytes-reads
+use Rattle.parse.proofs.first_word.Reads as first-word-reads
+use Rattle.parse.proofs.numbers_from.Reads as numbers-from-reads
+use Rattle.text.proofs.find_kind.Reads as find-kind-reads
+use Rattle.text.proofs.shape_of.Reads as shape-of-reads
 
--- the word's field, the kind and its row of the table
+-- the text, the fields after its word, and what is known of them once the kind's row is at hand
+abbrev text : tie.After-shape-of → List ℕ
+text c = c .before .before .before .before .before .before .before .before .args .body .now
+
+abbrev others : tie.After-shape-of → List (List ℕ)
+others c = fields-from (text c) (c .before .before .before .before .word .given .0 .1 .0 + 1)
+
+named : (c : tie.After-shape-of) → Named (text c) (c .before .before .before .before .word .given .0 .0) (c .before .before .before .before .word .given .0 .1 .0)
+named c =
+    let w = c .before .before .before .before .word .given in
+    word-of (text c) (w .0 .0) (w .0 .1 .0) (c .before .before .before .before .before .before .first-word .result) (c .before .before .before .before .before .before .first-word .ensures) (w .1)
+
 row : (c : tie.After-shape-of)
-    → Row (c .before .before .before .before .before .before .args .body .now)
-    (take (c .before .before .before .before .field-end .result) (c .before .before .before .before .before .before .args .body .now))
-    (fields-from (c .before .before .before .before .before .before .args .body .now) (c .before .before .before .before .field-end .result + 1))
-    (c .before .before .find-kind .result) (c .shape-of .result .numbers) (c .shape-of .result .payload)
+    → Row (text c) (others c) (c .before .before .find-kind .result) (c .shape-of .result .numbers) (c .shape-of .result .payload)
 row c =
     let k = c .before .before .find-kind in
     record {
-      split = c .before .before .before .before .field-end .ensures .1;
-      kind = k .ensures .0;
+      others = named c .others;
+      kind = k .ensures .0 ∙ ap kind-number (sym (named c .kind));
       least = omega arith;
       numbers = row-numbers (kind-at (k .result)) (c .shape-of .result) (c .shape-of .ensures);
       payload = row-payload (kind-at (k .result)) (c .shape-of .result) (c .shape-of .ensures);
     }
 
-field-end-requires : tie.Need-field-end-requires
-field-end-requires c κs = search needs
+-- src/lib.rt:181:9
+first-word-requires : tie.Need-first-word-requires
+first-word-requires c κs = search needs
 
-slice-aggregate-find-kind : tie.Need-slice-aggregate-find-kind
-slice-aggregate-find-kind c =
-    let s = c .before .before .before in
-    sym (length-take-le (c .before .field-end .result) (s .args .body .now) (c .before .field-end .ensures .0))
+-- src/lib.rt:182:22
+enum-known-word : tie.Need-enum-known-word
+enum-known-word c = search needs
 
+-- src/lib.rt:183:9
+enum-told : tie.Need-enum-told
+enum-told c = search needs
+
+-- src/lib.rt:183:9
+returns : tie.Need-returns
+returns c =
+    let a = c .before .before .before .before .args in
+    unnamed (a .size) _ (no-word (a .body .now) (c .before .before .first-word .result) (c .before .before .first-word .ensures) (c .enum-told .given .1))
+
+-- src/lib.rt:185:9
 find-kind-requires : tie.Need-find-kind-requires
 find-kind-requires c κs = search needs
 
-returns : tie.Need-returns
-returns c =
-    let a = c .before .before .before .before .before .args in
-    let s = a .body .now in
-    let e = c .before .before .before .field-end in
-    let k = c .before .find-kind in
-    unknown (a .size) s (take (e .result) s) (fields-from s (e .result + 1)) (e .ensures .1) (k .result) (k .ensures .0) (c .if1 .taken)
+-- src/lib.rt:187:9
+returns-2 : tie.Need-returns-2
+returns-2 c =
+    let a = c .before .before .before .before .before .before .before .args in
+    let w = c .before .before .before .word .given in
+    let n = word-of (a .body .now) (w .0 .0) (w .0 .1 .0) (c .before .before .before .before .before .first-word .result) (c .before .before .before .before .before .first-word .ensures) (w .1) in
+    unknown (a .size) _ (ap kind-number (n .kind) ∙ sym (c .before .find-kind .ensures .0) ∙ c .if1 .taken)
 
+-- src/lib.rt:189:9
 shape-of-requires : tie.Need-shape-of-requires
 shape-of-requires c κs = search needs
 
+-- src/lib.rt:192:38
 add-numbers-from : tie.Need-add-numbers-from
-add-numbers-from c = search needs
+add-numbers-from c =
+    let w = named c .within in
+    omega arith
 
+-- src/lib.rt:192:9
 numbers-from-requires : tie.Need-numbers-from-requires
 numbers-from-requires c κs =
     let k = c .before .before .find-kind .result in
@@ -62,163 +95,120 @@ numbers-from-requires c κs =
     let f : kind-at k .numbers ≤ 3 = form-ok k (row c .least) (c .before .before .find-kind .ensures .1) .few in
     omega arith
 
+-- src/lib.rt:193:25
 enum-known-numbers : tie.Need-enum-known-numbers
 enum-known-numbers c = search needs
 
-enum-told : tie.Need-enum-told
-enum-told c = search needs
+-- src/lib.rt:194:9
+enum-told-2 : tie.Need-enum-told-2
+enum-told-2 c = search needs
 
-returns-2 : tie.Need-returns-2
-returns-2 c =
-    let a = c .before .before .before .before .before .before .before .before .before .args in
-    let s = a .body .now in
-    let e = c .before .before .before .before .before .before .before .field-end .result in
-    let k = c .before .before .before .before .before .find-kind .result in
-    let r = c .before .before .before .shape-of .result in
-    let q = row (c .before .before .before) in
-    let w = take e s in
-    let fs = fields-from s (e + 1) in
-    body-wrong (a .size) s w fs k (r .numbers) (r .payload) q (rw (c .enum-told .given .1) at (c .before .before .numbers-from .ensures))
-
+-- src/lib.rt:194:9
 returns-3 : tie.Need-returns-3
 returns-3 c =
-    let a = c .before .before .before .before .before .before .before .before .before .before .before .before .args in
-    let s = a .body .now in
-    let e = c .before .before .before .before .before .before .before .before .before .before .field-end .result in
-    let k = c .before .before .before .before .before .before .before .before .find-kind .result in
-    let r = c .before .before .before .before .before .before .shape-of .result in
-    let q = row (c .before .before .before .before .before .before) in
-    let w = take e s in
-    let fs = fields-from s (e + 1) in
-    let m = c .before .before .before .numbers in
-    let x = m .given .0 .0 in
-    let y = m .given .0 .1 .0 in
-    let z = m .given .0 .1 .1 .0 in
-    let next = m .given .0 .1 .1 .1 .0 in
-    let t : Three (r .numbers) fs x y z (fields-from s next) = rw (m .given .1) at (c .before .before .before .before .before .numbers-from .ensures) in
-    body-missing (a .size) s w fs k (r .numbers) (r .payload) q x y z (fields-from s next) t (c .before .if2 .taken) (from-past s next (c .if3 .taken))
+    let h = c .before .before .before in
+    body-wrong (h .before .before .before .before .before .before .before .before .args .size) (text h) (others h) _ _ _ (row h) (rw (c .enum-told2 .given .1) at (c .before .before .numbers-from .ensures))
 
+-- src/lib.rt:198:13
+returns-4 : tie.Need-returns-4
+returns-4 c =
+    let h = c .before .before .before .before .before .before in
+    let m = c .before .before .before .numbers .given in
+    let next = m .0 .1 .1 .1 .0 in
+    let t : Three (h .shape-of .result .numbers) (others h) (m .0 .0) (m .0 .1 .0) (m .0 .1 .1 .0) (fields-from (text h) next) =
+    rw (m .1) at (c .before .before .before .before .before .numbers-from .ensures) in
+    body-missing (h .before .before .before .before .before .before .before .before .args .size) (text h) (others h) _ _ _ (row h) _ _ _ _ t (c .before .if2 .taken) (from-past (text h) next (c .if3 .taken))
+
+-- src/lib.rt:200:26
 sub-is-bytes : tie.Need-sub-is-bytes
 sub-is-bytes c = search needs
 
+-- src/lib.rt:200:26
 part-is-bytes-start : tie.Need-part-is-bytes-start
 part-is-bytes-start c = search needs
 
+-- src/lib.rt:200:26
 part-is-bytes-end : tie.Need-part-is-bytes-end
 part-is-bytes-end c = search needs
 
+-- src/lib.rt:200:12
 is-bytes-requires : tie.Need-is-bytes-requires
 is-bytes-requires c κs = search needs
 
-returns-4 : tie.Need-returns-4
-returns-4 c =
-    let b = c .before .before .before .before .before .before .before .before .before .before .before .before .before .before .before in
-    let a = b .args in
-    let s = a .body .now in
-    let e = c .before .before .before .before .before .before .before .before .before .before .before .before .before .field-end .result in
-    let k = c .before .before .before .before .before .before .before .before .before .before .before .find-kind .result in
-    let r = c .before .before .before .before .before .before .before .before .before .shape-of .result in
-    let q = row (c .before .before .before .before .before .before .before .before .before) in
-    let w = take e s in
-    let fs = fields-from s (e + 1) in
-    let m = c .before .before .before .before .before .before .numbers in
-    let x = m .given .0 .0 in
-    let y = m .given .0 .1 .0 in
-    let z = m .given .0 .1 .1 .0 in
-    let next = m .given .0 .1 .1 .1 .0 in
-    let t : Three (r .numbers) fs x y z (fields-from s next) =
-    rw (m .given .1) at (c .before .before .before .before .before .before .before .before .numbers-from .ensures) in
-    let h : spells-bytes (a .size) (drop next s) ≡ true = ap (spells-bytes (a .size)) (sym (part-all s next)) ∙ sym (c .before .is-bytes .ensures)
-    ∙ c .if4 .taken in
-    let g : next ≤ length s = omega arith in
-    record {
-      found =
-          body-loaded (a .size) s w fs k (r .numbers) (r .payload) q x y z (fields-from s next) t (drop next s) (from-within s next g)
-          (c .before .before .before .before .if2 .taken) h;
-      within =
-          g;
-      hexadecimal = h;
-    }
-
+-- src/lib.rt:201:13
 returns-5 : tie.Need-returns-5
 returns-5 c =
-    let a = c .before .before .before .before .before .before .before .before .before .before .before .before .before .before .before .args in
-    let s = a .body .now in
-    let e = c .before .before .before .before .before .before .before .before .before .before .before .before .before .field-end .result in
-    let k = c .before .before .before .before .before .before .before .before .before .before .before .find-kind .result in
-    let r = c .before .before .before .before .before .before .before .before .before .shape-of .result in
-    let q = row (c .before .before .before .before .before .before .before .before .before) in
-    let w = take e s in
-    let fs = fields-from s (e + 1) in
-    let m = c .before .before .before .before .before .before .numbers in
-    let x = m .given .0 .0 in
-    let y = m .given .0 .1 .0 in
-    let z = m .given .0 .1 .1 .0 in
-    let next = m .given .0 .1 .1 .1 .0 in
-    let t : Three (r .numbers) fs x y z (fields-from s next) =
-    rw (m .given .1) at (c .before .before .before .before .before .before .before .before .numbers-from .ensures) in
-    let h : spells-bytes (a .size) (drop next s) ≡ false = ap (spells-bytes (a .size)) (sym (part-all s next)) ∙ sym (c .before .is-bytes .ensures)
-    ∙ c .if4 .left in
-    body-spoilt (a .size) s w fs k (r .numbers) (r .payload) q x y z (fields-from s next) t (drop next s) (from-within s next (omega arith))
-    (c .before .before .before .before .if2 .taken) h
+    let h = c .before .before .before .before .before .before .before .before .before in
+    let m = c .before .before .before .before .before .before .numbers .given in
+    let next = m .0 .1 .1 .1 .0 in
+    let S = h .before .before .before .before .before .before .before .before .args .size in
+    let s = text h in
+    let t : Three (h .shape-of .result .numbers) (others h) (m .0 .0) (m .0 .1 .0) (m .0 .1 .1 .0) (fields-from s next) =
+    rw (m .1) at (c .before .before .before .before .before .before .before .before .numbers-from .ensures) in
+    let d : spells-bytes S (drop next s) ≡ true = ap (spells-bytes S) (sym (part-all s next)) ∙ sym (c .before .is-bytes .ensures) ∙ c .if4 .taken in
+    let g : next ≤ length s = omega arith in
+    record {
+      found = body-loaded S s (others h) _ _ _ (row h) _ _ _ _ t (drop next s) (from-within s next g) (c .before .before .before .before .if2 .taken) d;
+      within = g;
+      hexadecimal = d;
+    }
 
+-- src/lib.rt:209:9
 returns-6 : tie.Need-returns-6
 returns-6 c =
-    let a = c .before .before .before .before .before .before .before .before .before .before .before .before .args in
-    let s = a .body .now in
-    let e = c .before .before .before .before .before .before .before .before .before .before .field-end .result in
-    let k = c .before .before .before .before .before .before .before .before .find-kind .result in
-    let r = c .before .before .before .before .before .before .shape-of .result in
-    let q = row (c .before .before .before .before .before .before) in
-    let w = take e s in
-    let fs = fields-from s (e + 1) in
-    let m = c .before .before .before .numbers in
-    let x = m .given .0 .0 in
-    let y = m .given .0 .1 .0 in
-    let z = m .given .0 .1 .1 .0 in
-    let next = m .given .0 .1 .1 .1 .0 in
-    let t : Three (r .numbers) fs x y z (fields-from s next) = rw (m .given .1) at (c .before .before .before .before .before .numbers-from .ensures) in
-    body-plain (a .size) s w fs k (r .numbers) (r .payload) q x y z (fields-from s next) t (c .before .if2 .left) (from-past s next (c .if5 .taken))
+    let h = c .before .before .before .before .before .before .before .before .before in
+    let m = c .before .before .before .before .before .before .numbers .given in
+    let next = m .0 .1 .1 .1 .0 in
+    let S = h .before .before .before .before .before .before .before .before .args .size in
+    let s = text h in
+    let t : Three (h .shape-of .result .numbers) (others h) (m .0 .0) (m .0 .1 .0) (m .0 .1 .1 .0) (fields-from s next) =
+    rw (m .1) at (c .before .before .before .before .before .before .before .before .numbers-from .ensures) in
+    let d : spells-bytes S (drop next s) ≡ false = ap (spells-bytes S) (sym (part-all s next)) ∙ sym (c .before .is-bytes .ensures) ∙ c .if4 .left in
+    body-spoilt S s (others h) _ _ _ (row h) _ _ _ _ t (drop next s) (from-within s next (omega arith)) (c .before .before .before .before .if2 .taken) d
 
+-- src/lib.rt:212:9
 returns-7 : tie.Need-returns-7
 returns-7 c =
-    let a = c .before .before .before .before .before .before .before .before .before .before .before .before .args in
-    let s = a .body .now in
-    let e = c .before .before .before .before .before .before .before .before .before .before .field-end .result in
-    let k = c .before .before .before .before .before .before .before .before .find-kind .result in
-    let r = c .before .before .before .before .before .before .shape-of .result in
-    let q = row (c .before .before .before .before .before .before) in
-    let w = take e s in
-    let fs = fields-from s (e + 1) in
-    let m = c .before .before .before .numbers in
-    let x = m .given .0 .0 in
-    let y = m .given .0 .1 .0 in
-    let z = m .given .0 .1 .1 .0 in
-    let next = m .given .0 .1 .1 .1 .0 in
-    let t : Three (r .numbers) fs x y z (fields-from s next) = rw (m .given .1) at (c .before .before .before .before .before .numbers-from .ensures) in
-    body-extra (a .size) s w fs k (r .numbers) (r .payload) q x y z (fields-from s next) t (drop next s) (from-within s next (omega arith))
-    (c .before .if2 .left)
+    let h = c .before .before .before .before .before .before in
+    let m = c .before .before .before .numbers .given in
+    let next = m .0 .1 .1 .1 .0 in
+    let t : Three (h .shape-of .result .numbers) (others h) (m .0 .0) (m .0 .1 .0) (m .0 .1 .1 .0) (fields-from (text h) next) =
+    rw (m .1) at (c .before .before .before .before .before .numbers-from .ensures) in
+    body-plain (h .before .before .before .before .before .before .before .before .args .size) (text h) (others h) _ _ _ (row h) _ _ _ _ t (c .before .if2 .left) (from-past (text h) next (c .if5 .taken))
+
+-- src/lib.rt:178:1
+returns-8 : tie.Need-returns-8
+returns-8 c =
+    let h = c .before .before .before .before .before .before in
+    let m = c .before .before .before .numbers .given in
+    let next = m .0 .1 .1 .1 .0 in
+    let s = text h in
+    let t : Three (h .shape-of .result .numbers) (others h) (m .0 .0) (m .0 .1 .0) (m .0 .1 .1 .0) (fields-from s next) =
+    rw (m .1) at (c .before .before .before .before .before .numbers-from .ensures) in
+    body-extra (h .before .before .before .before .before .before .before .before .args .size) s (others h) _ _ _ (row h) _ _ _ _ t (drop next s) (from-within s next (omega arith)) (c .before .if2 .left)
 
 pub read-body-spec : {M : Type 1} → statement M
 read-body-spec =
     tie.close
     (tie.spec
-    field-end-requires
-    slice-aggregate-find-kind
-    find-kind-requires
+    first-word-requires
+    enum-known-word
+    enum-told
     returns
+    find-kind-requires
+    returns-2
     shape-of-requires
     add-numbers-from
     numbers-from-requires
     enum-known-numbers
-    enum-told
-    returns-2
+    enum-told-2
     returns-3
+    returns-4
     sub-is-bytes
     part-is-bytes-start
     part-is-bytes-end
     is-bytes-requires
-    returns-4
     returns-5
     returns-6
-    returns-7)
+    returns-7
+    returns-8)
