@@ -122,7 +122,7 @@ fn next_number(body: &[u8], at: usize) -> Field
     closed(body, at, i, number)
 }
 
-// The n numbers from the field that starts at a place. Where there are none, no call is made.
+// The n numbers from the field that starts at a place. With one caller it is compiled in place, and its answer stays in registers.
 fn numbers_from(body: &[u8], at: usize, n: u8) -> Numbers
     requires { ⌜ n ≤ 3 ⌝ }
     ensures { λ r. ⌜ NumbersAre n (now (body .entry)) at r ⌝ }
@@ -135,14 +135,6 @@ fn numbers_from(body: &[u8], at: usize, n: u8) -> Numbers
             next: at,
         };
     }
-    some_numbers(body, at, n)
-}
-
-// The same, of one number or more.
-fn some_numbers(body: &[u8], at: usize, n: u8) -> Numbers
-    requires { ⌜ (1 ≤ n) × (n ≤ 3) ⌝ }
-    ensures { λ r. ⌜ NumbersAre n (now (body .entry)) at r ⌝ }
-{
     let first = next_number(body, at);
     let Field::Value(a, second_at) = first else {
         return Numbers::Wrong;
@@ -261,20 +253,28 @@ pub fn parse(line: &[u8], size: usize, data: &mut [u8]) -> Parsed
 fn settings_body(body: &[u8]) -> SettingsLine
     ensures { λ r. ⌜ r ≡ settings-answer (settings-of-fields (fields (now (body .entry)))) ⌝ }
 {
-    let first = next_number(body, 0);
-    let Field::Value(places, second_at) = first else {
+    let one = next_number(body, 0);
+    let Field::Value(places, size_at) = one else {
         return SettingsLine::Refused;
     };
-    let others = numbers_from(body, second_at, 3);
-    let Numbers::Read { a, b, c, next } = others else {
+    let two = next_number(body, size_at);
+    let Field::Value(size, entries_at) = two else {
+        return SettingsLine::Refused;
+    };
+    let three = next_number(body, entries_at);
+    let Field::Value(entries, chunks_at) = three else {
+        return SettingsLine::Refused;
+    };
+    let four = next_number(body, chunks_at);
+    let Field::Value(chunks, next) = four else {
         return SettingsLine::Refused;
     };
     if body.len() < next {
         return SettingsLine::Are {
             places,
-            size: a,
-            entries: b,
-            chunks: c,
+            size,
+            entries,
+            chunks,
         };
     }
     SettingsLine::Refused
