@@ -3,12 +3,12 @@ use mathlib.Core.Path.{_≡_, refl, sym, ap, _∙_}
 use mathlib.Core.Bool.{Bool, true, false}
 use mathlib.Core.List.{List, [], _∷_, _++_, append-nil}
 use mathlib.Core.Option.{Option, some, none}
-use Prim.Native.Nat.{ℕ, zero, suc, _+_, _-_, _*_, _^_, _≤_, _<_}
+use Prim.Native.Nat.{ℕ, zero, suc, _+_, _-_, _*_, _≤_, _<_}
 use native.Mathlib.Numerals.{add-one}
 use native.Mathlib.Omega.{arith}
 use borrow.Author.Tests.{le-leb, lt-leb, eq-eqb, ne-eqb}
 use lib.Dec.{eqb}
-use lib.ListN.{length, take, drop, getD, length-append, length-drop, drop-of-length-le, List·getD-append}
+use lib.ListN.{length, take, drop, getD, length-append, length-drop, drop-of-length-le}
 use lib.Seq.{drop-cons, take-suc, drop-drop, take-all, length-take-le, getD-take, getD-drop}
 use Rattle.area.specs.Area.{onto}
 use Rattle.lists.proofs.Tests.{by, by-lt}
@@ -25,7 +25,7 @@ use Rattle.text.specs.Fields.{comma, parted, before, fields}
 use Rattle.text.specs.Lines.{Taken, taken, take-numbers, take-bytes, parts-of-kind, parts-of-fields, is-line, without-feed, read-parts}
 use Rattle.text.specs.Lines.{settings-at, settings-of-fields, read-settings}
 use Rattle.text.proofs.Laws.{kind-some, number-some}
-use Rattle.text.proofs.Packed.{Bytes, packed-turn, packed-more, packed-agree, kind-by-number, too-long}
+use Rattle.text.proofs.Packed.{Bytes, packed-agree, kind-by-number, too-long}
 use Rattle.text.proofs.Fields.{front-nothing, before-before, before-nothing, at-comma, at-other, first, fields-there, fields-back}
 use Rattle.parse.specs.Answers.{has-data, with-room, parsed, answer-to, bytes-read, settings-answer}
 use Rattle.parse.specs.Steps.{fields-from, first-number, rest, first-kind, WordIs, Closed, FieldIs, Three, Found}
@@ -119,18 +119,14 @@ module _ (s : List ℕ) (i : ℕ) (h : i ≤ length s) where
       (rw (f, e) (kind-by-number (take i s) (front-bytes b) ∙ ap kind-of-packed front-packed), rw f, h)
 
 -- no kind has a word of more than 7 bytes
-pub word-long : (s : List ℕ) (i : ℕ) → fields s ≡ before (take i s) (fields (drop i s)) → i < length s → (getD s i 0 ≡ comma → ⊥)
-    → 2 ^ 56 ≤ packed-upto s i → first-kind (fields s) ≡ none
-unfolding first-kind packed
-word-long s i inv h e big =
+pub word-long : (s : List ℕ) (i : ℕ) → fields s ≡ before (take i s) (fields (drop i s)) → i < length s → (getD s i 0 ≡ comma → ⊥) → i ≡ 7
+    → first-kind (fields s) ≡ none
+unfolding first-kind
+word-long s i inv h e seven =
     let g = goes-on s i inv h e in
-    let w = take i s ++ (getD s i 0 ∷ g .0) in
     let n = front-length s i (omega arith) in
     let l = length-append (take i s) (getD s i 0 ∷ g .0) in
-    let same : packed-upto w i ≡ packed-upto s i =
-    packed-agree w s i (λ j q. List·getD-append (take i s) (getD s i 0 ∷ g .0) 0 j (omega arith) ∙ getD-take i s j 0 q) in
-    let more = packed-more w (i + 1) (length w) (omega arith) in
-    rw (g .2) (too-long w (omega (arith, same, more, packed-turn w i, big)))
+    rw (g .2) (too-long (take i s ++ (getD s i 0 ∷ g .0)) (omega arith))
 
 -- ---- a number, byte by byte
 

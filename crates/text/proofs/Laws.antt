@@ -3,7 +3,7 @@ use mathlib.Core.Path.{_≡_, refl, sym, ap, _∙_}
 use mathlib.Core.Bool.{Bool, true, false}
 use mathlib.Core.List.{List, [], _∷_}
 use mathlib.Core.Option.{Option, some, none}
-use Prim.Native.Nat.{ℕ, zero, suc, _+_, _*_, _^_, _≤_, _<_}
+use Prim.Native.Nat.{ℕ, zero, suc, _+_, _≤_, _<_}
 use native.Mathlib.Nat.{add-zero}
 use native.Mathlib.Numerals.{add-one}
 use native.Mathlib.Omega.{arith}
@@ -15,7 +15,7 @@ use Rattle.lists.proofs.Tests.{impossible, by, by-lt, and-l, and-r, all-at}
 use Rattle.area.specs.Area.{onto}
 use Rattle.area.proofs.Each.{Above, each-of}
 use Rattle.rules.specs.Event.{kind-count, ascii, Kind, kinds, no-kind, kind-at}
-use Rattle.text.specs.Words.{same-bytes, kind-from, kind-of-word, packed-upto, packed}
+use Rattle.text.specs.Words.{same-bytes, kind-from, kind-of-word}
 use Rattle.text.specs.Table.{shape-of, kind-number}
 use Rattle.text.specs.declared.Shape.{Shape}
 
@@ -38,20 +38,18 @@ same-eq (a ∷ s) (b ∷ t) e =
 
 -- ---- every row of the table
 
--- the word finds its own kind, is short, a number of 64 bits as well, and has no comma; at most three numbers follow
+-- the word finds its own kind, is short and has no comma; at most three numbers follow
 row-ok : ℕ → Kind → Bool
 row-ok k f =
-    eqb (kind-number (kind-of-word (f .word))) k and leb (length (f .word)) 7 and ltb (packed (f .word)) (2 ^ 64) and every (λ b. ltb 44 b) (f .word) and leb
-    (f .numbers) 3
+    eqb (kind-number (kind-of-word (f .word))) k and leb (length (f .word)) 7 and every (λ b. ltb 44 b) (f .word) and leb (f .numbers) 3
 
 rows : (i : ℕ) → i < kind-count → row-ok (suc i) (kind-at (suc i)) ≡ true
-unfolding row-ok _and_ all-below every packed packed-upto kind-of-word kind-from same-bytes kind-number kind-at kinds ascii
+unfolding row-ok _and_ all-below every kind-of-word kind-from same-bytes kind-number kind-at kinds ascii
 rows i h = all-at kind-count (λ k. row-ok (suc k) (kind-at (suc k))) refl i h
 
 pub record KindOk (k : ℕ) : Type 0 where
   pub kind : kind-of-word (kind-at k .word) ≡ some k
   pub short : length (kind-at k .word) ≤ 7
-  pub narrow : packed (kind-at k .word) < 2 ^ 64
   pub plain : Above 44 (kind-at k .word)
   pub few : kind-at k .numbers ≤ 3
 
@@ -63,15 +61,13 @@ number-some (some j) k h e = ap some e
 opened : (k : ℕ) → 1 ≤ k → row-ok k (kind-at k) ≡ true → KindOk k
 unfolding row-ok
 opened k h t =
-    let t2 = and-l _ _ t in
-    let t1 = and-l _ _ t2 in
+    let t1 = and-l _ _ t in
     let t0 = and-l _ _ t1 in
     let w = kind-at k .word in
     record {
       kind = number-some (kind-of-word w) k h (eqb-true (kind-number (kind-of-word w)) k (and-l _ _ t0));
       short = leb-true (length w) 7 (and-r _ _ t0);
-      narrow = ltb-true (packed w) (2 ^ 64) (and-r _ _ t1);
-      plain = each-of (λ (b : ℕ). 44 < b) (λ b. ltb 44 b) (λ b. ltb-true 44 b) w (and-r _ _ t2);
+      plain = each-of (λ (b : ℕ). 44 < b) (λ b. ltb 44 b) (λ b. ltb-true 44 b) w (and-r _ _ t1);
       few = leb-true (kind-at k .numbers) 3 (and-r _ _ t);
     }
 

@@ -4,6 +4,7 @@ use mathlib.Core.Bool.{Bool, true, false}
 use mathlib.Core.List.{List, [], _∷_}
 use mathlib.Core.Option.{Option, some, none}
 use Prim.Native.Nat.{ℕ, zero, suc, _+_, _*_, _^_, _≤_, _<_}
+use native.Mathlib.Nat.{pow-suc}
 use native.Mathlib.Numerals.{add-one}
 use native.Mathlib.Omega.{arith}
 use borrow.Author.Tests.{eq-eqb, ne-eqb, ltb-true}
@@ -34,13 +35,22 @@ pub packed-turn : (w : List ℕ) (n : ℕ) → packed-upto w (n + 1) ≡ 256 * p
 unfolding packed-upto
 packed-turn w n = rw add-one
 
-pub packed-more : (w : List ℕ) (n m : ℕ) → n ≤ m → packed-upto w n ≤ packed-upto w m
+packed-more : (w : List ℕ) (n m : ℕ) → n ≤ m → packed-upto w n ≤ packed-upto w m
 unfolding packed-upto
 packed-more w n zero h = let e : n ≡ 0 = omega arith in rw e (omega arith)
 packed-more w n (suc m) h =
     by-lt m n
     (λ _ q. let e : n ≡ suc m = omega arith in rw e (omega arith))
     (λ _ q. omega (arith, packed-more w n m q))
+
+-- so many bytes fit
+packed-most : (w : List ℕ) → ((i : ℕ) → getD w i 0 < 256) → (n : ℕ) → packed-upto w n < 2 * 256 ^ n
+unfolding packed-upto
+packed-most w b zero = omega arith
+packed-most w b (suc n) = rw (pow-suc) (omega (arith, packed-most w b n, b n))
+
+pub packed-fits : (w : List ℕ) → ((i : ℕ) → getD w i 0 < 256) → (n : ℕ) → n < 7 → packed-upto w n < 2 ^ 55
+packed-fits w b n h = omega (arith, packed-more w n 6 (omega arith), packed-most w b 6)
 
 pub packed-agree : (v w : List ℕ) (n : ℕ) → ((i : ℕ) → i < n → getD v i 0 ≡ getD w i 0) → packed-upto v n ≡ packed-upto w n
 unfolding packed-upto
@@ -99,12 +109,12 @@ none-but none f = refl
 none-but (some k) f = absurd (f k refl)
 
 -- no word is so long
-pub too-long : (w : List ℕ) → 2 ^ 64 ≤ packed w → kind-of-word w ≡ none
+pub too-long : (w : List ℕ) → 7 < length w → kind-of-word w ≡ none
 too-long w h =
     none-but (kind-of-word w) (λ k e.
     let q = kind-some w k e in
-    let n = form-ok k (q .least) (q .most) .narrow in
-    omega (arith, h, n, ap packed (q .word)))
+    let n = form-ok k (q .least) (q .most) .short in
+    omega (arith, h, n, ap length (q .word)))
 
 -- ---- the code's match on the number
 

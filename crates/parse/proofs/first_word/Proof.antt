@@ -7,7 +7,7 @@ use lib.ListN.{length, take, drop}
 use Rattle.text.specs.Words.{packed-upto}
 use Rattle.text.specs.Fields.{before, fields}
 use Rattle.text.proofs.Fields.{front-nothing}
-use Rattle.text.proofs.Packed.{packed-none, packed-turn}
+use Rattle.text.proofs.Packed.{packed-none, packed-turn, packed-fits}
 use Rattle.parse.proofs.Laws.{end-turn, end-comma, end-text, word-read, word-long}
 use Rattle.parse.proofs.first_word.Statement.{statement}
 use Rattle.parse.proofs.first_word.Tie as tie
@@ -16,7 +16,7 @@ use Rattle.parse.proofs.first_word.Lts as lts
 use Rattle.parse.proofs.wide.Reads as wide-reads
 
 abbrev Inv-loop : tie.InvT-loop
-Inv-loop body packed₀ i₀ packed i = (i ≤ length body) × (fields body ≡ before (take i body) (fields (drop i body))) × (packed ≡ packed-upto body i)
+Inv-loop body packed₀ i₀ packed i = (i ≤ length body) × (i ≤ 7) × (fields body ≡ before (take i body) (fields (drop i body))) × (packed ≡ packed-upto body i)
 
 abbrev μ-loop : tie.MeasureT-loop
 μ-loop body packed₀ i₀ packed i = length body - i
@@ -25,7 +25,7 @@ abbrev μ-loop : tie.MeasureT-loop
 loop-holds : tie.Need-loop-holds Inv-loop μ-loop
 loop-holds c =
     let s = c .before .args .body .now in
-    (search needs, sym (front-nothing s), sym (packed-none s))
+    (search needs, search needs, sym (front-nothing s), sym (packed-none s))
 
 -- src/lib.rt:78:12
 shared-slice-read-if1 : tie.Need-shared-slice-read-if1 Inv-loop μ-loop
@@ -36,19 +36,21 @@ returns : tie.Need-returns Inv-loop μ-loop
 returns c =
     let s = c .before .before .before .before .before .args .body .now in
     let l = c .before .before .before .loop in
-    word-read s (l .i) (l .inv .0) (l .packed) (λ i _. c .before .before .before .before .shared-slice-known .given i .fits) (l .inv .2)
-    (end-comma s (l .i) (l .inv .1) (omega arith) (c .if1 .taken))
+    word-read s (l .i) (l .inv .0) (l .packed) (λ i _. c .before .before .before .before .shared-slice-known .given i .fits) (l .inv .3)
+    (end-comma s (l .i) (l .inv .2) (omega arith) (c .if1 .taken))
 
 -- src/lib.rt:82:13
 returns-2 : tie.Need-returns-2 Inv-loop μ-loop
 returns-2 c =
     let s = c .before .before .before .before .before .before .args .body .now in
     let l = c .before .before .before .before .loop in
-    word-long s (l .i) (l .inv .1) (omega arith) (c .before .if1 .left) (omega arith)
+    word-long s (l .i) (l .inv .2) (omega arith) (c .before .if1 .left) (omega arith)
 
 -- src/lib.rt:84:18
 mul-packed : tie.Need-mul-packed Inv-loop μ-loop
-mul-packed c = search needs
+mul-packed c =
+    let l = c .before .before .before .before .loop in
+    omega (arith, l .inv .3, packed-fits (c .before .before .before .before .before .before .args .body .now) (λ i. c .before .before .before .before .before .shared-slice-known .given i .fits) (l .i) (omega arith))
 
 -- src/lib.rt:84:38
 shared-slice-read-wide : tie.Need-shared-slice-read-wide Inv-loop μ-loop
@@ -60,7 +62,14 @@ wide-requires c κs = search needs
 
 -- src/lib.rt:84:18
 add-packed : tie.Need-add-packed Inv-loop μ-loop
-add-packed c = search needs
+add-packed c =
+    let l = c .before .before .before .before .before .before .loop in
+    omega (
+      arith,
+      l .inv .3,
+      c .wide .ensures .1,
+      packed-fits (c .before .before .before .before .before .before .before .before .args .body .now) (λ i. c .before .before .before .before .before .before .before .shared-slice-known .given i .fits) (l .i) (omega arith),
+    )
 
 -- src/lib.rt:85:9
 add-i : tie.Need-add-i Inv-loop μ-loop
@@ -75,15 +84,15 @@ loop-again : tie.Need-loop-again Inv-loop μ-loop
 loop-again c =
     let s = c .before .before .before .before .before .before .before .before .args .body .now in
     let l = c .before .before .before .before .before .before .loop in
-    (omega arith, end-turn s (l .i) (l .inv .1) (omega arith) (c .before .before .before .if1 .left), omega (arith, packed-turn s (l .i), l .inv .2, c .wide .ensures .0))
+    (omega arith, omega arith, end-turn s (l .i) (l .inv .2) (omega arith) (c .before .before .before .if1 .left), omega (arith, packed-turn s (l .i), l .inv .3, c .wide .ensures .0))
 
 -- src/lib.rt:72:1
 returns-3 : tie.Need-returns-3 Inv-loop μ-loop
 returns-3 c =
     let s = c .before .before .before .args .body .now in
     let l = c .before .loop in
-    word-read s (l .i) (l .inv .0) (l .packed) (λ i _. c .before .before .shared-slice-known .given i .fits) (l .inv .2)
-    (end-text s (l .i) (l .inv .1) (omega arith))
+    word-read s (l .i) (l .inv .0) (l .packed) (λ i _. c .before .before .shared-slice-known .given i .fits) (l .inv .3)
+    (end-text s (l .i) (l .inv .2) (omega arith))
 
 pub first-word-spec : {M : Type 1} → statement M
 first-word-spec =
