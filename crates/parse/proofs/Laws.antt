@@ -170,7 +170,8 @@ module _ (s : List ℕ) (at i v : ℕ) (from : at ≤ i) (to : i ≤ length s) w
       → fields-from s at ≡ take (i - at) (drop at s) ∷ fields-from s (i + 1)
   shifted f =
       let n : at + (i - at + 1) ≡ i + 1 = omega arith in
-      from-within s at (omega arith) ∙ f ∙ ap (λ (l : List (List ℕ)). take (i - at) (drop at s) ∷ l) (from-from s at (i - at + 1) (omega arith) ∙ ap (fields-from s) n)
+      from-within s at (omega arith) ∙ f ∙ ap (λ (l : List (List ℕ)). take (i - at) (drop at s) ∷ l) (from-from s at (i - at + 1) (omega arith)
+      ∙ ap (fields-from s) n)
 
   module _ (inv : Spelling (drop at s) (i - at) v) where
     pub closed-comma : i < length s → getD s i 0 ≡ comma → Closed s at i v

@@ -6,35 +6,28 @@ use Rattle.decimal.proofs.Laws.{no-text, one-digit, leading-zero, no-le
 use borrow.Author.Needs.{needs}
 use Rattle.decimal.proofs.whole.Statement.{statement}
 use Rattle.decimal.proofs.whole.Tie as tie
-use Rattle.decimal.proofs.whole.Reads as reads
-use Rattle.decimal.proofs.whole.Lts as lts
 
--- src/lib.rt:41:9
 returns : tie.Need-returns
 unfolding answer
 returns c =
     let s = c .before .args .digits .now in
     rw (no-text s (omega arith))
 
--- src/lib.rt:44:9
 returns-2 : tie.Need-returns-2
 unfolding answer
 returns-2 c =
     let a = c .before .before .args in
     rw (one-digit (a .digits .now) (omega arith) ∙ c .before .before .pre)
 
--- src/lib.rt:46:8
 shared-slice-read-if3 : tie.Need-shared-slice-read-if3
 shared-slice-read-if3 c = search needs
 
--- src/lib.rt:47:9
 returns-3 : tie.Need-returns-3
 unfolding answer
 returns-3 c =
     let s = c .before .before .before .before .args .digits .now in
     rw (leading-zero s (omega arith) (c .if3 .taken))
 
--- src/lib.rt:36:1
 returns-4 : tie.Need-returns-4
 unfolding answer
 returns-4 c =

@@ -9,39 +9,28 @@ use Rattle.parse.proofs.Laws.{first-is, rest-is}
 use borrow.Author.Needs.{needs}
 use Rattle.parse.proofs.closed.Statement.{statement}
 use Rattle.parse.proofs.closed.Tie as tie
-use Rattle.parse.proofs.closed.Reads as reads
-use Rattle.parse.proofs.closed.Lts as lts
-use Rattle.decimal.proofs.whole.Reads as whole-reads
 
--- src/lib.rt:95:32
 sub-whole : tie.Need-sub-whole
 sub-whole c = search needs
 
--- src/lib.rt:95:32
 part-whole-start : tie.Need-part-whole-start
 part-whole-start c = search needs
 
--- src/lib.rt:95:32
 part-whole-end : tie.Need-part-whole-end
 part-whole-end c = search needs
 
--- src/lib.rt:95:9
 whole-requires : tie.Need-whole-requires
 whole-requires c κs = c .before .before .pre .value
 
--- src/lib.rt:97:23
 enum-known-whole : tie.Need-enum-known-whole
 enum-known-whole c = search needs
 
--- src/lib.rt:97:45
 add-t12 : tie.Need-add-t12
 add-t12 c = search needs
 
--- src/lib.rt:98:30
 enum-told : tie.Need-enum-told
 enum-told c = search needs
 
--- src/lib.rt:91:1
 returns : tie.Need-returns
 returns c =
     let b = c .before .before .before .before .before .before in
@@ -52,7 +41,6 @@ returns c =
     let n = answer-value (number-of text) (c .before .whole2 .given .0 .0) (sym (c .before .before .before .whole .ensures) ∙ c .before .whole2 .given .1) in
     (first-is (fields-from s (a .at)) (fields-from s (a .end + 1)) text f ∙ n, rest-is (fields-from s (a .at)) (fields-from s (a .end + 1)) text f)
 
--- src/lib.rt:91:1
 returns-2 : tie.Need-returns-2
 returns-2 c =
     let b = c .before .before .before .before .before in

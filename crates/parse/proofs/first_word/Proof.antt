@@ -1,5 +1,5 @@
 -- `parse::first_word` meets its contract.
-use mathlib.Core.Path.{_≡_, refl, sym, _∙_}
+use mathlib.Core.Path.{_≡_, sym}
 use Prim.Native.Nat.{_-_, _≤_}
 use native.Mathlib.Omega.{arith}
 use borrow.Author.Needs.{needs}
@@ -11,9 +11,6 @@ use Rattle.text.proofs.Packed.{packed-none, packed-turn, packed-fits}
 use Rattle.parse.proofs.Laws.{end-turn, end-comma, end-text, word-read, word-long}
 use Rattle.parse.proofs.first_word.Statement.{statement}
 use Rattle.parse.proofs.first_word.Tie as tie
-use Rattle.parse.proofs.first_word.Reads as reads
-use Rattle.parse.proofs.first_word.Lts as lts
-use Rattle.parse.proofs.wide.Reads as wide-reads
 
 abbrev Inv-loop : tie.InvT-loop
 Inv-loop body packed₀ i₀ packed i = (i ≤ length body) × (i ≤ 7) × (fields body ≡ before (take i body) (fields (drop i body))) × (packed ≡ packed-upto body i)
@@ -21,17 +18,14 @@ Inv-loop body packed₀ i₀ packed i = (i ≤ length body) × (i ≤ 7) × (fie
 abbrev μ-loop : tie.MeasureT-loop
 μ-loop body packed₀ i₀ packed i = length body - i
 
--- src/lib.rt:77:5
 loop-holds : tie.Need-loop-holds Inv-loop μ-loop
 loop-holds c =
     let s = c .before .args .body .now in
     (search needs, search needs, sym (front-nothing s), sym (packed-none s))
 
--- src/lib.rt:78:12
 shared-slice-read-if1 : tie.Need-shared-slice-read-if1 Inv-loop μ-loop
 shared-slice-read-if1 c = search needs
 
--- src/lib.rt:79:13
 returns : tie.Need-returns Inv-loop μ-loop
 returns c =
     let s = c .before .before .before .before .before .args .body .now in
@@ -39,54 +33,60 @@ returns c =
     word-read s (l .i) (l .inv .0) (l .packed) (λ i _. c .before .before .before .before .shared-slice-known .given i .fits) (l .inv .3)
     (end-comma s (l .i) (l .inv .2) (omega arith) (c .if1 .taken))
 
--- src/lib.rt:82:13
 returns-2 : tie.Need-returns-2 Inv-loop μ-loop
 returns-2 c =
     let s = c .before .before .before .before .before .before .args .body .now in
     let l = c .before .before .before .before .loop in
     word-long s (l .i) (l .inv .2) (omega arith) (c .before .if1 .left) (omega arith)
 
--- src/lib.rt:84:18
 mul-packed : tie.Need-mul-packed Inv-loop μ-loop
 mul-packed c =
+    let at-shared-slice-known = c .before .before .before .before .before in
     let l = c .before .before .before .before .loop in
-    omega (arith, l .inv .3, packed-fits (c .before .before .before .before .before .before .args .body .now) (λ i. c .before .before .before .before .before .shared-slice-known .given i .fits) (l .i) (omega arith))
+    omega (
+      arith,
+      l .inv .3,
+      packed-fits (c .before .before .before .before .before .before .args .body .now)
+          (λ i. at-shared-slice-known .shared-slice-known .given i .fits) (l .i) (omega arith),
+    )
 
--- src/lib.rt:84:38
 shared-slice-read-wide : tie.Need-shared-slice-read-wide Inv-loop μ-loop
 shared-slice-read-wide c = search needs
 
--- src/lib.rt:84:33
 wide-requires : tie.Need-wide-requires Inv-loop μ-loop
 wide-requires c κs = search needs
 
--- src/lib.rt:84:18
 add-packed : tie.Need-add-packed Inv-loop μ-loop
 add-packed c =
-    let l = c .before .before .before .before .before .before .loop in
+    let at-loop = c .before .before .before .before .before .before in
+    let at-shared-slice-known = at-loop .before in
+    let l = at-loop .loop in
     omega (
       arith,
       l .inv .3,
       c .wide .ensures .1,
-      packed-fits (c .before .before .before .before .before .before .before .before .args .body .now) (λ i. c .before .before .before .before .before .before .before .shared-slice-known .given i .fits) (l .i) (omega arith),
+      packed-fits (c .before .before .before .before .before .before .before .before .args .body .now)
+          (λ i. at-shared-slice-known .shared-slice-known .given i .fits) (l .i) (omega arith),
     )
 
--- src/lib.rt:85:9
 add-i : tie.Need-add-i Inv-loop μ-loop
 add-i c = search needs
 
--- src/lib.rt:77:5
 loop-less : tie.Need-loop-less Inv-loop μ-loop
 loop-less c = search needs
 
--- src/lib.rt:77:5
 loop-again : tie.Need-loop-again Inv-loop μ-loop
 loop-again c =
+    let at-loop = c .before .before .before .before .before .before in
     let s = c .before .before .before .before .before .before .before .before .args .body .now in
-    let l = c .before .before .before .before .before .before .loop in
-    (omega arith, omega arith, end-turn s (l .i) (l .inv .2) (omega arith) (c .before .before .before .if1 .left), omega (arith, packed-turn s (l .i), l .inv .3, c .wide .ensures .0))
+    let l = at-loop .loop in (
+      omega arith,
+      omega arith,
+      end-turn s (l .i) (l .inv .2) (omega arith) (c .before .before .before .if1 .left),
+      omega
+          (arith, packed-turn s (l .i), l .inv .3, c .wide .ensures .0),
+    )
 
--- src/lib.rt:72:1
 returns-3 : tie.Need-returns-3 Inv-loop μ-loop
 returns-3 c =
     let s = c .before .before .before .args .body .now in

@@ -11,10 +11,6 @@ use Rattle.parse.specs.Steps.{fields-from}
 use Rattle.parse.proofs.Laws.{from-past, first-of-none, Spelling, spelling-from, closed-comma, closed-end, number-turn, number-stop}
 use Rattle.parse.proofs.next_number.Statement.{statement}
 use Rattle.parse.proofs.next_number.Tie as tie
-use Rattle.parse.proofs.next_number.Reads as reads
-use Rattle.parse.proofs.next_number.Lts as lts
-use Rattle.decimal.proofs.push_digit.Reads as push-digit-reads
-use Rattle.parse.proofs.closed.Reads as closed-reads
 
 abbrev Inv-loop : tie.InvT-loop
 Inv-loop body at number₀ i₀ number i = (at ≤ i) × (i ≤ length body) × Spelling (drop at body) (i - at) number
@@ -22,50 +18,40 @@ Inv-loop body at number₀ i₀ number i = (at ≤ i) × (i ≤ length body) × 
 abbrev μ-loop : tie.MeasureT-loop
 μ-loop body at number₀ i₀ number i = length body - i
 
--- src/lib.rt:107:9
 returns : tie.Need-returns Inv-loop μ-loop
 returns c =
     let a = c .before .before .args in
     first-of-none (fields-from (a .body .now) (a .at)) (from-past (a .body .now) (a .at) (c .if1 .taken))
 
--- src/lib.rt:111:5
 loop-holds : tie.Need-loop-holds Inv-loop μ-loop
 loop-holds c =
     let a = c .before .before .args in
     (omega arith, omega arith, spelling-from (drop (a .at) (a .body .now)) (a .at))
 
--- src/lib.rt:112:12
 shared-slice-read-if2 : tie.Need-shared-slice-read-if2 Inv-loop μ-loop
 shared-slice-read-if2 c = search needs
 
--- src/lib.rt:113:13
 closed-requires : tie.Need-closed-requires Inv-loop μ-loop
 closed-requires c κs =
     let a = c .before .before .before .before .before .before .args in
     let l = c .before .before .before .loop in
     closed-comma (a .body .now) (a .at) (l .i) (l .number) (l .inv .0) (l .inv .1) (l .inv .2) (omega arith) (c .if2 .taken)
 
--- src/lib.rt:113:13
 returns-2 : tie.Need-returns-2 Inv-loop μ-loop
 returns-2 c = c .closed .ensures
 
--- src/lib.rt:115:48
 shared-slice-read-push-digit : tie.Need-shared-slice-read-push-digit Inv-loop μ-loop
 shared-slice-read-push-digit c = search needs
 
--- src/lib.rt:115:13
 push-digit-requires : tie.Need-push-digit-requires Inv-loop μ-loop
 push-digit-requires c κs = search needs
 
--- src/lib.rt:116:27
 enum-known-next : tie.Need-enum-known-next Inv-loop μ-loop
 enum-known-next c = search needs
 
--- src/lib.rt:117:13
 enum-told : tie.Need-enum-told Inv-loop μ-loop
 enum-told c = search needs
 
--- src/lib.rt:117:13
 returns-3 : tie.Need-returns-3 Inv-loop μ-loop
 returns-3 c =
     let a = c .before .before .before .before .before .before .before .before .before .before .args in
@@ -75,33 +61,30 @@ returns-3 c =
     answer-malformed (push (l .number) (getD s (l .i) 0)) (sym (c .before .before .push-digit .ensures) ∙ c .enum-told .given .1) in
     number-stop s (a .at) (l .i) (l .number) (l .inv .0) (l .inv .1) (l .inv .2) (omega arith) (c .before .before .before .before .if2 .left) e
 
--- src/lib.rt:120:9
 add-i : tie.Need-add-i Inv-loop μ-loop
 add-i c = search needs
 
--- src/lib.rt:111:5
 loop-less : tie.Need-loop-less Inv-loop μ-loop
 loop-less c = search needs
 
--- src/lib.rt:111:5
 loop-again : tie.Need-loop-again Inv-loop μ-loop
 loop-again c =
+    let at-if2 = c .before .before .before .before .before in
+    let at-loop = at-if2 .before .before .before in
     let a = c .before .before .before .before .before .before .before .before .before .before .before .args in
     let s = a .body .now in
-    let l = c .before .before .before .before .before .before .before .before .loop in
+    let l = at-loop .loop in
     let w = c .before .next .given .0 .0 in
     let e : push (l .number) (getD s (l .i) 0) ≡ some w =
     answer-value (push (l .number) (getD s (l .i) 0)) w (sym (c .before .before .before .push-digit .ensures) ∙ c .before .next .given .1) in
-    (omega arith, omega arith, number-turn s (a .at) (l .i) (l .number) (l .inv .0) (l .inv .1) (l .inv .2) (omega arith) (c .before .before .before .before .before .if2 .left) w e)
+    (omega arith, omega arith, number-turn s (a .at) (l .i) (l .number) (l .inv .0) (l .inv .1) (l .inv .2) (omega arith) (at-if2 .if2 .left) w e)
 
--- src/lib.rt:122:5
 closed-requires-2 : tie.Need-closed-requires-2 Inv-loop μ-loop
 closed-requires-2 c κs =
     let a = c .before .before .before .before .args in
     let l = c .before .loop in
     closed-end (a .body .now) (a .at) (l .i) (l .number) (l .inv .0) (l .inv .1) (l .inv .2) (omega arith)
 
--- src/lib.rt:103:1
 returns-4 : tie.Need-returns-4 Inv-loop μ-loop
 returns-4 c = c .closed2 .ensures
 

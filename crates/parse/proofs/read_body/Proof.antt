@@ -10,30 +10,32 @@ use Rattle.rules.specs.Event.{kind-at}
 use Rattle.text.specs.Table.{kind-number}
 use Rattle.text.proofs.Laws.{form-ok, row-numbers, row-payload}
 use Rattle.parse.specs.Steps.{fields-from, Three}
-use Rattle.parse.proofs.Laws.{Named, word-of, no-word, unknown, unnamed, Row, body-wrong, body-plain, body-missing, body-extra, body-loaded}
-use Rattle.parse.proofs.Laws.{body-spoilt, from-within, from-past, part-all}
+use Rattle.parse.proofs.Laws.{Named, word-of, no-word, unknown, unnamed, Row, from-within, from-past, part-all}
+use Rattle.parse.proofs.Laws.{body-wrong, body-plain, body-missing, body-extra, body-loaded, body-spoilt}
 use borrow.Author.Needs.{needs}
 use Rattle.parse.proofs.read_body.Statement.{statement}
 use Rattle.parse.proofs.read_body.Tie as tie
-use Rattle.parse.proofs.read_body.Reads as reads
-use Rattle.parse.proofs.read_body.Lts as lts
-use Rattle.hex.proofs.is_bytes.Reads as is-bytes-reads
-use Rattle.parse.proofs.first_word.Reads as first-word-reads
-use Rattle.parse.proofs.numbers_from.Reads as numbers-from-reads
-use Rattle.text.proofs.find_kind.Reads as find-kind-reads
-use Rattle.text.proofs.shape_of.Reads as shape-of-reads
 
 -- the text, the fields after its word, and what is known of them once the kind's row is at hand
 abbrev text : tie.After-shape-of → List ℕ
 text c = c .before .before .before .before .before .before .before .before .args .body .now
 
+abbrev size : tie.After-shape-of → ℕ
+size c = c .before .before .before .before .before .before .before .before .args .size
+
 abbrev others : tie.After-shape-of → List (List ℕ)
 others c = fields-from (text c) (c .before .before .before .before .word .given .0 .1 .0 + 1)
 
-named : (c : tie.After-shape-of) → Named (text c) (c .before .before .before .before .word .given .0 .0) (c .before .before .before .before .word .given .0 .1 .0)
+abbrev word : tie.After-shape-of → ℕ
+word c = c .before .before .before .before .word .given .0 .0
+
+abbrev end : tie.After-shape-of → ℕ
+end c = c .before .before .before .before .word .given .0 .1 .0
+
+named : (c : tie.After-shape-of) → Named (text c) (word c) (end c)
 named c =
-    let w = c .before .before .before .before .word .given in
-    word-of (text c) (w .0 .0) (w .0 .1 .0) (c .before .before .before .before .before .before .first-word .result) (c .before .before .before .before .before .before .first-word .ensures) (w .1)
+    let r = c .before .before .before .before .before .before .first-word in
+    word-of (text c) (word c) (end c) (r .result) (r .ensures) (c .before .before .before .before .word .given .1)
 
 row : (c : tie.After-shape-of)
     → Row (text c) (others c) (c .before .before .find-kind .result) (c .shape-of .result .numbers) (c .shape-of .result .payload)
@@ -47,47 +49,39 @@ row c =
       payload = row-payload (kind-at (k .result)) (c .shape-of .result) (c .shape-of .ensures);
     }
 
--- src/lib.rt:181:9
 first-word-requires : tie.Need-first-word-requires
 first-word-requires c κs = search needs
 
--- src/lib.rt:182:22
 enum-known-word : tie.Need-enum-known-word
 enum-known-word c = search needs
 
--- src/lib.rt:183:9
 enum-told : tie.Need-enum-told
 enum-told c = search needs
 
--- src/lib.rt:183:9
 returns : tie.Need-returns
 returns c =
     let a = c .before .before .before .before .args in
     unnamed (a .size) _ (no-word (a .body .now) (c .before .before .first-word .result) (c .before .before .first-word .ensures) (c .enum-told .given .1))
 
--- src/lib.rt:185:9
 find-kind-requires : tie.Need-find-kind-requires
 find-kind-requires c κs = search needs
 
--- src/lib.rt:187:9
 returns-2 : tie.Need-returns-2
 returns-2 c =
+    let at-first-word = c .before .before .before .before .before in
     let a = c .before .before .before .before .before .before .before .args in
     let w = c .before .before .before .word .given in
-    let n = word-of (a .body .now) (w .0 .0) (w .0 .1 .0) (c .before .before .before .before .before .first-word .result) (c .before .before .before .before .before .first-word .ensures) (w .1) in
+    let n = word-of (a .body .now) (w .0 .0) (w .0 .1 .0) (at-first-word .first-word .result) (at-first-word .first-word .ensures) (w .1) in
     unknown (a .size) _ (ap kind-number (n .kind) ∙ sym (c .before .find-kind .ensures .0) ∙ c .if1 .taken)
 
--- src/lib.rt:189:9
 shape-of-requires : tie.Need-shape-of-requires
 shape-of-requires c κs = search needs
 
--- src/lib.rt:192:38
 add-numbers-from : tie.Need-add-numbers-from
 add-numbers-from c =
     let w = named c .within in
     omega arith
 
--- src/lib.rt:192:9
 numbers-from-requires : tie.Need-numbers-from-requires
 numbers-from-requires c κs =
     let k = c .before .before .find-kind .result in
@@ -95,21 +89,17 @@ numbers-from-requires c κs =
     let f : kind-at k .numbers ≤ 3 = form-ok k (row c .least) (c .before .before .find-kind .ensures .1) .few in
     omega arith
 
--- src/lib.rt:193:25
 enum-known-numbers : tie.Need-enum-known-numbers
 enum-known-numbers c = search needs
 
--- src/lib.rt:194:9
 enum-told-2 : tie.Need-enum-told-2
 enum-told-2 c = search needs
 
--- src/lib.rt:194:9
 returns-3 : tie.Need-returns-3
 returns-3 c =
     let h = c .before .before .before in
-    body-wrong (h .before .before .before .before .before .before .before .before .args .size) (text h) (others h) _ _ _ (row h) (rw (c .enum-told2 .given .1) at (c .before .before .numbers-from .ensures))
+    body-wrong (size h) (text h) (others h) _ _ _ (row h) (rw (c .enum-told2 .given .1) at (c .before .before .numbers-from .ensures))
 
--- src/lib.rt:198:13
 returns-4 : tie.Need-returns-4
 returns-4 c =
     let h = c .before .before .before .before .before .before in
@@ -117,31 +107,26 @@ returns-4 c =
     let next = m .0 .1 .1 .1 .0 in
     let t : Three (h .shape-of .result .numbers) (others h) (m .0 .0) (m .0 .1 .0) (m .0 .1 .1 .0) (fields-from (text h) next) =
     rw (m .1) at (c .before .before .before .before .before .numbers-from .ensures) in
-    body-missing (h .before .before .before .before .before .before .before .before .args .size) (text h) (others h) _ _ _ (row h) _ _ _ _ t (c .before .if2 .taken) (from-past (text h) next (c .if3 .taken))
+    body-missing (size h) (text h) (others h) _ _ _ (row h) _ _ _ _ t (c .before .if2 .taken) (from-past (text h) next (c .if3 .taken))
 
--- src/lib.rt:200:26
 sub-is-bytes : tie.Need-sub-is-bytes
 sub-is-bytes c = search needs
 
--- src/lib.rt:200:26
 part-is-bytes-start : tie.Need-part-is-bytes-start
 part-is-bytes-start c = search needs
 
--- src/lib.rt:200:26
 part-is-bytes-end : tie.Need-part-is-bytes-end
 part-is-bytes-end c = search needs
 
--- src/lib.rt:200:12
 is-bytes-requires : tie.Need-is-bytes-requires
 is-bytes-requires c κs = search needs
 
--- src/lib.rt:201:13
 returns-5 : tie.Need-returns-5
 returns-5 c =
     let h = c .before .before .before .before .before .before .before .before .before in
     let m = c .before .before .before .before .before .before .numbers .given in
     let next = m .0 .1 .1 .1 .0 in
-    let S = h .before .before .before .before .before .before .before .before .args .size in
+    let S = size h in
     let s = text h in
     let t : Three (h .shape-of .result .numbers) (others h) (m .0 .0) (m .0 .1 .0) (m .0 .1 .1 .0) (fields-from s next) =
     rw (m .1) at (c .before .before .before .before .before .before .before .before .numbers-from .ensures) in
@@ -153,20 +138,18 @@ returns-5 c =
       hexadecimal = d;
     }
 
--- src/lib.rt:209:9
 returns-6 : tie.Need-returns-6
 returns-6 c =
     let h = c .before .before .before .before .before .before .before .before .before in
     let m = c .before .before .before .before .before .before .numbers .given in
     let next = m .0 .1 .1 .1 .0 in
-    let S = h .before .before .before .before .before .before .before .before .args .size in
+    let S = size h in
     let s = text h in
     let t : Three (h .shape-of .result .numbers) (others h) (m .0 .0) (m .0 .1 .0) (m .0 .1 .1 .0) (fields-from s next) =
     rw (m .1) at (c .before .before .before .before .before .before .before .before .numbers-from .ensures) in
     let d : spells-bytes S (drop next s) ≡ false = ap (spells-bytes S) (sym (part-all s next)) ∙ sym (c .before .is-bytes .ensures) ∙ c .if4 .left in
     body-spoilt S s (others h) _ _ _ (row h) _ _ _ _ t (drop next s) (from-within s next (omega arith)) (c .before .before .before .before .if2 .taken) d
 
--- src/lib.rt:212:9
 returns-7 : tie.Need-returns-7
 returns-7 c =
     let h = c .before .before .before .before .before .before in
@@ -174,9 +157,8 @@ returns-7 c =
     let next = m .0 .1 .1 .1 .0 in
     let t : Three (h .shape-of .result .numbers) (others h) (m .0 .0) (m .0 .1 .0) (m .0 .1 .1 .0) (fields-from (text h) next) =
     rw (m .1) at (c .before .before .before .before .before .numbers-from .ensures) in
-    body-plain (h .before .before .before .before .before .before .before .before .args .size) (text h) (others h) _ _ _ (row h) _ _ _ _ t (c .before .if2 .left) (from-past (text h) next (c .if5 .taken))
+    body-plain (size h) (text h) (others h) _ _ _ (row h) _ _ _ _ t (c .before .if2 .left) (from-past (text h) next (c .if5 .taken))
 
--- src/lib.rt:178:1
 returns-8 : tie.Need-returns-8
 returns-8 c =
     let h = c .before .before .before .before .before .before in
@@ -185,7 +167,7 @@ returns-8 c =
     let s = text h in
     let t : Three (h .shape-of .result .numbers) (others h) (m .0 .0) (m .0 .1 .0) (m .0 .1 .1 .0) (fields-from s next) =
     rw (m .1) at (c .before .before .before .before .before .numbers-from .ensures) in
-    body-extra (h .before .before .before .before .before .before .before .before .args .size) s (others h) _ _ _ (row h) _ _ _ _ t (drop next s) (from-within s next (omega arith)) (c .before .if2 .left)
+    body-extra (size h) s (others h) _ _ _ (row h) _ _ _ _ t (drop next s) (from-within s next (omega arith)) (c .before .if2 .left)
 
 pub read-body-spec : {M : Type 1} → statement M
 read-body-spec =

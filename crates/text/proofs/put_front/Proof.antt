@@ -11,9 +11,6 @@ use Rattle.area.specs.Area.{onto}
 use Rattle.area.proofs.Laws.{onto-then, onto-nothing}
 use Rattle.text.proofs.put_front.Statement.{statement}
 use Rattle.text.proofs.put_front.Tie as tie
-use Rattle.text.proofs.put_front.Reads as reads
-use Rattle.text.proofs.put_front.Lts as lts
-use Rattle.area.proofs.put.Reads as put-reads
 
 abbrev Inv-loop : tie.InvT-loop
 Inv-loop word area₀ i₀ area i = (i ≤ length word) × (length area ≡ length area₀) × (area ≡ onto 0 (take i word) area₀)
@@ -21,27 +18,21 @@ Inv-loop word area₀ i₀ area i = (i ≤ length word) × (length area ≡ leng
 abbrev μ-loop : tie.MeasureT-loop
 μ-loop word area₀ i₀ area i = length word - i
 
--- src/lib.rt:102:5
 loop-holds : tie.Need-loop-holds Inv-loop μ-loop
 loop-holds c = (search needs, refl, sym (onto-nothing 0 (c .before .before .args .area .now)))
 
--- src/lib.rt:103:28
 shared-slice-read-put : tie.Need-shared-slice-read-put Inv-loop μ-loop
 shared-slice-read-put c = search needs
 
--- src/lib.rt:103:9
 put-requires : tie.Need-put-requires Inv-loop μ-loop
 put-requires c κs = search needs
 
--- src/lib.rt:104:9
 add-i : tie.Need-add-i Inv-loop μ-loop
 add-i c = search needs
 
--- src/lib.rt:102:5
 loop-less : tie.Need-loop-less Inv-loop μ-loop
 loop-less c = search needs
 
--- src/lib.rt:102:5
 loop-again : tie.Need-loop-again Inv-loop μ-loop
 loop-again c =
     let a = c .before .before .before .before .before .before .before .before .before .args in
@@ -55,11 +46,9 @@ loop-again c =
           ∙ ap (λ (t : List ℕ). onto 0 t (a .area .now)) (sym (take-suc w (l .i) 0 (omega arith)) ∙ ap (λ (k : ℕ). take k w) (sym (add-one (l .i)))),
     )
 
--- src/lib.rt:97:1
 same-length : tie.Need-same-length Inv-loop μ-loop
 same-length c = c .before .loop .inv .1
 
--- src/lib.rt:97:1
 returns : tie.Need-returns Inv-loop μ-loop
 returns c =
     let a = c .before .before .before .before .args in

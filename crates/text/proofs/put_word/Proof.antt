@@ -412,8 +412,9 @@ slice-aggregate-put-front-22 c = search needs
 put-front-requires-22 : tie.Need-put-front-requires-22
 unfolding ascii kinds kind-at Passed
 put-front-requires-22 c κs =
-    let s = c .before .before .before .before in
-    word-fits 22 (s .args .kind) (length (s .args .area .now)) (last-kind _ 21 (c .before .before .before .before .pre .0) (c .before .before .before .before .pre .1) (c .before .before .match .rest)) (s .pre .2)
+    let m = c .before .before in
+    let s = m .before .before in
+    word-fits 22 (s .args .kind) (length (s .args .area .now)) (last-kind _ 21 (s .pre .0) (s .pre .1) (m .match .rest)) (s .pre .2)
 
 same-length-22 : tie.Need-same-length-22
 same-length-22 c = search needs
@@ -421,9 +422,10 @@ same-length-22 c = search needs
 returns-22 : tie.Need-returns-22
 unfolding ascii kinds kind-at Passed
 returns-22 c =
-    let a = c .before .before .before .before .before .before .before .args in
+    let m = c .before .before .before .before .before in
+    let s = m .before .before in
     let p = c .before .before .put-front22 in
-    word-is 22 (a .kind) _ (a .area .now) _ (last-kind _ 21 (c .before .before .before .before .before .before .before .pre .0) (c .before .before .before .before .before .before .before .pre .1) (c .before .before .before .before .before .match .rest)) (p .ensures)
+    word-is 22 (s .args .kind) _ (s .args .area .now) _ (last-kind _ 21 (s .pre .0) (s .pre .1) (m .match .rest)) (p .ensures)
 
 pub put-word-spec : {M : Type 1} → statement M
 put-word-spec =
