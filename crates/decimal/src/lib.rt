@@ -12,7 +12,7 @@ pub enum Number {
     Malformed,
 }
 
-// A number with one more digit. Below a tenth of 2^64 every digit fits, so that a division is rare.
+// A number with one more digit. Below the tenth of 2^64 every digit fits; after it, up to 5.
 pub fn push_digit(number: u64, b: u8) -> Number
     ensures { λ r. ⌜ r ≡ answer (push number b) ⌝ }
 {
@@ -26,7 +26,10 @@ pub fn push_digit(number: u64, b: u8) -> Number
     if number < 0x1999_9999_9999_9999 {
         return Number::Value(10 * number + d);
     }
-    if (0xffff_ffff_ffff_ffff - d) / 10 < number {
+    if 0x1999_9999_9999_9999 < number {
+        return Number::Malformed;
+    }
+    if 5 < d {
         return Number::Malformed;
     }
     Number::Value(10 * number + d)

@@ -112,10 +112,10 @@ fn write_line(kind: usize, a: u64, b: u64, c: u64, data: &[u8], line: &mut [u8])
     requires { ⌜ (1 ≤ kind) × (kind ≤ kind-count) × (length (line-of (parts-from kind a b c (now «data»))) ≤ length (now line)) ⌝ }
     ensures { λ _. ⌜ now (line .exit) ≡ onto 0 (line-of (parts-from kind a b c (now («data» .entry)))) (now (line .entry)) ⌝ }
 {
+    let at = text::put_word(kind, line);
     let shape = text::shape_of(kind);
     let count = shape.numbers;
     let payload = shape.payload;
-    let at = text::put_word(kind, line);
     let next = put_numbers(a, b, c, count, line, at);
     if payload {
         let end = put_data(data, line, next);

@@ -20,13 +20,13 @@ fronted : (c : tie.After-put-numbers)
     (c .before .before .before .before .before .before .before .before .before .args .c)
     (c .before .before .before .before .before .before .before .before .before .args .«data» .now)
     (c .before .before .before .before .before .before .before .before .before .args .line .now)
-    (c .before .before .before .before .put-word .last .1 .0) (c .put-numbers .last .1 .1 .1 .1 .0) (c .before .before .before .before .put-word .result)
+    (c .before .before .before .before .before .put-word .last .1 .0) (c .put-numbers .last .1 .1 .1 .1 .0) (c .before .before .before .before .before .put-word .result)
     (c .put-numbers .result)
 fronted c =
     let s = c .before .before .before .before .before .before .before .before .before in
-    let r = c .before .before .before .before .before .before .shape-of in
+    let r = c .before .before .shape-of in
     let rn = row-numbers (kind-at (s .args .kind)) (r .result) (r .ensures) in
-    let w = c .before .before .before .before .put-word in
+    let w = c .before .before .before .before .before .put-word in
     let n = c .put-numbers in
     record {
       fits = s .pre .2;
@@ -39,26 +39,26 @@ fronted c =
 
 payload : (c : tie.After-put-numbers)
     → kind-at (c .before .before .before .before .before .before .before .before .before .args .kind) .payload
-    ≡ c .before .before .before .before .before .before .shape-of .result .payload
+    ≡ c .before .before .shape-of .result .payload
 payload c =
     let s = c .before .before .before .before .before .before .before .before .before in
-    let r = c .before .before .before .before .before .before .shape-of in sym (row-payload (kind-at (s .args .kind)) (r .result) (r .ensures))
-
-shape-of-requires : tie.Need-shape-of-requires
-shape-of-requires c κs = search needs
+    let r = c .before .before .shape-of in sym (row-payload (kind-at (s .args .kind)) (r .result) (r .ensures))
 
 put-word-requires : tie.Need-put-word-requires
 put-word-requires c κs =
-    let s = c .before .before .before .before in
+    let s = c .before .before .before in
     let len = line-length (s .args .kind) (s .args .a) (s .args .b) (s .args .c) (s .args .«data» .now) in
     (s .pre .0, s .pre .1, omega (arith, s .pre .2))
+
+shape-of-requires : tie.Need-shape-of-requires
+shape-of-requires c κs = search needs
 
 put-numbers-requires : tie.Need-put-numbers-requires
 put-numbers-requires c κs =
     let s = c .before .before .before .before .before .before .before .before in
     let a = s .args in
-    let r = c .before .before .before .before .before .shape-of in
-    let w = c .before .before .before .put-word in
+    let r = c .before .shape-of in
+    let w = c .before .before .before .before .put-word in
     let kept = w .kept .1 .0 in
     let len = line-length (a .kind) (a .a) (a .b) (a .c) (a .«data» .now) in
     let texts = ap (λ (n : ℕ). length (number-texts n (a .a) (a .b) (a .c))) (row-numbers (kind-at (a .kind)) (r .result) (r .ensures)) in
@@ -103,9 +103,9 @@ returns c =
     let q = c .before .before .before .before .before .before .put-data in
     let p = c .before .before .put in
     loaded-line (a .kind) (a .a) (a .b) (a .c) d (a .line .now)
-    (c .before .before .before .before .before .before .before .before .before .before .before .before .before .before .before .put-word .last .1 .0)
+    (c .before .before .before .before .before .before .before .before .before .before .before .before .before .before .before .before .put-word .last .1 .0)
     (c .before .before .before .before .before .before .before .before .before .before .before .put-numbers .last .1 .1 .1 .1 .0)
-    (c .before .before .before .before .before .before .before .before .before .before .before .before .before .before .before .put-word .result)
+    (c .before .before .before .before .before .before .before .before .before .before .before .before .before .before .before .before .put-word .result)
     (c .before .before .before .before .before .before .before .before .before .before .before .put-numbers .result) f (q .last .1 .0) (p .last .0)
     (q .result) pay (q .ensures .1) (q .ensures .0) (p .ensures)
 
@@ -131,17 +131,17 @@ returns-2 c =
     payload (c .before .before .before .before .before .before .before) ∙ c .before .before .before .before .if1 .left in
     let len = plain-length (a .kind) (a .a) (a .b) (a .c) d pay in
     plain-line (a .kind) (a .a) (a .b) (a .c) d (a .line .now)
-    (c .before .before .before .before .before .before .before .before .before .before .before .put-word .last .1 .0)
+    (c .before .before .before .before .before .before .before .before .before .before .before .before .put-word .last .1 .0)
     (c .before .before .before .before .before .before .before .put-numbers .last .1 .1 .1 .1 .0)
-    (c .before .before .before .before .before .before .before .before .before .before .before .put-word .result)
+    (c .before .before .before .before .before .before .before .before .before .before .before .before .put-word .result)
     (c .before .before .before .before .before .before .before .put-numbers .result) f (c .before .before .put2 .last .0) pay (c .before .before .put2 .ensures)
 
 pub write-line-spec : {M : Type 1} → statement M
 write-line-spec =
     tie.close
     (tie.spec
-    shape-of-requires
     put-word-requires
+    shape-of-requires
     put-numbers-requires
     put-data-requires
     put-requires
