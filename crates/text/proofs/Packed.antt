@@ -4,19 +4,19 @@ use mathlib.Core.Bool.{Bool, true}
 use mathlib.Core.List.{List, [], _∷_}
 use mathlib.Core.Option.{Option, some, none}
 use Prim.Native.Nat.{ℕ, zero, suc, _+_, _*_, _^_, _≤_, _<_}
-use native.Mathlib.Nat.{pow-suc}
+use native.Mathlib.Nat.{add-zero, pow-suc}
 use native.Mathlib.Numerals.{add-one}
 use native.Mathlib.Omega.{arith}
 use borrow.Author.Tests.{eq-eqb, ne-eqb, ltb-true}
 use lib.Dec.{eqb, ltb}
-use lib.ListN.{length, getD}
+use lib.ListN.{length, getD, drop}
 use lib.Seq.{ext-getD}
 use Rattle.lists.specs.Tests.{_and_, all-below, every}
 use Rattle.lists.proofs.Tests.{by, by-lt, clash, and-l, and-r, all-at}
-use Rattle.rules.specs.Event.{kind-count, ascii, Kind, kinds, no-kind, kind-at}
+use Rattle.rules.specs.Event.{kind-count, ascii, Kind, kinds, no-kind}
 use Rattle.text.specs.Words.{same-bytes, kind-from, kind-of-word, packed-upto, packed, packed-from, kind-of-packed}
 use Rattle.text.specs.Table.{kind-number}
-use Rattle.text.proofs.Laws.{same-refl, same-eq, form-ok, kinds-count, kind-some, Passed, passed-at}
+use Rattle.text.proofs.Laws.{same-refl, same-eq, form-ok, kind-some, Passed, passed-at}
 
 abbrev pub Bytes : List ℕ → ℕ → Type 0
 Bytes w n = (i : ℕ) → i < n → getD w i 0 < 256
@@ -116,17 +116,29 @@ too-long w h =
     let n = form-ok k (q .least) (q .most) .short in
     omega (arith, h, n, ap length (q .word)))
 
--- ---- the code's match on the number
+-- ---- the code's comparisons with the fixed words
 
-pub number-is : (k p key : ℕ) → p ≡ key → k ≡ kind-number (kind-of-packed key) → k ≤ kind-count → (k ≡ kind-number (kind-of-packed p)) × (k ≤ kind-count)
-number-is k p key e h g = (rw e h, g)
+pub number-is : (k p key : ℕ) (find : ℕ → Option ℕ) → p ≡ key → k ≡ kind-number (find key) → k ≤ kind-count → (k ≡ kind-number (find p)) × (k ≤ kind-count)
+number-is k p key find e h g = (rw e h, g)
 
-none-from : (fs : List Kind) (k p : ℕ) → ((i : ℕ) → i < length fs → p ≡ packed (getD fs i no-kind .word) → ⊥) → packed-from k fs p ≡ none
+-- past the first n forms, where none of them has the word
+skipped : (fs : List Kind) (k n p : ℕ) → ((i : ℕ) → i < n → p ≡ packed (getD fs i no-kind .word) → ⊥) → packed-from k fs p ≡ packed-from (k + n) (drop n fs) p
 unfolding packed-from
-none-from [] k p h = refl
-none-from (f ∷ fs) k p h =
-    rw (ne-eqb p (packed (f .word)) (h 0 (omega arith)), none-from fs (suc k) p (λ i q. h (suc i) (omega arith)))
+skipped fs k zero p h = rw add-zero
+skipped [] k (suc n) p h = refl
+skipped (f ∷ fs) k (suc n) p h =
+    let e : suc k + n ≡ k + suc n = omega arith in
+    rw (ne-eqb p (packed (f .word)) (h 0 (omega arith))) (rw e at (skipped fs (suc k) n p (λ i q. h (suc i) (omega arith))))
 
-pub no-number : (p : ℕ) → Passed (λ k. packed (kind-at k .word)) p kind-count → 0 ≡ kind-number (kind-of-packed p)
-unfolding kind-of-packed kind-number kind-at
-no-number p h = rw (none-from kinds 1 p (λ i q. passed-at (λ k. packed (kind-at k .word)) p kind-count i h (omega (arith, q, kinds-count))))
+-- the kinds after the first n, counted from 1
+unfoldable pub row-after : ℕ → ℕ → Kind
+row-after n zero = no-kind
+row-after n (suc i) = getD (drop n kinds) i no-kind
+
+pub past-rows : (n k m p : ℕ) → Passed (λ j. packed (row-after n j .word)) p m
+    → packed-from k (drop n kinds) p ≡ packed-from (k + m) (drop m (drop n kinds)) p
+unfolding row-after
+past-rows n k m p h = skipped (drop n kinds) k m p (λ i q. passed-at (λ j. packed (row-after n j .word)) p m i h q)
+
+pub other : {p r key : ℕ} → (p ≡ r → ⊥) → r ≡ key → p ≡ key → ⊥
+other f e q = f (q ∙ sym e)

@@ -1,10 +1,10 @@
 // The kinds of event and their words: looked up and written.
 ghost use mathlib.Core.Path.{_≡_};
-ghost use Prim.Native.Nat.{_≤_};
-ghost use lib.ListN.{length};
+ghost use Prim.Native.Nat.{_≤_, _<_};
+ghost use lib.ListN.{length, drop};
 ghost use Rattle.area.specs.Area.{onto};
-ghost use Rattle.rules.specs.Event.{kind-count, kind-at};
-ghost use Rattle.text.specs.Words.{kind-of-packed};
+ghost use Rattle.rules.specs.Event.{kind-count, kinds, kind-at};
+ghost use Rattle.text.specs.Words.{packed, packed-from, kind-of-packed};
 ghost use Rattle.text.specs.Lines.{is-line};
 ghost use Rattle.text.specs.Table.{shape-of, kind-number};
 
@@ -62,35 +62,104 @@ pub fn shape_of(kind: usize) -> Shape
     }
 }
 
-// The kind that a word stands for, or 0; the word comes as one number, a 1 and its bytes.
-pub fn find_kind(packed: u64) -> usize
-    ensures { λ r. ⌜ (r ≡ kind-number (kind-of-packed packed)) × (r ≤ kind-count) ⌝ }
+fn wide(b: u8) -> u64
+    ensures { λ r. ⌜ (r ≡ b) × (r < 256) ⌝ }
 {
-    match packed {
-        0x0170_7574 => 1, // put
-        0x0001_636f_7079 => 2, // copy
-        0x0173_6176_656c_6f67 => 3, // savelog
-        0x016d_6170 => 4, // map
-        0x0001_7365_6e64 => 5, // send
-        0x0164_656c_6976_6572 => 6, // deliver
-        0x0001_6472_6f70 => 7, // drop
-        0x0173_6176_656d_6170 => 8, // savemap
-        0x0001_646f_6e65 => 9, // done
-        0x0167_6574 => 10, // get
-        0x0161_6261_6e64_6f6e => 11, // abandon
-        0x016c_6561_726e => 12, // learn
-        0x0172_6573_6574 => 13, // reset
-        0x0163_7261_7368 => 14, // crash
-        0x0001_6c6f_7365 => 15, // lose
-        0x0001_7269_7365 => 16, // rise
-        0x0001_6a6f_696e => 17, // join
-        0x0001_7669_6577 => 18, // view
-        0x0166_6574_6368 => 19, // fetch
-        0x0172_6561_6479 => 20, // ready
-        0x0001_6d65_6e64 => 21, // mend
-        0x0163_6f6c_6c65_6374 => 22, // collect
-        _ => 0,
+    b as u64
+}
+
+// A word as one number, a 1 and its bytes; of a fixed word it is a constant in the compiled code.
+fn pack(word: &[u8]) -> u64
+    requires { ⌜ length (now word) ≤ 7 ⌝ }
+    ensures { λ r. ⌜ r ≡ packed (now (word .entry)) ⌝ }
+{
+    let mut n: u64 = 1;
+    let mut i = 0;
+    while i < word.len() {
+        n = 256 * n + wide(word[i]);
+        i += 1;
     }
+    n
+}
+
+// The kind that a word stands for, or 0; the word comes packed.
+pub fn find_kind(word: u64) -> usize
+    ensures { λ r. ⌜ (r ≡ kind-number (kind-of-packed word)) × (r ≤ kind-count) ⌝ }
+{
+    if word == pack(b"put") {
+        return 1;
+    }
+    if word == pack(b"copy") {
+        return 2;
+    }
+    if word == pack(b"savelog") {
+        return 3;
+    }
+    if word == pack(b"map") {
+        return 4;
+    }
+    if word == pack(b"send") {
+        return 5;
+    }
+    if word == pack(b"deliver") {
+        return 6;
+    }
+    if word == pack(b"drop") {
+        return 7;
+    }
+    if word == pack(b"savemap") {
+        return 8;
+    }
+    if word == pack(b"done") {
+        return 9;
+    }
+    if word == pack(b"get") {
+        return 10;
+    }
+    if word == pack(b"abandon") {
+        return 11;
+    }
+    find_later(word)
+}
+
+// The same among the kinds from 12 on.
+fn find_later(word: u64) -> usize
+    ensures { λ r. ⌜ (r ≡ kind-number (packed-from 12 (drop 11 kinds) word)) × (r ≤ kind-count) ⌝ }
+{
+    if word == pack(b"learn") {
+        return 12;
+    }
+    if word == pack(b"reset") {
+        return 13;
+    }
+    if word == pack(b"crash") {
+        return 14;
+    }
+    if word == pack(b"lose") {
+        return 15;
+    }
+    if word == pack(b"rise") {
+        return 16;
+    }
+    if word == pack(b"join") {
+        return 17;
+    }
+    if word == pack(b"view") {
+        return 18;
+    }
+    if word == pack(b"fetch") {
+        return 19;
+    }
+    if word == pack(b"ready") {
+        return 20;
+    }
+    if word == pack(b"mend") {
+        return 21;
+    }
+    if word == pack(b"collect") {
+        return 22;
+    }
+    0
 }
 
 // A word at the front of an area; how long it is.

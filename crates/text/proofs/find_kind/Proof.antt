@@ -1,130 +1,227 @@
 -- `text::find_kind` meets its contract.
-use mathlib.Core.Path.{refl}
+use mathlib.Core.Path.{refl, sym, ap, _∙_}
 use native.Mathlib.Omega.{arith}
-use Rattle.rules.specs.Event.{ascii, kinds, kind-at}
+use lib.ListN.{drop}
+use Rattle.rules.specs.Event.{ascii, kinds}
 use Rattle.text.specs.Words.{packed-upto, packed, packed-from, kind-of-packed}
 use Rattle.text.specs.Table.{kind-number}
 use Rattle.text.proofs.Laws.{Passed}
-use Rattle.text.proofs.Packed.{number-is, no-number}
+use Rattle.text.proofs.Packed.{number-is, row-after, past-rows, other}
+use borrow.Author.Needs.{needs}
 use Rattle.text.proofs.find_kind.Statement.{statement}
 use Rattle.text.proofs.find_kind.Tie as tie
 
+slice-aggregate-pack : tie.Need-slice-aggregate-pack
+slice-aggregate-pack c = search needs
+
+pack-requires : tie.Need-pack-requires
+pack-requires c κs = search needs
+
 returns : tie.Need-returns
 unfolding ascii kinds packed-upto packed packed-from kind-of-packed kind-number
-returns c = number-is 1 (c .before .args .packed) 24147316 (omega arith) refl (omega arith)
+returns c =
+    number-is 1 (c .before .before .before .args .word) 24147316 kind-of-packed (c .if1 .taken ∙ c .before .pack .ensures) refl (omega arith)
+
+slice-aggregate-pack-2 : tie.Need-slice-aggregate-pack-2
+slice-aggregate-pack-2 c = search needs
+
+pack-requires-2 : tie.Need-pack-requires-2
+pack-requires-2 c κs = search needs
 
 returns-2 : tie.Need-returns-2
 unfolding ascii kinds packed-upto packed packed-from kind-of-packed kind-number
-returns-2 c = number-is 2 (c .before .args .packed) 5963214969 (omega arith) refl (omega arith)
+returns-2 c =
+    number-is 2 (c .before .before .before .before .before .before .args .word) 5963214969 kind-of-packed (c .if2 .taken ∙ c .before .pack2 .ensures) refl (omega arith)
+
+slice-aggregate-pack-3 : tie.Need-slice-aggregate-pack-3
+slice-aggregate-pack-3 c = search needs
+
+pack-requires-3 : tie.Need-pack-requires-3
+pack-requires-3 c κs = search needs
 
 returns-3 : tie.Need-returns-3
 unfolding ascii kinds packed-upto packed packed-from kind-of-packed kind-number
-returns-3 c = number-is 3 (c .before .args .packed) 104534377495293799 (omega arith) refl (omega arith)
+returns-3 c =
+    number-is 3 (c .before .before .before .before .before .before .before .before .before .args .word) 104534377495293799 kind-of-packed (c .if3 .taken ∙ c .before .pack3 .ensures) refl (omega arith)
+
+slice-aggregate-pack-4 : tie.Need-slice-aggregate-pack-4
+slice-aggregate-pack-4 c = search needs
+
+pack-requires-4 : tie.Need-pack-requires-4
+pack-requires-4 c κs = search needs
 
 returns-4 : tie.Need-returns-4
 unfolding ascii kinds packed-upto packed packed-from kind-of-packed kind-number
-returns-4 c = number-is 4 (c .before .args .packed) 23945584 (omega arith) refl (omega arith)
+returns-4 c =
+    number-is 4 (c .before .before .before .before .before .before .before .before .before .before .before .before .args .word) 23945584 kind-of-packed (c .if4 .taken ∙ c .before .pack4 .ensures) refl (omega arith)
+
+slice-aggregate-pack-5 : tie.Need-slice-aggregate-pack-5
+slice-aggregate-pack-5 c = search needs
+
+pack-requires-5 : tie.Need-pack-requires-5
+pack-requires-5 c κs = search needs
 
 returns-5 : tie.Need-returns-5
 unfolding ascii kinds packed-upto packed packed-from kind-of-packed kind-number
-returns-5 c = number-is 5 (c .before .args .packed) 6230994532 (omega arith) refl (omega arith)
+returns-5 c =
+    number-is 5 (c .before .before .before .before .before .before .before .before .before .before .before .before .before .before .before .args .word) 6230994532 kind-of-packed (c .if5 .taken ∙ c .before .pack5 .ensures) refl (omega arith)
+
+slice-aggregate-pack-6 : tie.Need-slice-aggregate-pack-6
+slice-aggregate-pack-6 c = search needs
+
+pack-requires-6 : tie.Need-pack-requires-6
+pack-requires-6 c κs = search needs
 
 returns-6 : tie.Need-returns-6
 unfolding ascii kinds packed-upto packed packed-from kind-of-packed kind-number
-returns-6 c = number-is 6 (c .before .args .packed) 100316608009233778 (omega arith) refl (omega arith)
+returns-6 c =
+    number-is 6 (c .before .before .before .before .before .before .before .before .before .before .before .before .before .before .before .before .before .before .args .word) 100316608009233778 kind-of-packed (c .if6 .taken ∙ c .before .pack6 .ensures) refl (omega arith)
+
+slice-aggregate-pack-7 : tie.Need-slice-aggregate-pack-7
+slice-aggregate-pack-7 c = search needs
+
+pack-requires-7 : tie.Need-pack-requires-7
+pack-requires-7 c κs = search needs
 
 returns-7 : tie.Need-returns-7
 unfolding ascii kinds packed-upto packed packed-from kind-of-packed kind-number
-returns-7 c = number-is 7 (c .before .args .packed) 5980188528 (omega arith) refl (omega arith)
+returns-7 c =
+    number-is 7 (c .before .before .before .before .before .before .before .before .before .before .before .before .before .before .before .before .before .before .before .before .before .args .word) 5980188528 kind-of-packed (c .if7 .taken ∙ c .before .pack7 .ensures) refl (omega arith)
+
+slice-aggregate-pack-8 : tie.Need-slice-aggregate-pack-8
+slice-aggregate-pack-8 c = search needs
+
+pack-requires-8 : tie.Need-pack-requires-8
+pack-requires-8 c κs = search needs
 
 returns-8 : tie.Need-returns-8
 unfolding ascii kinds packed-upto packed packed-from kind-of-packed kind-number
-returns-8 c = number-is 8 (c .before .args .packed) 104534377495355760 (omega arith) refl (omega arith)
+returns-8 c =
+    number-is 8 (c .before .before .before .before .before .before .before .before .before .before .before .before .before .before .before .before .before .before .before .before .before .before .before .before .args .word) 104534377495355760 kind-of-packed (c .if8 .taken ∙ c .before .pack8 .ensures) refl (omega arith)
+
+slice-aggregate-pack-9 : tie.Need-slice-aggregate-pack-9
+slice-aggregate-pack-9 c = search needs
+
+pack-requires-9 : tie.Need-pack-requires-9
+pack-requires-9 c κs = search needs
 
 returns-9 : tie.Need-returns-9
 unfolding ascii kinds packed-upto packed packed-from kind-of-packed kind-number
-returns-9 c = number-is 9 (c .before .args .packed) 5979991653 (omega arith) refl (omega arith)
+returns-9 c =
+    number-is 9 (c .before .before .before .before .before .before .before .before .before .before .before .before .before .before .before .before .before .before .before .before .before .before .before .before .before .before .before .args .word) 5979991653 kind-of-packed (c .if9 .taken ∙ c .before .pack9 .ensures) refl (omega arith)
+
+slice-aggregate-pack-10 : tie.Need-slice-aggregate-pack-10
+slice-aggregate-pack-10 c = search needs
+
+pack-requires-10 : tie.Need-pack-requires-10
+pack-requires-10 c κs = search needs
 
 returns-10 : tie.Need-returns-10
 unfolding ascii kinds packed-upto packed packed-from kind-of-packed kind-number
-returns-10 c = number-is 10 (c .before .args .packed) 23553396 (omega arith) refl (omega arith)
+returns-10 c =
+    number-is 10 (c .before .before .before .before .before .before .before .before .before .before .before .before .before .before .before .before .before .before .before .before .before .before .before .before .before .before .before .before .before .before .args .word) 23553396 kind-of-packed (c .if10 .taken ∙ c .before .pack10 .ensures) refl (omega arith)
+
+slice-aggregate-pack-11 : tie.Need-slice-aggregate-pack-11
+slice-aggregate-pack-11 c = search needs
+
+pack-requires-11 : tie.Need-pack-requires-11
+pack-requires-11 c κs = search needs
 
 returns-11 : tie.Need-returns-11
 unfolding ascii kinds packed-upto packed packed-from kind-of-packed kind-number
-returns-11 c = number-is 11 (c .before .args .packed) 99468837382287214 (omega arith) refl (omega arith)
+returns-11 c =
+    number-is 11 (c .before .before .before .before .before .before .before .before .before .before .before .before .before .before .before .before .before .before .before .before .before .before .before .before .before .before .before .before .before .before .before .before .before .args .word) 99468837382287214 kind-of-packed (c .if11 .taken ∙ c .before .pack11 .ensures) refl (omega arith)
+
+find-later-requires : tie.Need-find-later-requires
+find-later-requires c κs = search needs
 
 returns-12 : tie.Need-returns-12
-unfolding ascii kinds packed-upto packed packed-from kind-of-packed kind-number
-returns-12 c = number-is 12 (c .before .args .packed) 1565068980846 (omega arith) refl (omega arith)
-
-returns-13 : tie.Need-returns-13
-unfolding ascii kinds packed-upto packed packed-from kind-of-packed kind-number
-returns-13 c = number-is 13 (c .before .args .packed) 1590839960948 (omega arith) refl (omega arith)
-
-returns-14 : tie.Need-returns-14
-unfolding ascii kinds packed-upto packed packed-from kind-of-packed kind-number
-returns-14 c = number-is 14 (c .before .args .packed) 1526632379240 (omega arith) refl (omega arith)
-
-returns-15 : tie.Need-returns-15
-unfolding ascii kinds packed-upto packed packed-from kind-of-packed kind-number
-returns-15 c = number-is 15 (c .before .args .packed) 6114210661 (omega arith) refl (omega arith)
-
-returns-16 : tie.Need-returns-16
-unfolding ascii kinds packed-upto packed packed-from kind-of-packed kind-number
-returns-16 c = number-is 16 (c .before .args .packed) 6214480741 (omega arith) refl (omega arith)
-
-returns-17 : tie.Need-returns-17
-unfolding ascii kinds packed-upto packed packed-from kind-of-packed kind-number
-returns-17 c = number-is 17 (c .before .args .packed) 6080653678 (omega arith) refl (omega arith)
-
-returns-18 : tie.Need-returns-18
-unfolding ascii kinds packed-upto packed packed-from kind-of-packed kind-number
-returns-18 c = number-is 18 (c .before .args .packed) 6281586039 (omega arith) refl (omega arith)
-
-returns-19 : tie.Need-returns-19
-unfolding ascii kinds packed-upto packed packed-from kind-of-packed kind-number
-returns-19 c = number-is 19 (c .before .args .packed) 1539300418408 (omega arith) refl (omega arith)
-
-returns-20 : tie.Need-returns-20
-unfolding ascii kinds packed-upto packed packed-from kind-of-packed kind-number
-returns-20 c = number-is 20 (c .before .args .packed) 1590838781049 (omega arith) refl (omega arith)
-
-returns-21 : tie.Need-returns-21
-unfolding ascii kinds packed-upto packed packed-from kind-of-packed kind-number
-returns-21 c = number-is 21 (c .before .args .packed) 6130331236 (omega arith) refl (omega arith)
-
-returns-22 : tie.Need-returns-22
-unfolding ascii kinds packed-upto packed packed-from kind-of-packed kind-number
-returns-22 c = number-is 22 (c .before .args .packed) 100046128198017908 (omega arith) refl (omega arith)
-
-returns-23 : tie.Need-returns-23
-unfolding ascii kinds kind-at packed-upto packed Passed
-returns-23 c = (no-number (c .before .args .packed) (c .match .rest), omega arith)
+unfolding ascii kinds packed-upto packed kind-of-packed row-after Passed
+returns-12 c =
+    let c11 = c .before in
+    let c10 = c11 .before .before .before in
+    let c9 = c10 .before .before .before in
+    let c8 = c9 .before .before .before in
+    let c7 = c8 .before .before .before in
+    let c6 = c7 .before .before .before in
+    let c5 = c6 .before .before .before in
+    let c4 = c5 .before .before .before in
+    let c3 = c4 .before .before .before in
+    let c2 = c3 .before .before .before in
+    let c1 = c2 .before .before .before in
+    let p = c1 .before .before .before .args .word in
+    let passed : Passed (λ j. packed (row-after 0 j .word)) p 11 = (
+      (
+        (
+          (
+            (
+              (
+                (
+                  (
+                    (
+                      (
+                        (
+                          tt,
+                          other (c1 .if1 .left) (c1 .before .pack .ensures),
+                        ),
+                        other (c2 .if2 .left) (c2 .before .pack2 .ensures),
+                      ),
+                      other (c3 .if3 .left) (c3 .before .pack3 .ensures),
+                    ),
+                    other (c4 .if4 .left) (c4 .before .pack4 .ensures),
+                  ),
+                  other (c5 .if5 .left) (c5 .before .pack5 .ensures),
+                ),
+                other (c6 .if6 .left) (c6 .before .pack6 .ensures),
+              ),
+              other (c7 .if7 .left) (c7 .before .pack7 .ensures),
+            ),
+            other (c8 .if8 .left) (c8 .before .pack8 .ensures),
+          ),
+          other (c9 .if9 .left) (c9 .before .pack9 .ensures),
+        ),
+        other (c10 .if10 .left) (c10 .before .pack10 .ensures),
+      ),
+      other (c11 .if11 .left) (c11 .before .pack11 .ensures),
+    ) in
+    (c .find-later .ensures .0 ∙ ap kind-number (sym (past-rows 0 1 11 p passed)), c .find-later .ensures .1)
 
 pub find-kind-spec : {M : Type 1} → statement M
 find-kind-spec =
     tie.close
     (tie.spec
+    slice-aggregate-pack
+    pack-requires
     returns
+    slice-aggregate-pack-2
+    pack-requires-2
     returns-2
+    slice-aggregate-pack-3
+    pack-requires-3
     returns-3
+    slice-aggregate-pack-4
+    pack-requires-4
     returns-4
+    slice-aggregate-pack-5
+    pack-requires-5
     returns-5
+    slice-aggregate-pack-6
+    pack-requires-6
     returns-6
+    slice-aggregate-pack-7
+    pack-requires-7
     returns-7
+    slice-aggregate-pack-8
+    pack-requires-8
     returns-8
+    slice-aggregate-pack-9
+    pack-requires-9
     returns-9
+    slice-aggregate-pack-10
+    pack-requires-10
     returns-10
+    slice-aggregate-pack-11
+    pack-requires-11
     returns-11
-    returns-12
-    returns-13
-    returns-14
-    returns-15
-    returns-16
-    returns-17
-    returns-18
-    returns-19
-    returns-20
-    returns-21
-    returns-22
-    returns-23)
+    find-later-requires
+    returns-12)
