@@ -1,24 +1,55 @@
 -- A log in one pass along its positions.
 use mathlib.Core.Path.{_≡_, refl, sym, ap, _∙_}
 use mathlib.Core.List.{List, []}
-use mathlib.Core.Bool.{Bool, true, false}
-use Prim.Native.Nat.{ℕ, zero, suc, _+_, _*_, _-_, _/_, _≤_, _<_}
+use mathlib.Core.Bool.{Bool, true, false, cond}
+use Prim.Native.Nat.{ℕ, zero, suc, _+_, _*_, _-_, _/_, _^_, _≤_, _<_}
 use native.Mathlib.Numerals.{add-one}
 use native.Mathlib.Omega.{arith}
+use lib.Dec.{ltb}
 use lib.ListN.{length, getD}
-use borrow.Author.Tests.{lt-ltb, le-ltb, le-leb}
+use borrow.Author.Tests.{lt-ltb, le-ltb, le-leb, ltb-true}
 use Rattle.lists.specs.Tests.{all-below}
-use Rattle.lists.proofs.Tests.{by-eq, clash, and-l, and-r, both, same-test, all-true, all-at, no-first, no-second, every-by, every-at}
+use Rattle.lists.proofs.Tests.{by-eq, by-lt, clash, and-l, and-r, both, same-test, all-true, all-false, all-at, no-first, no-second, every-by, every-at}
 use Rattle.lists.proofs.Lists.{getD-map-in}
 use Rattle.rules.specs.declared.settings.Settings.{Settings}
+use Rattle.rules.specs.Numbers.{sequences, home-of, sequence-of}
 use Rattle.rules.specs.Chunks.{Chunk, chunk}
 use Rattle.log.specs.Log.{row-key, row-saved, position-at, key-by, rises-at, stored, to-chunk, read-log, log-dec, good-log, IsLog}
-use Rattle.log.specs.Steps.{good-order}
+use Rattle.log.specs.Steps.{row-good, good-order}
 use Rattle.log.proofs.Chunks.{length-read, read-key, reach}
 use Rattle.log.proofs.Codec.{dec-length}
 use Rattle.log.proofs.Check.{good-over, is-log, good-in-order, row-far, row-flag, row-fine, row-key-by, order-all}
 use Rattle.layout.specs.Layout.{log-codec, log-words}
-use Rattle.checks.specs.Chunks.{key-before, row-passes, log-good}
+use Rattle.checks.specs.Rows.{key-below}
+use Rattle.checks.specs.Chunks.{Under, FloorUnder, key-before, row-passes, log-good}
+
+-- ---- floors
+module _ (limits : List ℕ) (key : ℕ) (y : key-below limits key ≡ true) where
+  -- from a key that passes down, all keys of its id pass
+  passes-down : (k : ℕ) → home-of key * sequences ≤ k → k ≤ key → key-below limits k ≡ true
+  unfolding key-below
+  passes-down k l h =
+      let e : home-of k ≡ home-of key = omega arith in
+      let s : sequence-of k ≤ sequence-of key = omega arith in
+      let t : sequence-of key < getD limits (home-of key) 0 = ltb-true _ _ y in
+      lt-ltb (sequence-of k) (getD limits (home-of k) 0) (rw e (omega arith))
+
+  -- no brick has id 0
+  pub has-home : getD limits 0 0 ≡ 0 → 0 < home-of key
+  unfolding key-below
+  has-home z =
+      let t : sequence-of key < getD limits (home-of key) 0 = ltb-true _ _ y in
+      by-eq (home-of key) 0 (λ _ q. absurd (omega (arith, rw (q, z) at t))) (λ _ q. omega arith)
+
+  pub floor-new : (floor : ℕ) → 0 < home-of key → FloorUnder (key-below limits) floor key (home-of key * sequences - 1)
+  floor-new floor p = record { passes = λ _ _ k l h. passes-down k (omega arith) h; fails = λ l. absurd (omega arith) }
+
+module _ (good : ℕ → Bool) (floor key : ℕ) where
+  pub floor-kept : floor < key → FloorUnder good floor key floor
+  floor-kept h = record { passes = λ _ u. u; fails = λ l. absurd (omega arith) }
+
+  pub floor-none : good key ≡ false → FloorUnder good floor key key
+  floor-none n = record { passes = λ l. absurd (omega arith); fails = λ _. n }
 
 -- ---- what one turn tells of the row at position j
 module _ (good : ℕ → Bool) (L n : ℕ) (ws : List ℕ) (j p : ℕ) (e : p ≡ position-at L ws j) where
@@ -34,23 +65,9 @@ module _ (good : ℕ → Bool) (L n : ℕ) (ws : List ℕ) (j p : ℕ) (e : p �
     by : k ≡ key-by L ws j
     by = row-key-by L n ws j p e k ek
 
-    pub pass-low : (last : ℕ) → last ≡ key-before L ws j → k ≤ last → row-passes good L n ws j ≡ false
-    unfolding row-passes
-    pass-low last el h = no-first _ _ (no-second _ _ (rw (← by, ← el) (le-ltb last k h)))
-
     pub pass-key : good k ≡ false → row-passes good L n ws j ≡ false
     unfolding row-passes
     pass-key g = no-second _ _ (rw (← by) g)
-
-    pub pass-fine : p < n → (s : ℕ) → s ≡ row-saved ws p → s ≤ 1 → (last : ℕ) → last ≡ key-before L ws j → last < k → good k ≡ true
-        → row-passes good L n ws j ≡ true
-    unfolding row-passes
-    pass-fine h s q f last el l g =
-        both _ _ (both _ _ (row-fine L n ws j p e h (rw (← q) f)) (rw (← by, ← el) (lt-ltb last k l))) (rw (← by) g)
-
-    pub pass-next : k ≡ key-before L ws (j + 1)
-    unfolding key-before
-    pass-next = rw (add-one j) by
 
 -- ---- the pass is the log's test and a test of each key
 -- keys above the one before, the first above 0
@@ -59,6 +76,73 @@ ascends : (L n : ℕ) (ws : List ℕ) (good : ℕ → Bool) → good 0 ≡ false
 unfolding key-before
 ascends L n ws good z g r zero h = by-eq (key-by L ws 0) 0 (λ _ q. clash z (rw q at (g 0 h))) (λ _ q. omega arith)
 ascends L n ws good z g r (suc j) h = r j h
+
+-- ---- the pass from the last position to the first
+-- the key at position i; past the last, above every key
+unfoldable pub key-after : ℕ → ℕ → List ℕ → ℕ → ℕ
+key-after L n ws i = cond (ltb i n) (key-by L ws i) (2 ^ 64)
+
+-- the positions from i on pass, and so does every key above the floor and at most the top
+pub record Passing (good : ℕ → Bool) (L n : ℕ) (ws : List ℕ) (top floor i : ℕ) : Type 0 where
+  pub inside : i ≤ n
+  pub next : suc top ≡ key-after L n ws i
+  pub under : Under good floor top
+  pub rows : (k : ℕ) → i ≤ k → k < n → row-good L n ws k ≡ true
+  pub rises : (k : ℕ) → i ≤ k → k < n → key-by L ws k < key-after L n ws (suc k)
+  pub keys : (k : ℕ) → i ≤ k → k < n → good (key-by L ws k) ≡ true
+
+module _ (good : ℕ → Bool) (L n : ℕ) (ws : List ℕ) where
+  after-in : (i : ℕ) → i < n → key-after L n ws i ≡ key-by L ws i
+  unfolding key-after
+  after-in i h = rw (lt-ltb i n h)
+
+  after-end : (i : ℕ) → n ≤ i → key-after L n ws i ≡ 2 ^ 64
+  unfolding key-after
+  after-end i h = rw (le-ltb i n h)
+
+  pub pass-start : Passing good L n ws 0xffffffffffffffff 0xffffffffffffffff n
+  pass-start =
+      record {
+        inside = omega arith;
+        next = sym (after-end n (omega arith));
+        under = λ k l h. absurd (omega arith);
+        rows = λ k l h. absurd (omega arith);
+        rises = λ k l h. absurd (omega arith);
+        keys = λ k l h. absurd (omega arith);
+      }
+
+  falls : (j i : ℕ) → i ≡ suc j → key-by L ws i ≤ key-by L ws j → row-passes good L n ws i ≡ false
+  unfolding row-passes key-before
+  falls j i q h = rw q (no-first _ _ (no-second _ _ (le-ltb _ _ (rw q at h))))
+
+  module _ (top floor i : ℕ) (v : Passing good L n ws top floor i) where
+    -- a key above the top: not below the next
+    pub pass-high : 0 < i → (k : ℕ) → k ≡ key-by L ws (i - 1) → k < 2 ^ 64 → top < k → all-below n (row-passes good L n ws) ≡ false
+    pass-high p k e s h =
+        by-lt i n (λ _ l. all-false n (row-passes good L n ws) i l (falls (i - 1) i (omega arith) (let q = after-in i l in omega (arith, v .next, q, e))))
+        (λ _ l. let q = after-end i l in absurd (omega (arith, v .next, q)))
+
+    pub pass-turn : 0 < i → row-good L n ws (i - 1) ≡ true → (k : ℕ) → k ≡ key-by L ws (i - 1) → k ≤ top → (r : ℕ) → FloorUnder good floor k r → r < k → 0 < k
+        → Passing good L n ws (k - 1) r (i - 1)
+    pass-turn p g k e h r f l o =
+        let u : Under good r k = f .passes l (λ j a b. v .under j a (omega arith)) in
+        let back : suc (i - 1) ≡ i = omega arith in
+        record {
+          inside = omega (arith, v .inside);
+          next = (let q : suc (k - 1) ≡ k = omega arith in q ∙ e ∙ sym (after-in (i - 1) (omega (arith, v .inside))));
+          under = λ j a b. u j a (omega arith);
+          rows = λ j a b. by-eq j (i - 1) (λ _ q. rw q g) (λ _ q. v .rows j (omega arith) b);
+          rises = λ j a b. by-eq j (i - 1) (λ _ q. rw (q, back, ← v .next, ← e) (omega arith)) (λ _ q. v .rises j (omega arith) b);
+          keys = λ j a b. by-eq j (i - 1) (λ _ q. rw (q, ← e) (u k l (omega arith))) (λ _ q. v .keys j (omega arith) b);
+        }
+
+  pub pass-end : (top floor : ℕ) → Passing good L n ws top floor 0 → good 0 ≡ false → all-below n (row-passes good L n ws) ≡ true
+  unfolding row-passes
+  pass-end top floor v z =
+      let up : (j : ℕ) → suc j < n → key-by L ws j < key-by L ws (suc j) = λ j h. rw (after-in (suc j) h) at (v .rises j (omega arith) (omega arith)) in
+      let fine : (j : ℕ) → j < n → good (key-by L ws j) ≡ true = λ j h. v .keys j (omega arith) h in
+      all-true n (row-passes good L n ws)
+      (λ j h. both _ _ (both _ _ (v .rows j (omega arith) h) (lt-ltb _ _ (ascends L n ws good z fine up j h))) (fine j h))
 
 abbrev no-chunk : Chunk
 no-chunk = chunk 0 false []

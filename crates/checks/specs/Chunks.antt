@@ -1,8 +1,8 @@
 -- What the check tests of a chunk log.
 use mathlib.Core.Path.{_≡_}
 use mathlib.Core.List.{List}
-use mathlib.Core.Bool.{Bool}
-use Prim.Native.Nat.{ℕ, zero, suc, _+_, _*_, _≤_}
+use mathlib.Core.Bool.{Bool, true, false}
+use Prim.Native.Nat.{ℕ, zero, suc, _+_, _*_, _≤_, _<_}
 use lib.Dec.{ltb}
 use lib.ListN.{length, getD}
 use Rattle.lists.specs.Tests.{_and_, every}
@@ -27,7 +27,20 @@ row-passes good chunks n ws j = row-good chunks n ws j and ltb (key-before chunk
 unfoldable pub log-good : Settings → (ℕ → Bool) → List ℕ → Bool
 log-good c good ws = good-log (c .chunks) ws and every (λ x. good (x .key)) (log-codec c .dec ws)
 
+-- every key above the floor and at most the top passes
+abbrev pub Under : (ℕ → Bool) → ℕ → ℕ → Type 0
+Under good floor top = (k : ℕ) → floor < k → k ≤ top → good k ≡ true
+
+-- r is the floor under a key: below the key just where it passes
+pub record FloorUnder (good : ℕ → Bool) (floor key r : ℕ) : Type 0 where
+  pub passes : r < key → Under good floor key → Under good r key
+  pub fails : key ≤ r → good key ≡ false
+
 -- no brick has id 0
+pub record FloorFit (limits : List ℕ) : Type 0 where
+  pub known : length limits ≡ ids
+  pub none : getD limits 0 0 ≡ 0
+
 pub record PassFit (limits : List ℕ) (bytes chunks n : ℕ) : Type 0 where
   pub known : length limits ≡ ids
   pub none : getD limits 0 0 ≡ 0
