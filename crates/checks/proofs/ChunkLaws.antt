@@ -21,12 +21,12 @@ use Rattle.log.proofs.Codec.{dec-length}
 use Rattle.log.proofs.Check.{good-over, is-log, good-in-order, row-far, row-flag, row-fine, row-key-by, order-all}
 use Rattle.layout.specs.Layout.{log-codec, log-words}
 use Rattle.checks.specs.Rows.{key-below}
-use Rattle.checks.specs.Chunks.{Under, FloorUnder, key-before, row-passes, log-good}
+use Rattle.checks.specs.Chunks.{Descent, key-before, row-passes, log-good}
 
--- ---- floors
+-- ---- keys of one id
 module _ (limits : List ℕ) (key : ℕ) (y : key-below limits key ≡ true) where
   -- from a key that passes down, all keys of its id pass
-  passes-down : (k : ℕ) → home-of key * sequences ≤ k → k ≤ key → key-below limits k ≡ true
+  pub passes-down : (k : ℕ) → home-of key * sequences ≤ k → k ≤ key → key-below limits k ≡ true
   unfolding key-below
   passes-down k l h =
       let e : home-of k ≡ home-of key = omega arith in
@@ -40,16 +40,6 @@ module _ (limits : List ℕ) (key : ℕ) (y : key-below limits key ≡ true) whe
   has-home z =
       let t : sequence-of key < getD limits (home-of key) 0 = ltb-true _ _ y in
       by-eq (home-of key) 0 (λ _ q. absurd (omega (arith, rw (q, z) at t))) (λ _ q. omega arith)
-
-  pub floor-new : (floor : ℕ) → 0 < home-of key → FloorUnder (key-below limits) floor key (home-of key * sequences - 1)
-  floor-new floor p = record { passes = λ _ _ k l h. passes-down k (omega arith) h; fails = λ l. absurd (omega arith) }
-
-module _ (good : ℕ → Bool) (floor key : ℕ) where
-  pub floor-kept : floor < key → FloorUnder good floor key floor
-  floor-kept h = record { passes = λ _ u. u; fails = λ l. absurd (omega arith) }
-
-  pub floor-none : good key ≡ false → FloorUnder good floor key key
-  floor-none n = record { passes = λ l. absurd (omega arith); fails = λ _. n }
 
 -- ---- what one turn tells of the row at position j
 module _ (good : ℕ → Bool) (L n : ℕ) (ws : List ℕ) (j p : ℕ) (e : p ≡ position-at L ws j) where
@@ -82,11 +72,10 @@ ascends L n ws good z g r (suc j) h = r j h
 unfoldable pub key-after : ℕ → ℕ → List ℕ → ℕ → ℕ
 key-after L n ws i = cond (ltb i n) (key-by L ws i) (2 ^ 64)
 
--- the positions from i on pass, and so does every key above the floor and at most the top
-pub record Passing (good : ℕ → Bool) (L n : ℕ) (ws : List ℕ) (top floor i : ℕ) : Type 0 where
+-- the positions from i on pass, and the key at i is the one after the top
+pub record Passing (good : ℕ → Bool) (L n : ℕ) (ws : List ℕ) (top i : ℕ) : Type 0 where
   pub inside : i ≤ n
   pub next : suc top ≡ key-after L n ws i
-  pub under : Under good floor top
   pub rows : (k : ℕ) → i ≤ k → k < n → row-good L n ws k ≡ true
   pub rises : (k : ℕ) → i ≤ k → k < n → key-by L ws k < key-after L n ws (suc k)
   pub keys : (k : ℕ) → i ≤ k → k < n → good (key-by L ws k) ≡ true
@@ -100,12 +89,11 @@ module _ (good : ℕ → Bool) (L n : ℕ) (ws : List ℕ) where
   unfolding key-after
   after-end i h = rw (le-ltb i n h)
 
-  pub pass-start : Passing good L n ws 0xffffffffffffffff 0xffffffffffffffff n
+  pub pass-start : Passing good L n ws 0xffffffffffffffff n
   pass-start =
       record {
         inside = omega arith;
         next = sym (after-end n (omega arith));
-        under = λ k l h. absurd (omega arith);
         rows = λ k l h. absurd (omega arith);
         rises = λ k l h. absurd (omega arith);
         keys = λ k l h. absurd (omega arith);
@@ -115,34 +103,66 @@ module _ (good : ℕ → Bool) (L n : ℕ) (ws : List ℕ) where
   unfolding row-passes key-before
   falls j i q h = rw q (no-first _ _ (no-second _ _ (le-ltb _ _ (rw q at h))))
 
-  module _ (top floor i : ℕ) (v : Passing good L n ws top floor i) where
+  module _ (top i : ℕ) (v : Passing good L n ws top i) (p : 0 < i) (k : ℕ) (e : k ≡ key-by L ws (i - 1)) where
     -- a key above the top: not below the next
-    pub pass-high : 0 < i → (k : ℕ) → k ≡ key-by L ws (i - 1) → k < 2 ^ 64 → top < k → all-below n (row-passes good L n ws) ≡ false
-    pass-high p k e s h =
+    pub pass-high : k < 2 ^ 64 → top < k → all-below n (row-passes good L n ws) ≡ false
+    pass-high s h =
         by-lt i n (λ _ l. all-false n (row-passes good L n ws) i l (falls (i - 1) i (omega arith) (let q = after-in i l in omega (arith, v .next, q, e))))
         (λ _ l. let q = after-end i l in absurd (omega (arith, v .next, q)))
 
-    pub pass-turn : 0 < i → row-good L n ws (i - 1) ≡ true → (k : ℕ) → k ≡ key-by L ws (i - 1) → k ≤ top → (r : ℕ) → FloorUnder good floor k r → r < k → 0 < k
-        → Passing good L n ws (k - 1) r (i - 1)
-    pass-turn p g k e h r f l o =
-        let u : Under good r k = f .passes l (λ j a b. v .under j a (omega arith)) in
+    -- one position, and all that descend from it above a floor
+    pub pass-turn : row-good L n ws (i - 1) ≡ true → k ≤ top → (floor r key : ℕ) → ((m : ℕ) → floor < m → m ≤ k → good m ≡ true)
+        → Descent L n ws floor (i - 1) r key → Passing good L n ws (key - 1) r
+    pass-turn g h floor r key u d =
+        let q : suc (key - 1) ≡ key = omega (arith, d .above) in
         let back : suc (i - 1) ≡ i = omega arith in
+        let under : key ≤ k = omega (arith, d .under, e) in
         record {
-          inside = omega (arith, v .inside);
-          next = (let q : suc (k - 1) ≡ k = omega arith in q ∙ e ∙ sym (after-in (i - 1) (omega (arith, v .inside))));
-          under = λ j a b. u j a (omega arith);
-          rows = λ j a b. by-eq j (i - 1) (λ _ q. rw q g) (λ _ q. v .rows j (omega arith) b);
-          rises = λ j a b. by-eq j (i - 1) (λ _ q. rw (q, back, ← v .next, ← e) (omega arith)) (λ _ q. v .rises j (omega arith) b);
-          keys = λ j a b. by-eq j (i - 1) (λ _ q. rw (q, ← e) (u k l (omega arith))) (λ _ q. v .keys j (omega arith) b);
+          inside = omega (arith, v .inside, d .inside);
+          next = q ∙ d .here ∙ sym (after-in r (omega (arith, v .inside, d .inside)));
+          rows = λ j a b. by-lt j (i - 1) (λ _ l. d .rows j a l) (λ _ l. by-eq j (i - 1) (λ _ q. rw q g) (λ _ q. v .rows j (omega arith) b));
+          rises = λ j a b. by-lt j (i - 1) (λ _ l. rw (after-in (suc j) (omega (arith, v .inside))) (d .rises j a l))
+              (λ _ l. by-eq j (i - 1) (λ _ q. rw (q, back, ← v .next, ← e) (omega arith)) (λ _ q. v .rises j (omega arith) b));
+          keys = λ j a b. by-lt j (i - 1) (λ _ l. let t = d .range j a l in u _ (t .0) (omega (arith, t .1, e)))
+              (λ _ l. by-eq j (i - 1) (λ _ q. rw (q, ← e) (u k (omega (arith, d .above)) (omega arith))) (λ _ q. v .keys j (omega arith) b));
         }
 
-  pub pass-end : (top floor : ℕ) → Passing good L n ws top floor 0 → good 0 ≡ false → all-below n (row-passes good L n ws) ≡ true
+  pub pass-end : (top : ℕ) → Passing good L n ws top 0 → good 0 ≡ false → all-below n (row-passes good L n ws) ≡ true
   unfolding row-passes
-  pass-end top floor v z =
+  pass-end top v z =
       let up : (j : ℕ) → suc j < n → key-by L ws j < key-by L ws (suc j) = λ j h. rw (after-in (suc j) h) at (v .rises j (omega arith) (omega arith)) in
       let fine : (j : ℕ) → j < n → good (key-by L ws j) ≡ true = λ j h. v .keys j (omega arith) h in
       all-true n (row-passes good L n ws)
       (λ j h. both _ _ (both _ _ (v .rows j (omega arith) h) (lt-ltb _ _ (ascends L n ws good z fine up j h))) (fine j h))
+
+-- ---- down from a position, one at a time
+module _ (L n : ℕ) (ws : List ℕ) (floor i : ℕ) where
+  pub descent-start : (key : ℕ) → key ≡ key-by L ws i → floor < key → Descent L n ws floor i i key
+  descent-start key e h =
+      record {
+        inside = omega arith;
+        here = e;
+        above = h;
+        under = omega (arith, e);
+        rows = λ k l m. absurd (omega arith);
+        rises = λ k l m. absurd (omega arith);
+        range = λ k l m. absurd (omega arith);
+      }
+
+  pub descent-turn : (j next key : ℕ) → Descent L n ws floor i j next → 0 < j → row-good L n ws (j - 1) ≡ true → key ≡ key-by L ws (j - 1) → floor < key
+      → key < next → Descent L n ws floor i (j - 1) key
+  descent-turn j next key v p g e h l =
+      let back : suc (j - 1) ≡ j = omega arith in
+      let down : key-by L ws (j - 1) < key-by L ws j = omega (arith, v .here, e) in
+      record {
+        inside = omega (arith, v .inside);
+        here = e;
+        above = h;
+        under = omega (arith, v .under);
+        rows = λ k a b. by-eq k (j - 1) (λ _ q. rw q g) (λ _ q. v .rows k (omega arith) b);
+        rises = λ k a b. by-eq k (j - 1) (λ _ q. rw (q, back) down) (λ _ q. v .rises k (omega arith) b);
+        range = λ k a b. by-eq k (j - 1) (λ _ q. rw q (omega (arith, e), omega (arith, v .here, v .under))) (λ _ q. v .range k (omega arith) b);
+      }
 
 abbrev no-chunk : Chunk
 no-chunk = chunk 0 false []

@@ -1,13 +1,14 @@
 -- What the check tests of a chunk log.
 use mathlib.Core.Path.{_≡_}
 use mathlib.Core.List.{List}
-use mathlib.Core.Bool.{Bool, true, false}
+use mathlib.Core.Bool.{Bool, true}
 use Prim.Native.Nat.{ℕ, zero, suc, _+_, _*_, _≤_, _<_}
 use lib.Dec.{ltb}
 use lib.ListN.{length, getD}
 use Rattle.lists.specs.Tests.{_and_, every}
 use Rattle.rules.specs.declared.settings.Settings.{Settings}
 use Rattle.rules.specs.Limits.{max-chunks}
+use Rattle.words.specs.Words.{words}
 use Rattle.log.specs.Log.{key-by, good-log}
 use Rattle.log.specs.Steps.{row-good}
 use Rattle.layout.specs.Layout.{log-codec, log-words}
@@ -27,20 +28,25 @@ row-passes good chunks n ws j = row-good chunks n ws j and ltb (key-before chunk
 unfoldable pub log-good : Settings → (ℕ → Bool) → List ℕ → Bool
 log-good c good ws = good-log (c .chunks) ws and every (λ x. good (x .key)) (log-codec c .dec ws)
 
--- every key above the floor and at most the top passes
-abbrev pub Under : (ℕ → Bool) → ℕ → ℕ → Type 0
-Under good floor top = (k : ℕ) → floor < k → k ≤ top → good k ≡ true
+-- the positions from r to below i are those of rows in use, their flags 0 or 1, and from the key at i down to that at r keys descend and stay above the floor
+pub record Descent (chunks n : ℕ) (ws : List ℕ) (floor i r key : ℕ) : Type 0 where
+  pub inside : r ≤ i
+  pub here : key ≡ key-by chunks ws r
+  pub above : floor < key
+  pub under : key ≤ key-by chunks ws i
+  pub rows : (k : ℕ) → r ≤ k → k < i → row-good chunks n ws k ≡ true
+  pub rises : (k : ℕ) → r ≤ k → k < i → key-by chunks ws k < key-by chunks ws (suc k)
+  pub range : (k : ℕ) → r ≤ k → k < i → (floor < key-by chunks ws k) × (key-by chunks ws k ≤ key-by chunks ws i)
 
--- r is the floor under a key: below the key just where it passes
-pub record FloorUnder (good : ℕ → Bool) (floor key r : ℕ) : Type 0 where
-  pub passes : r < key → Under good floor key → Under good r key
-  pub fails : key ≤ r → good key ≡ false
+pub record DescendFit (log : List ℕ) (chunks n i floor key : ℕ) : Type 0 where
+  pub few : n ≤ chunks
+  pub small : chunks ≤ max-chunks
+  pub room : 8 * (1 + 3 * chunks) ≤ length log
+  pub inside : i < n
+  pub here : key ≡ key-by chunks (words log) i
+  pub above : floor < key
 
 -- no brick has id 0
-pub record FloorFit (limits : List ℕ) : Type 0 where
-  pub known : length limits ≡ ids
-  pub none : getD limits 0 0 ≡ 0
-
 pub record PassFit (limits : List ℕ) (bytes chunks n : ℕ) : Type 0 where
   pub known : length limits ≡ ids
   pub none : getD limits 0 0 ≡ 0

@@ -2,17 +2,17 @@
 use mathlib.Core.Path.{_≡_}
 use mathlib.Core.List.{List}
 use mathlib.Core.Bool.{Bool, true}
-use Prim.Native.Nat.{ℕ, _*_, _≤_}
-use lib.ListN.{length}
+use Prim.Native.Nat.{ℕ, _+_, _*_, _≤_, _<_}
+use lib.ListN.{length, getD}
 use Rattle.lists.specs.Tests.{_and_, _or_}
-use Rattle.lists.specs.Runs.{part}
+use Rattle.lists.specs.Runs.{run, part}
 use Rattle.rules.specs.declared.settings.Settings.{Settings}
 use Rattle.words.specs.Words.{words}
 use Rattle.rules.specs.Limits.{buckets, max-entries}
 use Rattle.rules.specs.Entries.{Entry}
 use Rattle.rules.specs.Sound.{same-entries}
 use Rattle.layout.specs.Disk.{Copies}
-use Rattle.layout.specs.Layout.{copy-codec, copies-codec, copy-words, copies-words}
+use Rattle.layout.specs.Layout.{copy-codec, copies-codec, copy-words, copies-words, place-words, store-words, place-at, copies-at}
 use Rattle.checks.specs.declared.rows.Whose.the-variants.{Bucket}
 use Rattle.rules.proofs.Limits.{Limits}
 use Rattle.checks.specs.Rows.{ids, key-below, table-good}
@@ -38,12 +38,61 @@ pub record DiskFit (c : Settings) (limits : List ℕ) (g : ℕ) (memory : List �
   pub passed : table-good c (key-below limits) (Bucket g) (c .entries) (copy-codec c .dec (words memory)) ≡ true
   pub size : bytes ≡ 8 * copy-words c
 
-pub record CopiesFit (c : Settings) (limits bytes : ℕ) : Type 0 where
-  pub known : limits ≡ ids
+-- the copy of bucket g in memory at place q, in the words of a store
+abbrev pub memory-of : Settings → List ℕ → ℕ → ℕ → List ℕ
+memory-of c ws g q = run (place-at c q + copies-at c g) (copy-words c) ws
+
+abbrev pub HoldsBrick : Settings → List ℕ → ℕ → Type 0
+HoldsBrick c ws q = 0 < getD ws (place-at c q) 0
+
+-- r is p, or a place below it that holds a brick and has n rows in the table at word `from`
+pub record Earlier (c : Settings) (ws : List ℕ) (p from n r : ℕ) : Type 0 where
+  pub inside : r ≤ p
+  pub brick : r < p → HoldsBrick c ws r
+  pub rows : r < p → getD ws (place-at c r + from) 0 ≡ n
+
+-- a place below p holds a brick with these entries in its copy of bucket g in memory
+pub record Known (c : Settings) (g : ℕ) (ws : List ℕ) (p : ℕ) (l : List Entry) : Type 0 where
+  pub place : ℕ
+  pub below : place < p
+  pub brick : HoldsBrick c ws place
+  pub same : copy-codec c .dec (memory-of c ws g place) ≡ l
+
+-- the copies in memory at the places below p pass
+pub record Passed (c : Settings) (limits : List ℕ) (store : List ℕ) (p : ℕ) : Type 0 where
   pub small : Limits c
+  pub size : length store ≡ 8 * store-words c
+  pub inside : p < c .places
+  pub each : (g q : ℕ) → g < buckets c → q < p → HoldsBrick c (words store) q
+      → table-good c (key-below limits) (Bucket g) (c .entries) (copy-codec c .dec (memory-of c (words store) g q)) ≡ true
+
+pub record EarlierFit (c : Settings) (bytes p from : ℕ) : Type 0 where
+  pub small : Limits c
+  pub size : bytes ≡ 8 * store-words c
+  pub inside : p < c .places
+  pub start : from < place-words c
+
+pub record KnownFit (c : Settings) (g bytes p : ℕ) (memory : List ℕ) : Type 0 where
+  pub small : Limits c
+  pub size : bytes ≡ 8 * store-words c
+  pub inside : p < c .places
+  pub bucket : g < buckets c
+  pub few : getD (words memory) 0 0 ≤ c .entries
+  pub memory-size : length memory ≡ 8 * copy-words c
+
+pub record MemoryFit (c : Settings) (limits : List ℕ) (g : ℕ) (store : List ℕ) (p bytes : ℕ) : Type 0 where
+  pub known : length limits ≡ ids
+  pub bucket : g < buckets c
+  pub passed : Passed c limits store p
+  pub size : bytes ≡ 8 * copy-words c
+
+pub record CopiesFit (c : Settings) (limits : List ℕ) (g : ℕ) (store : List ℕ) (p bytes : ℕ) : Type 0 where
+  pub known : length limits ≡ ids
+  pub bucket : g < buckets c
+  pub passed : Passed c limits store p
   pub size : bytes ≡ 8 * copies-words c
 
-pub record AllCopiesFit (c : Settings) (limits bytes : ℕ) : Type 0 where
-  pub known : limits ≡ ids
-  pub small : Limits c
+pub record AllCopiesFit (c : Settings) (limits : List ℕ) (store : List ℕ) (p bytes : ℕ) : Type 0 where
+  pub known : length limits ≡ ids
+  pub passed : Passed c limits store p
   pub size : bytes ≡ 8 * (buckets c * copies-words c)

@@ -4,27 +4,48 @@ ghost use lib.ListN.{length};
 ghost use Rattle.words.specs.Words.{words};
 ghost use Rattle.lists.specs.Tests.{all-below};
 ghost use Rattle.checks.specs.Rows.{key-below};
-ghost use Rattle.checks.specs.Chunks.{FloorUnder, row-passes, log-good, FloorFit, PassFit, LogFit};
+ghost use Rattle.checks.specs.Chunks.{Descent, row-passes, log-good, DescendFit, PassFit, LogFit};
 use crate::rows;
 use rules::constants;
 use rules::numbers::ChunkKey;
 use rules::settings::Settings;
 
-// above every floor and below no key
+// the highest key that a word can hold
 const HIGHEST: u64 = 0xffff_ffff_ffff_ffff;
 
-// A key above the floor passes. Where the key is not, its limit is looked up; from a key that passes down, all keys of its id do, above the new floor.
-fn floor_under(limits: &[u64], floor: u64, key: u64) -> u64
-    requires { ⌜ FloorFit (now limits) ⌝ }
-    ensures { λ r. ⌜ FloorUnder (key-below (now (limits .entry))) floor key r ⌝ }
+// A position that was reached, and the key there.
+struct Reached {
+    at: usize,
+    key: u64,
+}
+
+// From position i down, as long as rows in use with a flag of 0 or 1 have keys that descend and stay above the floor: those have the id of the key at i.
+fn descend(log: &[u8], chunks: usize, n: usize, i: usize, floor: u64, key: u64) -> Reached
+    requires { ⌜ DescendFit (now log) chunks n i floor key ⌝ }
+    ensures { λ r. ⌜ Descent chunks n (words (now (log .entry))) floor i (r .at) (r .key) ⌝ }
 {
-    if floor < key {
-        return floor;
+    let mut next = key;
+    let mut j = i;
+    while 0 < j {
+        let at = words::read(log, 2 * chunks + j);
+        if n as u64 <= at {
+            return Reached { at: j, key: next };
+        }
+        let p = at as usize;
+        if 1 < words::read(log, 2 + 2 * p) {
+            return Reached { at: j, key: next };
+        }
+        let key = words::read(log, 1 + 2 * p);
+        if key <= floor {
+            return Reached { at: j, key: next };
+        }
+        if next <= key {
+            return Reached { at: j, key: next };
+        }
+        next = key;
+        j -= 1;
     }
-    if rows::key_below(limits, key) {
-        return ChunkKey(key).home() * constants::SEQUENCES - 1;
-    }
-    key
+    Reached { at: j, key: next }
 }
 
 // One pass along the positions of a log of n chunks: each names a row in use whose flag is 0 or 1 and whose key is below its limit, and keys ascend. From the
@@ -34,7 +55,6 @@ fn pass(limits: &[u64], log: &[u8], chunks: usize, n: usize) -> bool
     ensures { λ r. ⌜ r ≡ all-below n (row-passes (key-below (now (limits .entry))) chunks n (words (now (log .entry)))) ⌝ }
 {
     let mut top = HIGHEST;
-    let mut floor = HIGHEST;
     let mut i = n;
     while 0 < i {
         i -= 1;
@@ -50,11 +70,13 @@ fn pass(limits: &[u64], log: &[u8], chunks: usize, n: usize) -> bool
         if top < key {
             return false;
         }
-        floor = floor_under(limits, floor, key);
-        if key <= floor {
+        if !rows::key_below(limits, key) {
             return false;
         }
-        top = key - 1;
+        let floor = ChunkKey(key).home() * constants::SEQUENCES - 1;
+        let reached = descend(log, chunks, n, i, floor, key);
+        i = reached.at;
+        top = reached.key - 1;
     }
     true
 }

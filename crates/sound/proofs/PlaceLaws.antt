@@ -1,21 +1,26 @@
 -- What a place is to the check.
-use mathlib.Core.Path.{_≡_, sym, _∙_}
+use mathlib.Core.Path.{_≡_, refl, sym, ap, _∙_}
 use mathlib.Core.List.{List}
 use mathlib.Core.Bool.{Bool, true, false}
-use Prim.Native.Nat.{ℕ, _≤_, _<_}
+use Prim.Native.Nat.{ℕ, _+_, _*_, _≤_, _<_}
 use native.Mathlib.Omega.{arith}
 use lib.Dec.{leb, eqb}
-use lib.ListN.{getD}
+use lib.ListN.{length, getD}
 use Rattle.lists.specs.Tests.{_and_, all-below}
-use Rattle.lists.specs.Runs.{run}
+use Rattle.lists.specs.Runs.{run, part}
 use Rattle.lists.specs.Rows.{rows, table-dec}
-use Rattle.lists.proofs.Runs.{run-at}
-use Rattle.lists.proofs.Tests.{by-eq, both, or-l, no-second, yes-second, or-no, no-first, yes-first}
+use Rattle.lists.proofs.Runs.{fits-in, run-of-run, run-at}
+use Rattle.lists.proofs.Tests.{by-eq, and-l, and-r, both, all-at, or-l, no-second, yes-second, or-no, no-first, yes-first}
 use Rattle.rules.specs.declared.settings.Settings.{Settings}
-use Rattle.rules.specs.Limits.{max-waiting}
-use Rattle.layout.specs.Layout.{buffer-codec, buffer-at, place-part}
-use Rattle.checks.specs.declared.rows.Whose.the-variants.{Anyone}
-use Rattle.checks.specs.Rows.{rows-good, table-good}
+use Rattle.rules.specs.Limits.{buckets, max-waiting}
+use Rattle.rules.proofs.Limits.{Limits}
+use Rattle.words.specs.Words.{words}
+use Rattle.words.proofs.Laws.{length-words}
+use Rattle.layout.specs.Layout.{buffer-codec, copy-codec, all-copies-codec, buffer-at, all-copies-at}
+use Rattle.layout.specs.Layout.{copy-words, copies-words, place-words, store-words, place-at, copies-at, place-part}
+use Rattle.checks.specs.declared.rows.Whose.the-variants.{Bucket, Anyone}
+use Rattle.checks.specs.Rows.{key-below, rows-good, table-good}
+use Rattle.checks.specs.Copies.{copies-good, copies-at-good, memory-of, Passed}
 use Rattle.sound.specs.Places.{buffer-good, brick-good, id-at, alone-at, place-at-good}
 use borrow.Author.Tests.{eq-eqb, ne-eqb, lt-leb, le-leb}
 
@@ -38,6 +43,44 @@ module _ (c : Settings) (good : ℕ → Bool) (given : ℕ) (ws : List ℕ) (p i
 
     pub place-brick : id ≤ given → all-below p (alone-at c ws id) ≡ true → place-at-good c good given ws p ≡ brick-good c good (place-part c p ws)
     place-brick l t = held ∙ yes-first _ _ (both _ _ (le-leb id given l) t)
+
+-- ---- the copies at the places that passed
+module _ (c : Settings) (ws : List ℕ) (h : length ws ≡ store-words c) (g q : ℕ) (hg : g < buckets c) (hq : q < c .places) where
+  all-copies : run all-copies-at (all-copies-codec c .size) (place-part c q ws) ≡ run (place-at c q + all-copies-at) (all-copies-codec c .size) ws
+  all-copies = run-of-run (place-at c q) (place-words c) all-copies-at (all-copies-codec c .size) ws (omega (arith, fits-in (place-words c) hq)) (omega arith)
+
+  of-bucket : part (copies-words c) g (run (place-at c q + all-copies-at) (all-copies-codec c .size) ws)
+      ≡ run (place-at c q + all-copies-at + g * copies-words c) (copies-words c) ws
+  of-bucket =
+      run-of-run (place-at c q + all-copies-at) (all-copies-codec c .size) (g * copies-words c) (copies-words c) ws
+      (omega (arith, fits-in (place-words c) hq)) (fits-in (copies-words c) hg)
+
+  in-memory : run 0 (copy-words c) (run (place-at c q + all-copies-at + g * copies-words c) (copies-words c) ws) ≡ memory-of c ws g q
+  in-memory =
+      run-of-run (place-at c q + all-copies-at + g * copies-words c) (copies-words c) 0 (copy-words c) ws
+      (omega (arith, fits-in (place-words c) hq, fits-in (copies-words c) hg)) (omega arith)
+      ∙ ap (λ (k : ℕ). run k (copy-words c) ws) {x = place-at c q + all-copies-at + g * copies-words c + 0} {y = place-at c q + copies-at c g} (omega arith)
+
+  memory-there : run 0 (copy-words c) (part (copies-words c) g (run all-copies-at (all-copies-codec c .size) (place-part c q ws))) ≡ memory-of c ws g q
+  memory-there = ap (λ (v : List ℕ). run 0 (copy-words c) (part (copies-words c) g v)) all-copies ∙ ap (run 0 (copy-words c)) of-bucket ∙ in-memory
+
+  memory-passed : (good : ℕ → Bool) → brick-good c good (place-part c q ws) ≡ true
+      → table-good c good (Bucket g) (c .entries) (copy-codec c .dec (memory-of c ws g q)) ≡ true
+  unfolding brick-good copies-at-good copies-good
+  memory-passed good y =
+      ap (λ (v : List ℕ). table-good c good (Bucket g) (c .entries) (copy-codec c .dec v)) (sym memory-there)
+      ∙ and-l _ _ (and-l _ _ (all-at (buckets c) _ (and-r _ _ (and-l _ _ y)) g hg))
+
+pub passed-below : (c : Settings) (limits store : List ℕ) (given p : ℕ) → Limits c → length store ≡ 8 * store-words c → p < c .places
+    → ((k : ℕ) → k < p → place-at-good c (key-below limits) given (words store) k ≡ true) → Passed c limits store p
+passed-below c limits store given p small size inside e =
+    record {
+      small = small;
+      size = size;
+      inside = inside;
+      each = λ g q hg hq b. memory-passed c (words store) (length-words store ∙ omega arith) g q hg (omega arith) (key-below limits)
+          (and-r _ _ (sym (held c (key-below limits) given (words store) q _ refl (λ z. omega arith)) ∙ e q hq));
+    }
 
 -- ---- an append buffer
 module _ (c : Settings) (good : ℕ → Bool) where

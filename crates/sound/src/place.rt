@@ -1,11 +1,12 @@
 // A place: the id of its brick, its status, its append buffer, its copies and its log.
 ghost use mathlib.Core.Path.{_≡_};
-ghost use Prim.Native.Nat.{_+_, _*_, _≤_, _<_};
+ghost use Prim.Native.Nat.{_+_, _*_, _≤_};
 ghost use Rattle.lists.specs.Tests.{all-below};
 ghost use lib.ListN.{length};
 ghost use Rattle.words.specs.Words.{words};
 ghost use Rattle.layout.specs.Layout.{buffer-at};
 ghost use Rattle.checks.specs.Rows.{key-below};
+ghost use Rattle.checks.specs.Copies.{Passed};
 ghost use Rattle.sound.specs.Places.{status-good, buffer-good, brick-good, alone-at, place-at-good, PlaceFit, PlacesFit, OnePlaceFit};
 use checks::chunks;
 use checks::copies;
@@ -50,9 +51,10 @@ fn buffer_good(settings: Settings, limits: &[u64], up: bool, place: &[u8]) -> bo
     )
 }
 
-// A place that holds a brick.
-pub fn brick_good(settings: Settings, limits: &[u64], place: &[u8]) -> bool
+// The place p, which holds a brick; the places below it passed.
+fn brick_good(settings: Settings, limits: &[u64], store: &[u8], p: usize, place: &[u8]) -> bool
     requires { ⌜ PlaceFit settings (now limits) (length (now place)) ⌝ }
+    requires { ⌜ Passed settings (now limits) (now store) p ⌝ }
     ensures { λ r. ⌜ r ≡ brick-good settings (key-below (now (limits .entry))) (words (now (place .entry))) ⌝ }
 {
     if !status_good(place) {
@@ -64,7 +66,7 @@ pub fn brick_good(settings: Settings, limits: &[u64], place: &[u8]) -> bool
     }
     let from = 8 * sizes::COPIES_AT;
     let log = 8 * sizes::log_at(settings);
-    if !copies::all_copies_good(settings, limits, up, &place[from..log]) {
+    if !copies::all_copies_good(settings, limits, up, store, p, &place[from..log]) {
         return false;
     }
     let end = 8 * sizes::place_words(settings);
@@ -86,10 +88,10 @@ fn alone(settings: Settings, store: &[u8], p: usize, id: u64) -> bool
     true
 }
 
-// The place p; of an empty one nothing but the id is read.
+// The place p; of an empty one nothing but the id is read. The places below it passed.
 fn place_good(settings: Settings, limits: &[u64], given: u64, store: &[u8], p: usize) -> bool
     requires { ⌜ PlacesFit settings (now limits) (length (now store)) ⌝ }
-    requires { ⌜ p < settings .places ⌝ }
+    requires { ⌜ Passed settings (now limits) (now store) p ⌝ }
     ensures { λ r. ⌜ r ≡ place-at-good settings (key-below (now (limits .entry))) given (words (now (store .entry))) p ⌝ }
 {
     let at = sizes::place_at(settings, p);
@@ -105,7 +107,7 @@ fn place_good(settings: Settings, limits: &[u64], given: u64, store: &[u8], p: u
     }
     let a = 8 * at;
     let e = a + 8 * sizes::place_words(settings);
-    brick_good(settings, limits, &store[a..e])
+    brick_good(settings, limits, store, p, &store[a..e])
 }
 
 pub fn places_good(settings: Settings, limits: &[u64], given: u64, store: &[u8]) -> bool

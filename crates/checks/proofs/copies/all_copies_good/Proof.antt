@@ -16,11 +16,11 @@ use Rattle.checks.proofs.copies.all_copies_good.Statement.{statement}
 use Rattle.checks.proofs.copies.all_copies_good.Tie as tie
 
 abbrev Inv-loop : tie.InvT-loop
-Inv-loop settings limits up copies size g₀ g =
+Inv-loop settings limits up store p copies size g₀ g =
     (g ≤ buckets settings) × ((k : ℕ) → k < g → copies-at-good settings (key-below limits) up (words copies) k ≡ true)
 
 abbrev μ-loop : tie.MeasureT-loop
-μ-loop settings limits up copies size g₀ g = buckets settings - g
+μ-loop settings limits up store p copies size g₀ g = buckets settings - g
 
 copies-words-requires : tie.Need-copies-words-requires Inv-loop μ-loop
 unfolding buckets
@@ -38,13 +38,13 @@ mul-a : tie.Need-mul-a Inv-loop μ-loop
 unfolding buckets
 mul-a c = search needs
 
-mul-copies-good : tie.Need-mul-copies-good Inv-loop μ-loop
+mul-e : tie.Need-mul-e Inv-loop μ-loop
 unfolding buckets
-mul-copies-good c = search needs
+mul-e c = search needs
 
-add-copies-good : tie.Need-add-copies-good Inv-loop μ-loop
+add-e : tie.Need-add-e Inv-loop μ-loop
 unfolding buckets
-add-copies-good c = search needs
+add-e c = search needs
 
 sub-copies-good : tie.Need-sub-copies-good Inv-loop μ-loop
 unfolding buckets
@@ -65,7 +65,7 @@ copies-good-requires c κs = search needs
 returns : tie.Need-returns Inv-loop μ-loop
 unfolding buckets
 returns c =
-    let b = c .before .before .before .before .before .before .before .before .before in
+    let b = c .before .before .before .before .before .before .before .before .before .before in
     let s = b .args .copies .now in
     let a = 8 * c .before .before .before .offset .result in
     sym (all-false _ _ (c .before .before .before .before .before .loop .g) (search needs) (copies-part _ _ _ (words s) _
@@ -85,7 +85,7 @@ loop-less c = search needs
 loop-again : tie.Need-loop-again Inv-loop μ-loop
 unfolding buckets
 loop-again c =
-    let b = c .before .before .before .before .before .before .before .before .before in
+    let b = c .before .before .before .before .before .before .before .before .before .before in
     let s = b .args .copies .now in
     let a = 8 * c .before .before .before .offset .result in (
       search needs,
@@ -111,8 +111,8 @@ all-copies-good-spec =
     loop-holds
     offset-requires
     mul-a
-    mul-copies-good
-    add-copies-good
+    mul-e
+    add-e
     sub-copies-good
     part-copies-good-start
     part-copies-good-end

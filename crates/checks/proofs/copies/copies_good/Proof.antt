@@ -24,15 +24,15 @@ part-memory-start c = search needs
 part-memory-end : tie.Need-part-memory-end
 part-memory-end c = search needs
 
-table-good-requires : tie.Need-table-good-requires
-table-good-requires c κs = search needs
+memory-good-requires : tie.Need-memory-good-requires
+memory-good-requires c κs = search needs
 
 returns : tie.Need-returns
 returns c =
-    let s = c .before .before .before .before .before .before in
+    let s = c .before .before .before .before .before .before .before in
     let e = copies-lent (s .args .settings) (key-below (s .args .limits .now)) (s .args .up) (s .args .bucket)
     (8 * c .before .before .before .copy-words .result) (s .args .copies .now) (omega arith) (omega arith) in
-    sym (e ∙ no-first _ _ (sym (c .before .table-good .ensures) ∙ not-true _ (c .if1 .taken)))
+    sym (e ∙ no-first _ _ (sym (c .before .memory-good .ensures) ∙ not-true _ (c .if1 .taken)))
 
 add-disk : tie.Need-add-disk
 add-disk c = search needs
@@ -48,15 +48,15 @@ part-disk-end c = search needs
 
 disk-good-requires : tie.Need-disk-good-requires
 disk-good-requires c κs =
-    let passed = sym (c .before .before .table-good .ensures) ∙ not-false _ (c .before .if1 .left) in
+    let passed = sym (c .before .before .memory-good .ensures) ∙ not-false _ (c .before .if1 .left) in
     record { known = search needs; few = search needs; memory-size = search needs; passed = passed; size = search needs }
 
 returns-2 : tie.Need-returns-2
 returns-2 c =
-    let s = c .before .before .before .before .before .before .before .before in
+    let s = c .before .before .before .before .before .before .before .before .before in
     let e = copies-lent (s .args .settings) (key-below (s .args .limits .now)) (s .args .up) (s .args .bucket)
     (8 * c .before .before .before .before .before .copy-words .result) (s .args .copies .now) (omega arith) (omega arith) in
-    c .disk-good .ensures ∙ sym (e ∙ yes-first _ _ (sym (c .before .before .before .table-good .ensures) ∙ not-false _ (c .before .before .if1 .left)))
+    c .disk-good .ensures ∙ sym (e ∙ yes-first _ _ (sym (c .before .before .before .memory-good .ensures) ∙ not-false _ (c .before .before .if1 .left)))
 
 pub copies-good-spec : {M : Type 1} → statement M
 copies-good-spec =
@@ -67,7 +67,7 @@ copies-good-spec =
     sub-memory
     part-memory-start
     part-memory-end
-    table-good-requires
+    memory-good-requires
     returns
     add-disk
     sub-disk

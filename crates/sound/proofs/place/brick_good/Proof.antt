@@ -40,7 +40,7 @@ buffer-good-requires c κs = search needs
 returns-2 : tie.Need-returns-2
 unfolding brick-good
 returns-2 c =
-    let at-start = c .before .before .before .before .before .before .before in
+    let at-start = c .before .before .before .before .before .before .before .before in
     let s = at-start .args .place .now in
     let n = at-start .args .settings in
     let up = ap (λ (k : ℕ). eqb k 1) (c .before .before .read .ensures) in
@@ -78,7 +78,7 @@ all-copies-good-requires c κs = search needs
 returns-3 : tie.Need-returns-3
 unfolding brick-good buckets
 returns-3 c =
-    let at-start = c .before .before .before .before .before .before .before .before .before .before .before in
+    let at-start = c .before .before .before .before .before .before .before .before .before .before .before .before in
     let s = at-start .args .place .now in
     let n = at-start .args .settings in
     let up = ap (λ (k : ℕ). eqb k 1) (c .before .before .before .before .before .before .read .ensures) in
@@ -94,7 +94,7 @@ place-words-requires c κs = search needs
 
 mul-end : tie.Need-mul-end
 unfolding buckets
-mul-end c = omega (arith, place-small _ (c .before .before .before .before .before .before .before .before .before .before .before .before .pre .small))
+mul-end c = omega (arith, place-small _ (c .before .before .before .before .before .before .before .before .before .before .before .before .before .pre .0 .small))
 
 sub-log-good : tie.Need-sub-log-good
 unfolding buckets
@@ -115,7 +115,7 @@ log-good-requires c κs = search needs
 returns-4 : tie.Need-returns-4
 unfolding brick-good buckets
 returns-4 c =
-    let at-start = c .before .before .before .before .before .before .before .before .before .before .before .before .before .before in
+    let at-start = c .before .before .before .before .before .before .before .before .before .before .before .before .before .before .before in
     let s = at-start .args .place .now in
     let n = at-start .args .settings in
     let up = ap (λ (k : ℕ). eqb k 1) (c .before .before .before .before .before .before .before .before .before .read .ensures) in

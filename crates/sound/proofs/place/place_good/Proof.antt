@@ -15,7 +15,7 @@ use Rattle.sound.proofs.place.place_good.Statement.{statement}
 use Rattle.sound.proofs.place.place_good.Tie as tie
 
 place-at-requires : tie.Need-place-at-requires
-place-at-requires c κs = (c .before .before .pre .0 .small, c .before .before .pre .1)
+place-at-requires c κs = (c .before .before .pre .0 .small, c .before .before .pre .1 .inside)
 
 read-requires : tie.Need-read-requires
 read-requires c κs = search needs

@@ -7,6 +7,7 @@ use Rattle.lists.proofs.Tests.{all-true, all-false}
 use Rattle.words.specs.Words.{words}
 use Rattle.checks.specs.Rows.{key-below}
 use Rattle.sound.specs.Places.{place-at-good}
+use Rattle.sound.proofs.PlaceLaws.{passed-below}
 use native.Mathlib.Omega.{arith}
 use borrow.Author.Needs.{needs}
 use Rattle.sound.proofs.place.places_good.Statement.{statement}
@@ -22,7 +23,13 @@ loop-holds : tie.Need-loop-holds Inv-loop μ-loop
 loop-holds c = (search needs, below-none _)
 
 place-good-requires : tie.Need-place-good-requires Inv-loop μ-loop
-place-good-requires c κs = search needs
+place-good-requires c κs =
+    let l = c .before .before .loop in
+    let s = c .before .before .before .before .before in (
+      s .pre,
+      passed-below (s .args .settings) (s .args .limits .now) (s .args .store .now) (s .args .given) (l .p) (s .pre .small) (s .pre .size) (omega arith)
+          (l .inv .1),
+    )
 
 returns : tie.Need-returns Inv-loop μ-loop
 returns c = sym (all-false _ _ (c .before .before .before .before .loop .p) (search needs) (sym (c .before .place-good .ensures) ∙ not-true _ (c .if2 .taken)))
