@@ -68,13 +68,13 @@ fn same_words(a: &[u8], b: &[u8], n: usize) -> bool
     requires { ⌜ (8 * (1 + n) ≤ length (now a)) × (8 * (1 + n) ≤ length (now b)) ⌝ }
     ensures { λ r. ⌜ r ≡ all-below n (same-at (words (now (a .entry))) (words (now (b .entry)))) ⌝ }
 {
-    let mut same = true;
+    let mut other = 0;
     let mut i = 0;
     while i < n {
-        same = same & (words::read(a, 1 + i) == words::read(b, 1 + i));
+        other = other | (words::read(a, 1 + i) ^ words::read(b, 1 + i));
         i += 1;
     }
-    same
+    other == 0
 }
 
 // Have two tables the same rows?
