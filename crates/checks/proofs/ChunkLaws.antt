@@ -6,10 +6,11 @@ use Prim.Native.Nat.{ℕ, zero, suc, _+_, _*_, _-_, _/_, _^_, _≤_, _<_}
 use native.Mathlib.Numerals.{add-one}
 use native.Mathlib.Omega.{arith}
 use lib.Dec.{ltb}
+use lib.Bits.{bitOr, or-add-and, and-le-l, and-le-r, or-lt}
 use lib.ListN.{length, getD}
-use borrow.Author.Tests.{lt-ltb, le-ltb, le-leb, ltb-true}
+use borrow.Author.Tests.{lt-ltb, le-ltb, le-leb, ltb-true, leb-true}
 use Rattle.lists.specs.Tests.{all-below}
-use Rattle.lists.proofs.Tests.{by-eq, by-lt, clash, and-l, and-r, both, same-test, all-true, all-false, all-at, no-first, no-second, every-by, every-at}
+use Rattle.lists.proofs.Tests.{by, by-eq, by-lt, clash, and-l, and-r, both, same-test, all-true, all-false, all-at, no-first, no-second, every-by, every-at}
 use Rattle.lists.proofs.Lists.{getD-map-in}
 use Rattle.rules.specs.declared.settings.Settings.{Settings}
 use Rattle.rules.specs.Numbers.{sequences, home-of, sequence-of}
@@ -52,12 +53,12 @@ module _ (good : ℕ → Bool) (L n : ℕ) (ws : List ℕ) (j p : ℕ) (e : p �
   pass-flag h s q f = no-first _ _ (no-first _ _ (row-flag L n ws j p e h (rw (← q) f)))
 
   module _ (k : ℕ) (ek : k ≡ row-key ws p) where
-    by : k ≡ key-by L ws j
-    by = row-key-by L n ws j p e k ek
+    same-key : k ≡ key-by L ws j
+    same-key = row-key-by L n ws j p e k ek
 
     pub pass-key : good k ≡ false → row-passes good L n ws j ≡ false
     unfolding row-passes
-    pass-key g = no-second _ _ (rw (← by) g)
+    pass-key g = no-second _ _ (rw (← same-key) g)
 
 -- ---- the pass is the log's test and a test of each key
 -- keys above the one before, the first above 0
@@ -110,22 +111,32 @@ module _ (good : ℕ → Bool) (L n : ℕ) (ws : List ℕ) where
         by-lt i n (λ _ l. all-false n (row-passes good L n ws) i l (falls (i - 1) i (omega arith) (let q = after-in i l in omega (arith, v .next, q, e))))
         (λ _ l. let q = after-end i l in absurd (omega (arith, v .next, q)))
 
-    -- one position, and all that descend from it above a floor
-    pub pass-turn : row-good L n ws (i - 1) ≡ true → k ≤ top → (floor r key : ℕ) → ((m : ℕ) → floor < m → m ≤ k → good m ≡ true)
-        → Descent L n ws floor (i - 1) r key → Passing good L n ws (key - 1) r
-    pass-turn g h floor r key u d =
-        let q : suc (key - 1) ≡ key = omega (arith, d .above) in
-        let back : suc (i - 1) ≡ i = omega arith in
-        let under : key ≤ k = omega (arith, d .under, e) in
-        record {
-          inside = omega (arith, v .inside, d .inside);
-          next = q ∙ d .here ∙ sym (after-in r (omega (arith, v .inside, d .inside)));
-          rows = λ j a b. by-lt j (i - 1) (λ _ l. d .rows j a l) (λ _ l. by-eq j (i - 1) (λ _ q. rw q g) (λ _ q. v .rows j (omega arith) b));
-          rises = λ j a b. by-lt j (i - 1) (λ _ l. rw (after-in (suc j) (omega (arith, v .inside))) (d .rises j a l))
-              (λ _ l. by-eq j (i - 1) (λ _ q. rw (q, back, ← v .next, ← e) (omega arith)) (λ _ q. v .rises j (omega arith) b));
-          keys = λ j a b. by-lt j (i - 1) (λ _ l. let t = d .range j a l in u _ (t .0) (omega (arith, t .1, e)))
-              (λ _ l. by-eq j (i - 1) (λ _ q. rw (q, ← e) (u k (omega (arith, d .above)) (omega arith))) (λ _ q. v .keys j (omega arith) b));
-        }
+    module _ (floor r key flags : ℕ) (d : Descent L n ws floor (i - 1) r key flags) where
+      -- a flag on the way is neither 0 nor 1
+      pub pass-dirty : 1 < flags → all-below n (row-passes good L n ws) ≡ false
+      unfolding row-passes
+      pass-dirty h =
+          by (all-below n (row-passes good L n ws)) (λ y.
+          let o : flags ≤ 1 = d .dirty (λ j a b. leb-true _ _ (and-r _ _ (and-l _ _ (and-l _ _ (all-at n (row-passes good L n ws) y j (omega (arith, v .inside))))))) in
+          absurd (omega arith)) (λ y. y)
+
+      -- one position, and all that descend from it above a floor
+      pub pass-turn : row-good L n ws (i - 1) ≡ true → k ≤ top → ((m : ℕ) → floor < m → m ≤ k → good m ≡ true) → flags ≤ 1
+          → Passing good L n ws (key - 1) r
+      pass-turn g h u f =
+          let q : suc (key - 1) ≡ key = omega (arith, d .above) in
+          let back : suc (i - 1) ≡ i = omega arith in
+          let under : key ≤ k = omega (arith, d .under, e) in
+          record {
+            inside = omega (arith, v .inside, d .inside);
+            next = q ∙ d .here ∙ sym (after-in r (omega (arith, v .inside, d .inside)));
+            rows = λ j a b. by-lt j (i - 1) (λ _ l. row-fine L n ws j (position-at L ws j) refl (d .rows j a l) (d .clean f j a l))
+                (λ _ l. by-eq j (i - 1) (λ _ q. rw q g) (λ _ q. v .rows j (omega arith) b));
+            rises = λ j a b. by-lt j (i - 1) (λ _ l. rw (after-in (suc j) (omega (arith, v .inside))) (d .rises j a l))
+                (λ _ l. by-eq j (i - 1) (λ _ q. rw (q, back, ← v .next, ← e) (omega arith)) (λ _ q. v .rises j (omega arith) b));
+            keys = λ j a b. by-lt j (i - 1) (λ _ l. let t = d .range j a l in u _ (t .0) (omega (arith, t .1, e)))
+                (λ _ l. by-eq j (i - 1) (λ _ q. rw (q, ← e) (u k (omega (arith, d .above)) (omega arith))) (λ _ q. v .keys j (omega arith) b));
+          }
 
   pub pass-end : (top : ℕ) → Passing good L n ws top 0 → good 0 ≡ false → all-below n (row-passes good L n ws) ≡ true
   unfolding row-passes
@@ -137,7 +148,7 @@ module _ (good : ℕ → Bool) (L n : ℕ) (ws : List ℕ) where
 
 -- ---- down from a position, one at a time
 module _ (L n : ℕ) (ws : List ℕ) (floor i : ℕ) where
-  pub descent-start : (key : ℕ) → key ≡ key-by L ws i → floor < key → Descent L n ws floor i i key
+  pub descent-start : (key : ℕ) → key ≡ key-by L ws i → floor < key → Descent L n ws floor i i key 0
   descent-start key e h =
       record {
         inside = omega arith;
@@ -147,11 +158,19 @@ module _ (L n : ℕ) (ws : List ℕ) (floor i : ℕ) where
         rows = λ k l m. absurd (omega arith);
         rises = λ k l m. absurd (omega arith);
         range = λ k l m. absurd (omega arith);
+        clean = λ _ k l m. absurd (omega arith);
+        dirty = λ _. omega arith;
       }
 
-  pub descent-turn : (j next key : ℕ) → Descent L n ws floor i j next → 0 < j → row-good L n ws (j - 1) ≡ true → key ≡ key-by L ws (j - 1) → floor < key
-      → key < next → Descent L n ws floor i (j - 1) key
-  descent-turn j next key v p g e h l =
+  either-flag : (a b : ℕ) → bitOr a b ≤ 1 → (a ≤ 1) × (b ≤ 1)
+  either-flag a b h = (omega (arith, or-add-and a b, and-le-r a b), omega (arith, or-add-and a b, and-le-l a b))
+
+  both-flags : (a b : ℕ) → a ≤ 1 → b ≤ 1 → bitOr a b ≤ 1
+  both-flags a b h l = let t : bitOr a b < 2 = or-lt 1 a b (omega arith) (omega arith) in omega arith
+
+  pub descent-turn : (j next key flags flag : ℕ) → Descent L n ws floor i j next flags → 0 < j → position-at L ws (j - 1) < n → key ≡ key-by L ws (j - 1)
+      → floor < key → key < next → flag ≡ row-saved ws (position-at L ws (j - 1)) → Descent L n ws floor i (j - 1) key (bitOr flags flag)
+  descent-turn j next key flags flag v p g e h l ef =
       let back : suc (j - 1) ≡ j = omega arith in
       let down : key-by L ws (j - 1) < key-by L ws j = omega (arith, v .here, e) in
       record {
@@ -162,6 +181,9 @@ module _ (L n : ℕ) (ws : List ℕ) (floor i : ℕ) where
         rows = λ k a b. by-eq k (j - 1) (λ _ q. rw q g) (λ _ q. v .rows k (omega arith) b);
         rises = λ k a b. by-eq k (j - 1) (λ _ q. rw (q, back) down) (λ _ q. v .rises k (omega arith) b);
         range = λ k a b. by-eq k (j - 1) (λ _ q. rw q (omega (arith, e), omega (arith, v .here, v .under))) (λ _ q. v .range k (omega arith) b);
+        clean = λ o k a b. let two = either-flag flags flag o in
+            by-eq k (j - 1) (λ _ q. rw (q, ← ef) (two .1)) (λ _ q. v .clean (two .0) k (omega arith) b);
+        dirty = λ o. both-flags flags flag (v .dirty (λ k a b. o k (omega arith) b)) (rw ef (o (j - 1) (omega arith) (omega (arith, v .inside))));
       }
 
 abbrev no-chunk : Chunk

@@ -1,7 +1,7 @@
 -- What the check tests of a chunk log.
 use mathlib.Core.Path.{_≡_}
 use mathlib.Core.List.{List}
-use mathlib.Core.Bool.{Bool, true}
+use mathlib.Core.Bool.{Bool}
 use Prim.Native.Nat.{ℕ, zero, suc, _+_, _*_, _≤_, _<_}
 use lib.Dec.{ltb}
 use lib.ListN.{length, getD}
@@ -9,7 +9,7 @@ use Rattle.lists.specs.Tests.{_and_, every}
 use Rattle.rules.specs.declared.settings.Settings.{Settings}
 use Rattle.rules.specs.Limits.{max-chunks}
 use Rattle.words.specs.Words.{words}
-use Rattle.log.specs.Log.{key-by, good-log}
+use Rattle.log.specs.Log.{row-saved, position-at, key-by, good-log}
 use Rattle.log.specs.Steps.{row-good}
 use Rattle.layout.specs.Layout.{log-codec, log-words}
 use Rattle.rules.proofs.Limits.{Limits}
@@ -28,15 +28,18 @@ row-passes good chunks n ws j = row-good chunks n ws j and ltb (key-before chunk
 unfoldable pub log-good : Settings → (ℕ → Bool) → List ℕ → Bool
 log-good c good ws = good-log (c .chunks) ws and every (λ x. good (x .key)) (log-codec c .dec ws)
 
--- the positions from r to below i are those of rows in use, their flags 0 or 1, and from the key at i down to that at r keys descend and stay above the floor
-pub record Descent (chunks n : ℕ) (ws : List ℕ) (floor i r key : ℕ) : Type 0 where
+-- the positions from r to below i are those of rows in use, and from the key at i down to that at r keys descend and stay above the floor; the flags of
+-- those rows are 0 or 1 just where their bits together are
+pub record Descent (chunks n : ℕ) (ws : List ℕ) (floor i r key flags : ℕ) : Type 0 where
   pub inside : r ≤ i
   pub here : key ≡ key-by chunks ws r
   pub above : floor < key
   pub under : key ≤ key-by chunks ws i
-  pub rows : (k : ℕ) → r ≤ k → k < i → row-good chunks n ws k ≡ true
+  pub rows : (k : ℕ) → r ≤ k → k < i → position-at chunks ws k < n
   pub rises : (k : ℕ) → r ≤ k → k < i → key-by chunks ws k < key-by chunks ws (suc k)
   pub range : (k : ℕ) → r ≤ k → k < i → (floor < key-by chunks ws k) × (key-by chunks ws k ≤ key-by chunks ws i)
+  pub clean : flags ≤ 1 → (k : ℕ) → r ≤ k → k < i → row-saved ws (position-at chunks ws k) ≤ 1
+  pub dirty : ((k : ℕ) → r ≤ k → k < i → row-saved ws (position-at chunks ws k) ≤ 1) → flags ≤ 1
 
 pub record DescendFit (log : List ℕ) (chunks n i floor key : ℕ) : Type 0 where
   pub few : n ≤ chunks

@@ -13,39 +13,55 @@ use rules::settings::Settings;
 // the highest key that a word can hold
 const HIGHEST: u64 = 0xffff_ffff_ffff_ffff;
 
-// A position that was reached, and the key there.
+// A position that was reached, the key there, and the bits of the flags on the way.
 struct Reached {
     at: usize,
     key: u64,
+    flags: u64,
 }
 
-// From position i down, as long as rows in use with a flag of 0 or 1 have keys that descend and stay above the floor: those have the id of the key at i.
+// From position i down, as long as rows in use have keys that descend and stay above the floor: those have the id of the key at i.
 fn descend(log: &[u8], chunks: usize, n: usize, i: usize, floor: u64, key: u64) -> Reached
     requires { ⌜ DescendFit (now log) chunks n i floor key ⌝ }
-    ensures { λ r. ⌜ Descent chunks n (words (now (log .entry))) floor i (r .at) (r .key) ⌝ }
+    ensures { λ r. ⌜ Descent chunks n (words (now (log .entry))) floor i (r .at) (r .key) (r .flags) ⌝ }
 {
     let mut next = key;
+    let mut flags = 0;
     let mut j = i;
     while 0 < j {
         let at = words::read(log, 2 * chunks + j);
         if n as u64 <= at {
-            return Reached { at: j, key: next };
+            return Reached {
+                at: j,
+                key: next,
+                flags: flags,
+            };
         }
         let p = at as usize;
-        if 1 < words::read(log, 2 + 2 * p) {
-            return Reached { at: j, key: next };
-        }
         let key = words::read(log, 1 + 2 * p);
         if key <= floor {
-            return Reached { at: j, key: next };
+            return Reached {
+                at: j,
+                key: next,
+                flags: flags,
+            };
         }
         if next <= key {
-            return Reached { at: j, key: next };
+            return Reached {
+                at: j,
+                key: next,
+                flags: flags,
+            };
         }
+        flags = flags | words::read(log, 2 + 2 * p);
         next = key;
         j -= 1;
     }
-    Reached { at: j, key: next }
+    Reached {
+        at: j,
+        key: next,
+        flags: flags,
+    }
 }
 
 // One pass along the positions of a log of n chunks: each names a row in use whose flag is 0 or 1 and whose key is below its limit, and keys ascend. From the
@@ -75,6 +91,9 @@ fn pass(limits: &[u64], log: &[u8], chunks: usize, n: usize) -> bool
         }
         let floor = ChunkKey(key).home() * constants::SEQUENCES - 1;
         let reached = descend(log, chunks, n, i, floor, key);
+        if 1 < reached.flags {
+            return false;
+        }
         i = reached.at;
         top = reached.key - 1;
     }

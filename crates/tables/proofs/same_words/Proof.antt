@@ -64,7 +64,7 @@ loop-less c = search needs
 -- src/lib.rt:73:5
 loop-again : tie.Need-loop-again Inv-loop μ-loop
 unfolding all-below
-loop-again c = 
+loop-again c =
     let l = c .before .before .before .loop in (
       search needs,
       no-other (l .other) (c .before .read .result) (c .read2 .result) ∙ rw (add-one (l .i), l .inv .1, c .before .read .ensures, c .read2 .ensures),
@@ -72,7 +72,7 @@ loop-again c =
 
 -- src/lib.rt:67:1
 returns : tie.Need-returns Inv-loop μ-loop
-returns c = 
+returns c =
     let l = c .before .loop in
     let e : l .i ≡ c .before .before .before .before .args .n = omega arith in
     l .inv .1 ∙ rw e
