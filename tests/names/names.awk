@@ -9,7 +9,7 @@
 #   events/slips::refusing_all    a test: tests/events/tests/slips.rs, or tests/events/slips.c
 #   settings, disk_step           a word: it is defined somewhere, or is the name of a crate or of a file of definitions
 # Of several words the first is looked up, and others that have one of the forms with a sign in them. What has another form, and a word of one letter, is
-# left. `name` in `path`, `name` (`path`) and `path`: `name` ask besides that the path defines the name, and each of several that "," or "and" joins.
+# left. `word` in `path`, `word` (`path`) and `path`: `word` ask besides that the path defines the word, and each of several that "," or "and" joins.
 # In a fenced block paths alone are looked up, and paths in target/ are built ones, which are left.
 
 BEGIN {
@@ -196,7 +196,6 @@ function relate(name, text, number,   i) {
 
 function ask(path, name, number) {
     sub(/\/$/, "", path)
-    sub(/.*(::|\.)/, "", name)
     if (name !~ /^[A-Za-z_][A-Za-z0-9_-]*$/ || !is_there(path)) return
     checked++
     if (!((path, name) in defined)) report(number, name, "not defined in " path)
