@@ -36,7 +36,7 @@ END {
     print wrong ": " items " wrong names, " items - found " of them not found missing"
     if (items > 0 && found == items) passed++; else failed++
     print passed " passed, " failed " failed"
-    exit failed > 0
+    exit (failed > 0)
 }
 
 # ---- what there is
@@ -86,7 +86,7 @@ function collect_antt(path, line) {
     sub(/^ +/, "", line)
     while (sub(/^(abbrev|unfoldable|pub) /, "", line)) { }
     if (sub(/^(record|data) /, "", line)) { sub(/ .*/, "", line); define(path, line) }
-    else if (line ~ /^[^ (){};,.:=]+ ({[^}]*} )?:/) { sub(/ .*/, "", line); define(path, line) }
+    else if (line ~ /^[^ (){};,.:=]+ ([{][^}]*[}] )?:/) { sub(/ .*/, "", line); define(path, line) }
 }
 
 # a function, a type or a constant; in the tests also a variable that a run reads
