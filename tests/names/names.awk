@@ -8,9 +8,9 @@
 #   writes::put::put              code: crates/writes/src/put.rt, or lib.rt or main.rt where there is no such file
 #   events/slips::refusing_all    a test: tests/events/tests/slips.rs, or tests/events/slips.c
 #   settings, disk_step           a word: it is defined somewhere, or is the name of a crate or of a file of definitions
-# Of several words the first is looked up, and others that have one of the forms with a sign in them. What has another form, and a word of one letter, is
-# left. `word` in `path`, `word` (`path`) and `path`: `word` ask besides that the path defines the word, and each of several that "," or "and" joins.
-# In a fenced block paths alone are looked up, and paths in target/ are built ones, which are left.
+# Of several words the first is looked up, others that have one of the forms with a sign in them, and the crates of a command of rt. What has another
+# form, and a word of one letter, is left. `word` in `path`, `word` (`path`) and `path`: `word` ask besides that the path defines the word, and each of several that "," or "and" joins.
+# In a fenced block paths and the crates of commands of rt alone are looked up. Paths in target/ are built ones, which are left.
 
 BEGIN {
     # words that are not the project's: commands, the kit's, C's
@@ -152,7 +152,17 @@ function begin_paragraph() {
 
 function check_fenced(line, number,   n, i, word) {
     n = split(line, word, " ")
-    for (i = 1; i <= n; i++) if (is_path(word[i]) && word[i] !~ /^[^\/]*$/) look_up(word[i], number)
+    for (i = 1; i <= n; i++) if (is_path(word[i]) && word[i] ~ /\//) look_up(word[i], number)
+    check_command(word, n, number)
+}
+
+# rt, what it is to do, and crates; in a fenced block a remark may follow
+function check_command(word, n, number,   i) {
+    if (word[1] != "rt") return
+    for (i = 3; i <= n && word[i] != "#"; i++) {
+        checked++
+        if (!(word[i] in crate)) report(number, word[i], "no such crate")
+    }
 }
 
 function check_line(line, number,   n, i, part) {
@@ -174,6 +184,7 @@ function check_span(span, number,   n, i, word, text) {
         gsub(/^[(]+|[),;]+$/, "", word[i])
         if (i == 1 || word[i] !~ /^[A-Za-z0-9_-]*$/) look_up(word[i], number)
     }
+    check_command(word, n, number)
     relate(word[1], text, number)
 }
 
