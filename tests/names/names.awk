@@ -9,12 +9,13 @@
 #   events/slips::refusing_all    a test: tests/events/tests/slips.rs, or tests/events/slips.c
 #   settings, disk_step           a word: it is defined somewhere, or is the name of a crate or of a file of definitions
 # Of several words the first is looked up, others that have one of the forms with a sign in them, and the crates of a command of rt. What has another
-# form, and a word of one letter, is left. `word` in `path`, `word` (`path`) and `path`: `word` ask besides that the path defines the word, and each of several that "," or "and" joins.
-# In a fenced block paths and the crates of commands of rt alone are looked up. Paths in target/ are built ones, which are left.
+# form, and a word of one letter, is left. `word` in `path`, `word` (`path`) and `path`: `word` ask besides that the path defines the word, and each of
+# several that a comma or "and" joins. In a fenced block paths and the crates of commands of rt alone are looked up. Paths in target/ are left: a run
+# makes them.
 
 BEGIN {
     # words that are not the project's: commands, the kit's, C's
-    split("rt sh gcc g++ cargo valgrind cmp diff antt io libc extern memcpy memmove memset NULL enum match mut", words, " ")
+    split("rt sh io extern memcpy memmove memset NULL", words, " ")
     for (i in words) foreign[words[i]] = 1
     checked = missing = 0
 }
@@ -247,7 +248,7 @@ function known(word) {
 function edit(word,   at, n) {
     n = split(word, at, "/")
     if (n != 2 || !(at[1] in crate)) return "no path from the root, and no edit of a crate"
-    return exists["crates/" at[1] "/must-fail/" at[2] ".edit"] ? "" : "no such must-fail edit"
+    return ("crates/" at[1] "/must-fail/" at[2] ".edit") in exists ? "" : "no such must-fail edit"
 }
 
 function test(word,   at, file) {
