@@ -70,6 +70,15 @@ typedef struct {
     uint64_t key;
 } disk_step_answer;
 
+/* An event of a list: its kind, its fields, and the byte at which its block begins: a put's in the data, a get's in the area. */
+typedef struct {
+    uint64_t kind;
+    uint64_t a;
+    uint64_t b;
+    uint64_t c;
+    uint64_t at;
+} disk_event;
+
 /* An event: its kind, 1 to 22, and its numbers in the order of its text; numbers that the kind does not have are 0. */
 typedef struct {
     uint64_t code;
@@ -145,7 +154,7 @@ uint64_t disk_check(const uint8_t *store, size_t store_length);
  * 14: no room at the backup (deliver).
  * 15: the primary's key is not the item's (done).
  *
- * Each call checks the whole store first, as disk_check does. */
+ * Each call checks the whole store first, as disk_check does: for many events, disk_run checks it once. */
 disk_step_answer disk_step(uint8_t *store, size_t store_length, uint64_t kind, uint64_t a, uint64_t b, uint64_t c, const uint8_t *data, size_t data_length,
                            const uint8_t *zero, size_t zero_length, uint8_t *answer, size_t answer_length);
 
@@ -170,6 +179,28 @@ static inline disk_step_answer disk_get(uint8_t *store, size_t store_length, uin
 {
     uint8_t none = 0;
     return disk_step(store, store_length, DISK_GET, proxy, block, 0, &none, 0, zero, zero_length, answer, answer_length);
+}
+
+/* A list of events on a store: each in turn, on the store as the last one left it, with the code and the key that disk_step would answer. The store is
+ * checked once, for the whole list; for one event call disk_step or those above.
+ *
+ * Both lengths are in 64-bit words: 5 for each event, 2 for each answer; disk_do_all counts them. Kind, a, b and c are as for disk_step. A put's data is
+ * data[at .. at + S], a get's answer goes to area[at .. at + S]; other kinds do not look at `at`. No zero block is lent: each get is as one with S zeros.
+ * The caller owns all five areas; the call writes the store, the answers and, for each accepted get, its S bytes of the area, and nothing else: what no
+ * event fills keeps its bytes. Blocks of the area may overlap; a later get then fills over an earlier one's.
+ *
+ *  0: answers[i] is the code and the key of events[i], for every i, refused events included: they change nothing, and the list goes on. A put whose block
+ *     reaches past the data, or a get whose block reaches past the area, is answered 3.
+ *  2: the bytes are no sound store, as disk_check says.
+ *  3: event_words is no multiple of 5, or answer_words is not 2 for each event. */
+uint64_t disk_run(uint8_t *store, size_t store_length, const disk_event *events, size_t event_words, const uint8_t *data, size_t data_length, uint8_t *area,
+                  size_t area_length, disk_step_answer *answers, size_t answer_words);
+
+/* A list of `count` events: disk_run, with the lengths in words. It answers 0 or 2. */
+static inline uint64_t disk_do_all(uint8_t *store, size_t store_length, const disk_event *events, size_t count, const uint8_t *data, size_t data_length,
+                                   uint8_t *area, size_t area_length, disk_step_answer *answers)
+{
+    return disk_run(store, store_length, events, 5 * count, data, data_length, area, area_length, answers, 2 * count);
 }
 
 /* Whether two stores are alike: same settings, view and members and, for each bucket, the same blocks and keys in the primary's memory. They may be the
