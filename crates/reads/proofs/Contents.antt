@@ -1,11 +1,12 @@
 -- The bytes of a key: where they lie, and how many they are.
 use mathlib.Core.Path.{_≡_, sym, ap, _∙_}
 use mathlib.Core.List.{List, []}
-use mathlib.Core.Bool.{true}
+use mathlib.Core.Bool.{true, false}
 use Prim.Native.Nat.{ℕ, _<_}
+use lib.Dec.{ltb}
 use lib.ListN.{length, length-replicate}
-use borrow.Author.Tests.{eq-eqb, ne-eqb, ltb-true}
-use Rattle.lists.proofs.Tests.{by-eq, or-second}
+use borrow.Author.Tests.{eq-eqb, ne-eqb, lt-ltb, ltb-true}
+use Rattle.lists.proofs.Tests.{by-eq, or-l, or-r, or-no, or-second}
 use Rattle.words.specs.Words.{words}
 use Rattle.rules.specs.declared.settings.Settings.{Settings}
 use Rattle.rules.specs.Numbers.{home-of}
@@ -21,6 +22,17 @@ use Rattle.lent.proofs.Places.{zero-blank}
 use Rattle.lent.proofs.Stores.{settings-are}
 use Rattle.holders.proofs.Contents.{held-size}
 use Rattle.reads.specs.Get.{is-found, key-bytes}
+
+-- ---- whether it is found
+module _ (s : State) (k : ℕ) where
+  pub found-zero : k ≡ 0 → is-found s k ≡ true
+  found-zero z = or-l _ _ (eq-eqb k 0 z)
+
+  pub found-held : 0 < holder s k → is-found s k ≡ true
+  found-held h = or-r _ _ (lt-ltb 0 (holder s k) h)
+
+  pub found-none : (k ≡ 0 → ⊥) → holder s k ≡ 0 → is-found s k ≡ false
+  found-none z h = or-no _ _ (ne-eqb k 0 z) ∙ ap (λ (i : ℕ). ltb 0 i) h
 
 -- ---- the bytes of a key
 module _ (c : Settings) (bs : List ℕ) (v : StoreOf c bs) (k : ℕ) where

@@ -1,5 +1,5 @@
 -- What get's questions say of its outcome, and of the call that fills an area.
-use mathlib.Core.Path.{_≡_, refl, sym, ap, _∙_}
+use mathlib.Core.Path.{_≡_, refl, sym, ap, subst, _∙_}
 use mathlib.Core.List.{List, []}
 use mathlib.Core.Bool.{true, false}
 use Prim.Native.Nat.{ℕ, zero, suc}
@@ -18,12 +18,12 @@ use Rattle.rules.specs.Step.{rule, step}
 use Rattle.rules.proofs.Questions.{all-yes}
 use Rattle.rules.proofs.Step.{code-is}
 use Rattle.layout.specs.Store.{decode}
+use Rattle.lent.specs.declared.Answer.{Answer}
 use Rattle.lent.specs.declared.Answer.the-variants.{Yes, No}
 use Rattle.lent.specs.Performs.{answer}
 use Rattle.lent.specs.Stores.{StoreOf}
 use Rattle.lent.proofs.Stores.{settings-are}
-use Rattle.reads.specs.Get.{is-found, key-bytes, Gets, GetsInto}
-use Rattle.reads.proofs.Contents.{bytes-size}
+use Rattle.reads.specs.Get.{is-found, key-bytes, Gets, Fills, GetsInto}
 
 -- the size that the code has read
 pub size-is : (c : Settings) (bs : List ℕ) → StoreOf c bs → c .size ≡ decode (words bs) .settings .size
@@ -55,29 +55,25 @@ module _ (s : State) (p b : ℕ) where
   unfolding rule
   asked-none g z = sym (code-is s (Event.get p b)) ∙ sym (g .number) ∙ z
 
-  -- ---- the call that fills an area
+  -- ---- the area that it fills
+  pub fills-refused : (n : ℕ) {k : ℕ} {bytes : List ℕ} → Gets s p b n k bytes → (n ≡ 0 → ⊥) → (area : List ℕ) → Fills s (Event.get p b) area (No n) area
+  unfolding answer
+  fills-refused zero g z area = absurd (z refl)
+  fills-refused (suc n) g z area = record { answers = rw (← (g .number)) refl; fills = rw (← (g .number), ne-eqb (suc n) 0 z) refl }
+
+  pub fills-accepted : {n k : ℕ} {bytes : List ℕ} → Gets s p b n k bytes → n ≡ 0 → (area after : List ℕ) → after ≡ bytes
+      → Fills s (Event.get p b) area (Yes k) after
+  unfolding answer
+  fills-accepted g z area after e =
+      let code : step s (Event.get p b) .code ≡ 0 = sym (g .number) ∙ z in
+      record { answers = rw (code, g .found) refl; fills = rw code (e ∙ g .same) }
+
+  -- ---- the call that lends a block of zeros beside it
   module _ (zero-block area : List ℕ) where
     pub not-lent : (is-zero-block (s .settings .size) zero-block and eqb (length area) (s .settings .size)) ≡ false → GetsInto s zero-block area p b (No 3) area
     unfolding step rule first-no answer
     not-lent n = record { answers = rw n refl; fills = rw n refl }
 
-    module _ (y : (is-zero-block (s .settings .size) zero-block and eqb (length area) (s .settings .size)) ≡ true) where
-      pub into-refused : (n : ℕ) {k : ℕ} {bytes : List ℕ} → Gets s p b n k bytes → (n ≡ 0 → ⊥) → GetsInto s zero-block area p b (No n) area
-      unfolding answer
-      into-refused zero g z = absurd (z refl)
-      into-refused (suc n) g z = record { answers = rw (y, ← (g .number)) refl; fills = rw (y, ← (g .number), ne-eqb (suc n) 0 z) refl }
-
-      pub into-accepted : {n k : ℕ} {bytes : List ℕ} → Gets s p b n k bytes → n ≡ 0 → (after : List ℕ) → after ≡ bytes
-          → GetsInto s zero-block area p b (Yes k) after
-      unfolding answer
-      into-accepted g z after e =
-          let code : step s (Event.get p b) .code ≡ 0 = sym (g .number) ∙ z in
-          record { answers = rw (y, code, g .found) refl; fills = rw (y, code) (e ∙ g .same) }
-
--- an accepted get answers a block's bytes
-pub gets-size : (c : Settings) (bs : List ℕ) → StoreOf c bs → (p b : ℕ) {n k : ℕ} {bytes : List ℕ} → Gets (decode (words bs)) p b n k bytes → n ≡ 0
-    → length bytes ≡ c .size
-gets-size c bs v p b g z =
-    let s = decode (words bs) in
-    let e = asked-none s p b g z in
-    ap length (g .same ∙ said-bytes s p b e) ∙ bytes-size c bs v (mapped s b) (found-yes s p b e)
+    pub lent : (is-zero-block (s .settings .size) zero-block and eqb (length area) (s .settings .size)) ≡ true → {r : Answer} {after : List ℕ}
+        → Fills s (Event.get p b) area r after → GetsInto s zero-block area p b r after
+    lent y {r} {after} f = subst (λ (e : Event). Fills s e area r after) (sym (rw y refl)) f

@@ -30,13 +30,14 @@ pub record Gets (s : State) (proxy block code key : ℕ) (bytes : List ℕ) : Ty
   pub found : key ≡ step s (Event.get proxy block) .said .key
   pub same : bytes ≡ step s (Event.get proxy block) .said .bytes
 
+-- ---- an area of a block's size: the answer to an event, and what the area then holds: the answered bytes, or on a refusal what it held
+pub record Fills (s : State) (e : Event) (area : List ℕ) (r : Answer) (after : List ℕ) : Type 0 where
+  pub answers : r ≡ answer-of (step s e)
+  pub fills : after ≡ cond (eqb (step s e .code) 0) (step s e .said .bytes) area
+
 -- ---- a caller in C lends a block of zeros and an area of a block's size: question 3 asks for both, so without them it is no event
 abbrev pub read-event : ℕ → List ℕ → List ℕ → ℕ → ℕ → Event
 read-event size zero-block area proxy block = cond (is-zero-block size zero-block and eqb (length area) size) (Event.get proxy block) Event.unknown
 
--- the answer, and what the area then holds
-pub record GetsInto (s : State) (zero-block area : List ℕ) (proxy block : ℕ) (r : Answer) (after : List ℕ) : Type 0 where
-  pub answers : r ≡ answer-of (step s (read-event (s .settings .size) zero-block area proxy block))
-  pub fills : after
-      ≡ cond (eqb (step s (read-event (s .settings .size) zero-block area proxy block) .code) 0)
-      (step s (read-event (s .settings .size) zero-block area proxy block) .said .bytes) area
+abbrev pub GetsInto : State → List ℕ → List ℕ → ℕ → ℕ → Answer → List ℕ → Type 0
+GetsInto s zero-block area proxy block r after = Fills s (read-event (s .settings .size) zero-block area proxy block) area r after

@@ -1,14 +1,16 @@
 // get on a lent store: the key of a block and its bytes, which are a part of the store, or of a block of zeros that the caller lends.
 ghost use mathlib.Core.Path.{_≡_};
+ghost use mathlib.Core.Bool.{cond};
 ghost use Prim.Native.Nat.{_%_, _<_};
 ghost use lib.ListN.{length};
 ghost use Rattle.words.specs.Words.{words};
 ghost use Rattle.rules.specs.Call.{is-zero-block};
+ghost use Rattle.rules.specs.Event.{Event};
 ghost use Rattle.rules.specs.Question.{first-no};
 ghost use Rattle.rules.specs.Reads.{get-asks, zeros};
 ghost use Rattle.layout.specs.Store.{decode};
 ghost use Rattle.lent.specs.Stores.{StoreOf};
-ghost use Rattle.reads.specs.Get.{is-found, key-bytes, Gets, GetsInto};
+ghost use Rattle.reads.specs.Get.{is-found, key-bytes, Gets, Fills, GetsInto};
 use layout::sizes;
 use lent::Answer;
 use lent::brick::Found;
@@ -99,6 +101,51 @@ pub fn get<'a>(
     return key_bytes(store, blank, settings, found);
 }
 
+// ---- get into an area of a block's size
+
+// The bytes of a key fill the area; a chunk that no up member holds leaves it as it was. Is there no mapping, or a holder?
+fn fill_key(store: &[u8], settings: Settings, key: ChunkKey, area: &mut [u8]) -> bool
+    requires { ⌜ StoreOf settings (now store) × (length (now area) ≡ settings .size) ⌝ }
+    ensures { λ r. ⌜ (r ≡ is-found (decode (words (now (store .entry)))) (key .0))
+        × (now (area .exit) ≡ cond r (key-bytes (decode (words (now (store .entry)))) (key .0)) (now (area .entry))) ⌝ }
+{
+    if key.0 == 0 {
+        moves::fill(area, 0, settings.size / sizes::WORD_BYTES, 0);
+        return true;
+    }
+    match holders::holder(store, settings, key) {
+        Found::At(place) => {
+            moves::copy_bytes(area, holders::chunk(store, settings, place, key));
+            return true;
+        }
+        Found::Nowhere => {
+            return false;
+        }
+    }
+}
+
+// What get answers, its bytes in the area; a refusal leaves that as it was.
+pub fn fill_block(
+    store: &[u8],
+    settings: Settings,
+    proxy: u64,
+    block: u64,
+    area: &mut [u8],
+) -> Answer
+    requires { ⌜ StoreOf settings (now store) × (length (now area) ≡ settings .size) ⌝ }
+    ensures { λ r. ⌜ Fills (decode (words (now (store .entry)))) (Event.get proxy block) (now (area .entry)) r (now (area .exit)) ⌝ }
+{
+    let no = asks::served_asks(store, settings, proxy, block);
+    if no != 0 {
+        return Answer::No(no);
+    }
+    let key = block::mapped(store, settings, BlockNumber(block));
+    if fill_key(store, settings, key, area) {
+        return Answer::Yes(key.0);
+    }
+    Answer::No(11)
+}
+
 // ---- for a caller in C
 
 // Are these bytes a block of zeros? A block is whole words.
@@ -120,9 +167,9 @@ pub fn is_zero_block(bytes: &[u8], size: usize) -> bool
 }
 
 // The bytes are copied to the area; a refusal leaves it as it was.
-pub fn get_into<'a>(
-    store: &'a [u8],
-    blank: &'a [u8],
+pub fn get_into(
+    store: &[u8],
+    blank: &[u8],
     area: &mut [u8],
     settings: Settings,
     proxy: u64,
@@ -137,12 +184,5 @@ pub fn get_into<'a>(
     if area.len() != settings.size {
         return Answer::No(3);
     }
-    let mut number = 0;
-    let mut key = 0;
-    let bytes = get(store, blank, settings, proxy, block, &mut number, &mut key);
-    if number != 0 {
-        return Answer::No(number);
-    }
-    moves::copy_bytes(area, bytes);
-    Answer::Yes(key)
+    fill_block(store, settings, proxy, block, area)
 }

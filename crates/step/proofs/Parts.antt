@@ -20,7 +20,7 @@ use Rattle.lent.specs.declared.Answer.the-variants.{Yes, No}
 use Rattle.lent.specs.Stores.{SoundStore}
 use Rattle.calls.specs.Outcome.{Outcome, outcome, outcome-of}
 use Rattle.reads.specs.Get.{Gets}
-use Rattle.reads.proofs.Outcomes.{not-lent, into-refused, into-accepted}
+use Rattle.reads.proofs.Outcomes.{fills-refused, fills-accepted, not-lent, lent}
 use Rattle.step.specs.Get.{part-call, GetsPart}
 use Rattle.step.proofs.Outcomes.{unsound-steps, get-steps}
 
@@ -48,17 +48,17 @@ module _ (bs blank : List ℕ) (p b : ℕ) where
         refused-part 2 (get-steps bs sd below (part-call blank p b) refl (No 3) blank (not-lent (decode-bytes bs) p b blank blank (no-first _ _ n)))
 
     module _ (y : is-zero-block (decode-bytes bs .settings .size) blank ≡ true) where
-      lent : (is-zero-block (decode-bytes bs .settings .size) blank and eqb (length blank) (decode-bytes bs .settings .size)) ≡ true
+      both-lent : (is-zero-block (decode-bytes bs .settings .size) blank and eqb (length blank) (decode-bytes bs .settings .size)) ≡ true
       unfolding is-zero-block
-      lent = both _ _ y (and-l _ _ y)
+      both-lent = both _ _ y (and-l _ _ y)
 
       pub got-part : (n k : ℕ) (bytes : List ℕ) → Gets (decode-bytes bs) p b n k bytes → GetsPart bs blank p b n k bytes
       unfolding outcome-of
       got-part zero k bytes g =
-          let e = get-steps bs sd below (part-call blank p b) refl (Yes k) bytes (into-accepted (decode-bytes bs) p b blank blank lent g refl bytes refl) in
+          let e = get-steps bs sd below (part-call blank p b) refl (Yes k) bytes (lent (decode-bytes bs) p b blank blank both-lent (fills-accepted (decode-bytes bs) p b g refl blank bytes refl)) in
           record { number = ap (λ (o : Outcome). o .code) e; found = ap (λ (o : Outcome). o .key) e; same = ap (λ (o : Outcome). o .area) e }
       got-part (suc n) k bytes g =
-          let e = get-steps bs sd below (part-call blank p b) refl (No (suc n)) blank (into-refused (decode-bytes bs) p b blank blank lent (suc n) g (λ z. omega arith)) in
+          let e = get-steps bs sd below (part-call blank p b) refl (No (suc n)) blank (lent (decode-bytes bs) p b blank blank both-lent (fills-refused (decode-bytes bs) p b (suc n) g (λ z. omega arith) blank)) in
           let none = quiet (decode-bytes bs) (Event.get p b) (step (decode-bytes bs) (Event.get p b)) (stepped (decode-bytes bs) (Event.get p b)) n (g .number) in
           record {
             number = ap (λ (o : Outcome). o .code) e;

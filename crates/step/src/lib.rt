@@ -94,15 +94,15 @@ fn keep_up(store: &mut [u8], settings: Settings, kind: u64, place: u64) -> Answe
 }
 
 // Any kind, on a sound store; a number of no kind answers 3.
-pub fn perform<'a>(
-    store: &'a mut [u8],
+pub fn perform(
+    store: &mut [u8],
     settings: Settings,
     kind: u64,
     a: u64,
     b: u64,
     c: u64,
     data: &[u8],
-    blank: &'a [u8],
+    blank: &[u8],
     area: &mut [u8],
 ) -> Answer
     requires { ⌜ StoreOf settings (now store) ⌝ }
@@ -124,14 +124,14 @@ pub fn perform<'a>(
 }
 
 // The step: an event of any kind on any lent bytes. It brings its data, a block of zeros and an area for what a get answers.
-pub fn step<'a>(
-    store: &'a mut [u8],
+pub fn step(
+    store: &mut [u8],
     kind: u64,
     a: u64,
     b: u64,
     c: u64,
     data: &[u8],
-    blank: &'a [u8],
+    blank: &[u8],
     area: &mut [u8],
 ) -> Answer
     ensures { λ r. ⌜ outcome-of r (now (area .exit)) (now (store .exit))

@@ -1,18 +1,15 @@
-use lib.Dec.{ltb}
-use mathlib.Core.Path.{_≡_, sym, ap, _∙_}
-use Prim.Native.Nat.{ℕ}
+use mathlib.Core.Path.{_≡_, sym}
 use Rattle.words.specs.Words.{words}
 use Rattle.layout.specs.Store.{decode}
-use borrow.Author.Tests.{eq-eqb, ne-eqb, lt-ltb}
-use Rattle.lists.proofs.Tests.{or-l, or-r, or-no}
 use Rattle.rules.specs.Parts.{holder}
 use Rattle.lent.specs.Places.{Stands}
+use Rattle.reads.proofs.Contents.{found-zero, found-held, found-none}
 use borrow.Author.Needs.{needs}
 use Rattle.reads.proofs.is_found.Statement.{statement}
 use Rattle.reads.proofs.is_found.Tie as tie
 
 returns : tie.Need-returns
-returns c = sym (or-l _ _ (eq-eqb _ 0 (c .if1 .taken)))
+returns c = sym (found-zero _ _ (c .if1 .taken))
 
 holder-requires : tie.Need-holder-requires
 holder-requires c κs = search needs
@@ -29,14 +26,14 @@ returns-2 c =
     let state = decode (words (s .args .store .now)) in
     let h : Stands (s .args .settings) state (holder state (s .args .key .0)) (c .enum-told .given .0 .0) =
     rw (c .enum-told .given .1) at (c .before .before .holder .ensures) in
-    sym (or-r _ _ (lt-ltb 0 _ (h .some)))
+    sym (found-held _ _ (h .some))
 
 returns-3 : tie.Need-returns-3
 returns-3 c =
     let s = c .before .before .before .before .before .before in
     let state = decode (words (s .args .store .now)) in
     let h : holder state (s .args .key .0) ≡ 0 = rw (c .enum-told2 .given .1) at (c .before .before .holder .ensures) in
-    sym (or-no _ _ (ne-eqb _ 0 (c .before .before .before .if1 .left)) ∙ ap (λ (i : ℕ). ltb 0 i) h)
+    sym (found-none _ _ (c .before .before .before .if1 .left) h)
 
 pub is-found-spec : {M : Type 1} → statement M
 is-found-spec =

@@ -1,0 +1,94 @@
+use mathlib.Core.Path.{_≡_, refl, sym, ap, _∙_}
+use Prim.Native.Nat.{_/_}
+use native.Mathlib.Omega.{arith}
+use lib.ListN.{length}
+use Rattle.words.specs.Words.{words}
+use Rattle.rules.specs.Parts.{holder}
+use Rattle.layout.specs.Store.{decode}
+use Rattle.lent.specs.Places.{Stands}
+use Rattle.reads.specs.Get.{key-bytes}
+use Rattle.reads.proofs.Contents.{found-zero, found-held, found-none, zero-bytes, held-bytes, bytes-size}
+use Rattle.reads.proofs.Zeros.{filled-zeros}
+use borrow.Author.Needs.{needs}
+use Rattle.reads.proofs.fill_key.Statement.{statement}
+use Rattle.reads.proofs.fill_key.Tie as tie
+
+-- the holder's place
+stands : (c : tie.After-place)
+    → let s = c .before .before .before .before .before .before .before in
+    let state = decode (words (s .args .store .now)) in Stands (s .args .settings) state (holder state (s .args .key .0)) (c .place .given .0 .0)
+stands c = rw (c .place .given .1) at (c .before .before .holder .ensures)
+
+-- the chunk has the bytes of the key
+copied : (c : tie.After-chunk)
+    → let s = c .before .before .before .before .before .before .before .before .before .before in
+    c .chunk .result .now ≡ key-bytes (decode (words (s .args .store .now))) (s .args .key .0)
+copied c =
+    let s = c .before .before .before .before .before .before .before .before .before .before in
+    c .chunk .ensures ∙ held-bytes _ (s .args .store .now) (s .pre .0) (s .args .key .0) (c .before .before .before .before .before .before .if1 .left) _ (stands (c .before .before .before) .here)
+
+fill-requires : tie.Need-fill-requires
+fill-requires c κs = search needs
+
+same-length : tie.Need-same-length
+same-length c = search needs
+
+returns : tie.Need-returns
+returns c =
+    let s = c .before .before .before .before .before .before .before .before .before in (
+      sym (found-zero (decode (words (s .args .store .now))) (s .args .key .0) (c .before .before .before .before .before .if1 .taken)),
+      filled-zeros (s .args .settings .size) (s .args .settings .size / 8) _ _ (omega (arith, s .pre .0 .limits .size-words)) (s .pre .1) (c .before .before .fill .kept .0 ∙ s .pre .1) (c .before .before .fill .ensures)
+          ∙ zero-bytes (s .args .settings) (s .args .store .now) (s .pre .0) (s .args .key .0) (c .before .before .before .before .before .if1 .taken),
+    )
+
+holder-requires : tie.Need-holder-requires
+holder-requires c κs = search needs
+
+enum-known-place : tie.Need-enum-known-place
+enum-known-place c = search needs
+
+chunk-requires : tie.Need-chunk-requires
+chunk-requires c κs =
+    let s = c .before .before .before .before .before .before .before .before .before in
+    let h = stands (c .before .before) in
+    (s .pre .0, h .inside, omega (arith, h .some, h .here))
+
+copy-bytes-requires : tie.Need-copy-bytes-requires
+copy-bytes-requires c κs =
+    let s = c .before .before .before .before .before .before .before .before .before .before in
+    let h = stands (c .before .before .before) in
+    s .pre .1 ∙ sym (ap length (copied c) ∙ bytes-size _ (s .args .store .now) (s .pre .0) (s .args .key .0) (found-held _ _ (h .some)))
+
+same-length-2 : tie.Need-same-length-2
+same-length-2 c = search needs
+
+returns-2 : tie.Need-returns-2
+returns-2 c =
+    let h = stands (c .before .before .before .before .before .before) in
+    (sym (found-held _ _ (h .some)), c .before .before .copy-bytes .ensures ∙ copied (c .before .before .before))
+
+enum-told : tie.Need-enum-told
+enum-told c = search needs
+
+returns-3 : tie.Need-returns-3
+returns-3 c =
+    let s = c .before .before .before .before .before .before .before in
+    let state = decode (words (s .args .store .now)) in
+    let none : holder state (s .args .key .0) ≡ 0 = rw (c .enum-told .given .1) at (c .before .before .holder .ensures) in
+    (sym (found-none state (s .args .key .0) (c .before .before .before .if1 .left) none), refl)
+
+pub fill-key-spec : {M : Type 1} → statement M
+fill-key-spec =
+    tie.close
+    (tie.spec
+    fill-requires
+    same-length
+    returns
+    holder-requires
+    enum-known-place
+    chunk-requires
+    copy-bytes-requires
+    same-length-2
+    returns-2
+    enum-told
+    returns-3)
