@@ -9,6 +9,7 @@ ghost use Rattle.print.specs.Answers.{printed, line-after};
 ghost use Rattle.store.specs.Calls.{settings, length-answer, Formatted, check-answer};
 ghost use Rattle.calls.specs.Outcome.{call-with, outcome};
 ghost use Rattle.alike.specs.Alike.{alike-answer, alike-number};
+ghost use Rattle.batch.specs.Batch.{batch-with, lent, ran, batch-outcome};
 ghost use Rattle.disk.specs.Answers.{step-outcome, event-answer, line-answer, four-answer};
 use alike::Compared;
 use lent::Answer;
@@ -96,6 +97,21 @@ pub extern "C" fn disk_step(
         Answer::Yes(key) => StepAnswer { code: 0, key },
         Answer::No(code) => StepAnswer { code, key: 0 },
     }
+}
+
+// A list of events on a lent store.
+#[no_mangle]
+pub extern "C" fn disk_run(
+    store: &mut [u8],
+    events: &[u64],
+    data: &[u8],
+    area: &mut [u8],
+    answers: &mut [u64],
+) -> u64
+    ensures { λ r. ⌜ ran r (lent (now (store .exit)) (now (area .exit)) (now (answers .exit)))
+        ≡ batch-outcome (batch-with (now (events .entry)) (now («data» .entry))) (lent (now (store .entry)) (now (area .entry)) (now (answers .entry))) ⌝ }
+{
+    batch::run(store, events, data, area, answers)
 }
 
 // Are two lent stores alike?

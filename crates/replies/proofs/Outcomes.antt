@@ -8,7 +8,7 @@ use lib.Dec.{eqb}
 use lib.ListN.{length, take, replicate, length-replicate}
 use lib.Seq.{take-all}
 use borrow.Author.Tests.{eq-eqb}
-use Rattle.lists.specs.Tests.{_and_, _or_, every}
+use Rattle.lists.specs.Tests.{_and_, _or_}
 use Rattle.lists.proofs.Tests.{by, both}
 use Rattle.area.specs.Area.{onto}
 use Rattle.rules.specs.declared.settings.Settings.{Settings}
@@ -24,6 +24,7 @@ use Rattle.lent.proofs.Stores as stores
 use Rattle.calls.specs.Outcome.{Outcome, call-with, filled, performed, event-on, outcome, outcome-of}
 use Rattle.calls.proofs.Performed.{sound-store}
 use Rattle.calls.proofs.Shown.{only-get-shows}
+use Rattle.reads.proofs.Zeros.{zeros-test}
 use Rattle.answers.specs.Answers.{answer-line}
 use Rattle.traces.specs.Trace.{answer-text}
 use Rattle.replies.specs.Replies.{Replies}
@@ -38,14 +39,9 @@ pub zeros-length : (n : ℕ) → length (zeros n) ≡ n
 unfolding zeros
 zeros-length n = length-replicate n 0
 
-all-zero : (size : ℕ) → every (λ b. eqb b 0) (replicate size 0) ≡ true
-unfolding every
-all-zero zero = refl
-all-zero (suc size) = both _ _ refl (all-zero size)
-
 pub zeros-front : (n size : ℕ) → size ≤ n → is-zero-block size (take size (zeros n)) ≡ true
-unfolding is-zero-block zeros
-zeros-front n size h = rw (take-zeros n size h) (both _ _ (eq-eqb _ _ (length-replicate size 0)) (all-zero size))
+unfolding zeros
+zeros-front n size h = rw (take-zeros n size h) (zeros-test size)
 
 -- ---- the answer, written
 module _ (c : Settings) (bs : List ℕ) (v : StoreOf c bs) (k a b d : ℕ) (bytes blank area : List ℕ) (zero : is-zero-block (c .size) blank ≡ true)
