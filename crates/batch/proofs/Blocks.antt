@@ -2,14 +2,15 @@
 use mathlib.Core.Path.{_≡_, refl, sym, ap, _∙_}
 use mathlib.Core.List.{List, [], _∷_, _++_}
 use mathlib.Core.Bool.{true, false}
+use mathlib.Core.Logic.{_⊎_, ⊎-elim}
 use Prim.Native.Nat.{ℕ, _+_, _-_, _≤_, _<_}
 use native.Mathlib.Omega.{arith}
 use lib.Dec.{leb}
 use lib.ListN.{length, take, drop}
 use borrow.Author.Tests.{leb-true, le-leb, lt-leb}
-use Rattle.lists.specs.Runs.{on-run}
-use Rattle.lists.proofs.Tests.{same-test, by}
-use Rattle.lists.proofs.Runs.{run-length, on-id}
+use Rattle.lists.specs.Runs.{run, on-run}
+use Rattle.lists.proofs.Tests.{same-test, by, either}
+use Rattle.lists.proofs.Runs.{run-length, on-length, on-same, on-before, on-after, on-id}
 use Rattle.batch.specs.Batch.{block-at, with-block}
 
 -- ---- so many bytes from a byte on
@@ -19,6 +20,10 @@ reach-same at size n h =
 
 pub reach-short : (at size n : ℕ) → n < size → false ≡ leb (at + size) n
 reach-short at size n h = sym (lt-leb (at + size) n (omega arith))
+
+pub nothing : (l : List ℕ) → length l ≡ 0 → l ≡ []
+nothing [] h = refl
+nothing (x ∷ l) h = absurd (omega arith)
 
 -- ---- a block
 module _ (size at : ℕ) (bytes : List ℕ) where
@@ -45,6 +50,33 @@ module _ (size at : ℕ) (bytes : List ℕ) where
   unfolding with-block block-at
   with-same = by (leb (at + size) (length bytes)) (λ y. rw y (sym (on-id at size _ bytes refl))) (λ n. rw n refl)
 
-pub nothing : (l : List ℕ) → length l ≡ 0 → l ≡ []
-nothing [] h = refl
-nothing (x ∷ l) h = absurd (omega arith)
+-- ---- another block of the same length
+module _ (size at : ℕ) (bytes new : List ℕ) (h : length new ≡ length (block-at size at bytes)) where
+  new-size : leb (at + size) (length bytes) ≡ true → length new ≡ size
+  new-size y = h ∙ block-size size at bytes y
+
+  pub with-length : length (with-block size at new bytes) ≡ length bytes
+  unfolding with-block
+  with-length =
+      either (λ (l : List ℕ). length l ≡ length bytes) (leb (at + size) (length bytes))
+      (λ y. on-length at size (λ _. new) bytes (leb-true _ _ y) (new-size y)) (λ _. refl)
+
+  with-is : leb (at + size) (length bytes) ≡ true → with-block size at new bytes ≡ on-run at size (λ _. new) bytes
+  unfolding with-block
+  with-is y = rw y refl
+
+  -- it is what then stands there
+  pub block-with : block-at size at (with-block size at new bytes) ≡ new
+  unfolding block-at
+  block-with =
+      by (leb (at + size) (length bytes))
+      (λ y. rw (with-length, y) (ap (run at size) (with-is y) ∙ on-same at size (λ _. new) bytes (leb-true _ _ y) (new-size y)))
+      (λ n. rw (with-length, n) (sym (nothing new (h ∙ ap length (sym (block-none size at bytes n))))))
+
+  -- bytes before it or after it stay
+  pub with-apart : (b n : ℕ) → (b + n ≤ at) ⊎ (at + size ≤ b) → run b n (with-block size at new bytes) ≡ run b n bytes
+  unfolding with-block
+  with-apart b n d =
+      either (λ (l : List ℕ). run b n l ≡ run b n bytes) (leb (at + size) (length bytes))
+      (λ y. ⊎-elim (λ g. on-before at size (λ _. new) b n bytes (leb-true _ _ y) g) (λ g. on-after at size (λ _. new) b n bytes (leb-true _ _ y) (new-size y) g) d)
+      (λ _. refl)

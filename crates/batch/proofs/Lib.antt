@@ -1,2 +1,5 @@
 pub mod Blocks
 pub mod Turns
+pub mod Areas
+pub mod Theorem
+pub mod Claim

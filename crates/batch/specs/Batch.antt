@@ -52,6 +52,9 @@ lent store area answers = record { store = store; area = area; answers = answers
 abbrev pub word-at : Batch → ℕ → ℕ → ℕ
 word-at batch i j = getD (batch .events) (event-words * i + j) 0
 
+abbrev pub kind-of : Batch → ℕ → ℕ
+kind-of batch i = getD (batch .events) (event-words * i) 0
+
 -- where the block of event i begins
 abbrev pub begins : Batch → ℕ → ℕ
 begins batch i = word-at batch i 4
@@ -59,7 +62,7 @@ begins batch i = word-at batch i 4
 -- ---- event i as a call of the step: with its block of the data, a block of zeros, and its block of the area
 abbrev pub call-at : ℕ → Batch → ℕ → List ℕ → Call
 call-at size batch i area =
-    call-with (getD (batch .events) (event-words * i) 0) (word-at batch i 1) (word-at batch i 2) (word-at batch i 3)
+    call-with (kind-of batch i) (word-at batch i 1) (word-at batch i 2) (word-at batch i 3)
     (block-at size (begins batch i) (batch .bytes)) (zeros size) (block-at size (begins batch i) area)
 
 -- event i, on what the events before left: the outcome of its call, with its block of the area and its two words of the answers

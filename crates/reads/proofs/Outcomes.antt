@@ -24,6 +24,7 @@ use Rattle.lent.specs.Performs.{answer}
 use Rattle.lent.specs.Stores.{StoreOf}
 use Rattle.lent.proofs.Stores.{settings-are}
 use Rattle.reads.specs.Get.{is-found, key-bytes, Gets, Fills, GetsInto}
+use Rattle.reads.proofs.Contents.{bytes-size}
 
 -- the size that the code has read
 pub size-is : (c : Settings) (bs : List ℕ) → StoreOf c bs → c .size ≡ decode (words bs) .settings .size
@@ -43,17 +44,13 @@ module _ (s : State) (p b : ℕ) where
       record { number = rw e z; found = rw e m; same = rw e (q ∙ rw m refl) }
 
   -- an accepted get has found what is mapped
-  pub found-yes : first-no (get-asks s p b) ≡ 0 → is-found s (mapped s b) ≡ true
+  found-yes : first-no (get-asks s p b) ≡ 0 → is-found s (mapped s b) ≡ true
   unfolding _and_
   found-yes e = all-yes (get-asks s p b) refl e .1 .1 .1 .1 .1 .1 .1 .1 .0
 
   said-bytes : first-no (get-asks s p b) ≡ 0 → step s (Event.get p b) .said .bytes ≡ key-bytes s (mapped s b)
   unfolding step rule key-bytes get-bytes
   said-bytes e = rw e refl
-
-  asked-none : {n k : ℕ} {bytes : List ℕ} → Gets s p b n k bytes → n ≡ 0 → first-no (get-asks s p b) ≡ 0
-  unfolding rule
-  asked-none g z = sym (code-is s (Event.get p b)) ∙ sym (g .number) ∙ z
 
   -- ---- the area that it fills
   pub fills-refused : (n : ℕ) {k : ℕ} {bytes : List ℕ} → Gets s p b n k bytes → (n ≡ 0 → ⊥) → (area : List ℕ) → Fills s (Event.get p b) area (No n) area
@@ -77,3 +74,12 @@ module _ (s : State) (p b : ℕ) where
     pub lent : (is-zero-block (s .settings .size) zero-block and eqb (length area) (s .settings .size)) ≡ true → {r : Answer} {after : List ℕ}
         → Fills s (Event.get p b) area r after → GetsInto s zero-block area p b r after
     lent y {r} {after} f = subst (λ (e : Event). Fills s e area r after) (sym (rw y refl)) f
+
+-- an accepted get answers a block's bytes
+pub said-size : (c : Settings) (bs : List ℕ) → StoreOf c bs → (p b : ℕ) → step (decode (words bs)) (Event.get p b) .code ≡ 0
+    → length (step (decode (words bs)) (Event.get p b) .said .bytes) ≡ c .size
+unfolding rule
+said-size c bs v p b z =
+    let s = decode (words bs) in
+    let e : first-no (get-asks s p b) ≡ 0 = sym (code-is s (Event.get p b)) ∙ z in
+    ap length (said-bytes s p b e) ∙ bytes-size c bs v (mapped s b) (found-yes s p b e)

@@ -1,0 +1,233 @@
+-- A batch leaves what its calls leave one by one.
+use mathlib.Core.Path.{_≡_, refl, sym, ap, subst, _∙_}
+use mathlib.Core.List.{List, [], _∷_, _++_, append-assoc, append-nil, map}
+use mathlib.Core.Bool.{Bool, true, false}
+use mathlib.Core.Logic.{_⊎_}
+use Prim.Native.Nat.{ℕ, zero, suc, _+_, _*_, _-_, _≤_, _<_}
+use native.Mathlib.Nat.{add-zero, zero-add}
+use native.Mathlib.Omega.{arith}
+use lib.Dec.{eqb}
+use lib.ListN.{length, take, getD, set, length-set}
+use lib.Seq.{take-all, take-suc-set, getD-at, getD-append-add, length-take-le}
+use borrow.Author.Tests.{eqb-true}
+use Rattle.lists.specs.Tests.{_and_}
+use Rattle.lists.specs.Runs.{run, enc-all, Below}
+use Rattle.lists.proofs.Lists.{same-cons}
+use Rattle.lists.proofs.Tests.{by, and-l, and-r}
+use Rattle.words.specs.Words.{words}
+use Rattle.rules.specs.declared.settings.Settings.{Settings}
+use Rattle.rules.specs.Event.{Event}
+use Rattle.rules.specs.Call.{Call, get-kind}
+use Rattle.layout.specs.Layout.{settings-of}
+use Rattle.layout.specs.Store.{decode-bytes, sound-bytes}
+use Rattle.lent.specs.Stores.{StoreOf}
+use Rattle.lent.proofs.Stores as stores
+use Rattle.history.specs.Claim.{Told}
+use Rattle.calls.specs.Outcome.{Outcome, outcome}
+use Rattle.calls.specs.Claim.{told-calls}
+use Rattle.calls.proofs.Performed.{store-sound}
+use Rattle.reads.proofs.Outcomes.{size-is}
+use Rattle.batch.specs.Batch.{block-at, with-block, Batch, Lent, begins, kind-of, call-at, turn, turns, count, is-batch, Ran, ran, batch-outcome}
+use Rattle.batch.specs.Claim.{outcomes, store-after, code-and-key, calls-from, calls-of, blocks-from, OneByOne, BatchTheorem, told-from}
+use Rattle.batch.proofs.Blocks.{block-with, with-apart, with-same}
+use Rattle.batch.proofs.Turns.{kept-of, turn-keeps}
+use Rattle.batch.proofs.Areas.{area-left, area-length}
+
+same-told : (e : Event) (w : Bool) {code code' key key' : ℕ} {bytes bytes' : List ℕ} → code ≡ code' → key ≡ key' → bytes ≡ bytes'
+    → _≡_ {A = Told} (record { event = e; code = code; said = record { key = key; bytes = bytes }; found-whole = w })
+    (record { event = e; code = code'; said = record { key = key'; bytes = bytes' }; found-whole = w })
+same-told e w p q s = rw (p, q, s) refl
+
+module _ (c : Settings) (batch : Batch) where
+  -- ---- k events from event i on
+  from : ℕ → ℕ → Lent → Lent
+  from i zero l = l
+  from i (suc k) l = from (suc i) k (turn (c .size) batch i l)
+
+  from-turns : (i k : ℕ) (l : Lent) → from i k (turns (c .size) batch i l) ≡ turns (c .size) batch (i + k) l
+  unfolding from turns
+  from-turns i zero l = ap (λ (n : ℕ). turns (c .size) batch n l) (sym (add-zero i))
+  from-turns i (suc k) l = let e : suc i + k ≡ i + suc k = omega arith in from-turns (suc i) k l ∙ ap (λ (n : ℕ). turns (c .size) batch n l) e
+
+  abbrev called : ℕ → Lent → Outcome
+  called i l = outcome (l .store) (call-at (c .size) batch i (l .area))
+
+  -- a sound store of the settings, and room for as many answers
+  record Ready (i k : ℕ) (l : Lent) : Type 0 where
+    held : StoreOf c (l .store)
+    bytes : Below 256 (l .store)
+    room : length (l .answers) ≡ 2 * (i + k)
+
+  module _ (i k : ℕ) (l : Lent) (r : Ready i (suc k) l) where
+    next : Ready (suc i) k (turn (c .size) batch i l)
+    unfolding turn
+    next =
+        let t = turn-keeps (c .size) batch i l (turn (c .size) batch i l) refl (r .bytes) in
+        record { held = kept-of (r .held) t; bytes = t .bytes; room = simp length-set (omega (arith, r .room)) }
+
+    -- its block of the area is that of the outcome
+    shown : block-at (c .size) (begins batch i) (turn (c .size) batch i l .area) ≡ called i l .area
+    unfolding turn
+    shown = block-with (c .size) (begins batch i) (l .area) (called i l .area) (area-length c (l .store) (r .held) (call-at (c .size) batch i (l .area)))
+
+    -- its words of the answers come after those of the events before
+    said : take (2 * suc i) (turn (c .size) batch i l .answers) ≡ take (2 * i) (l .answers) ++ code-and-key (called i l)
+    unfolding turn
+    said =
+        let o = called i l in
+        let n : 2 * suc i ≡ suc (2 * i + 1) = omega arith in
+        let m : 2 * i + 1 ≡ suc (2 * i) = omega arith in
+        let front : List ℕ = set (l .answers) (2 * i) (o .code) in
+        let long : 2 * i + 1 < length front = simp length-set (omega (arith, r .room)) in
+        let short : 2 * i < length (l .answers) = omega (arith, r .room) in
+        ap (λ (x : ℕ). take x (set front (2 * i + 1) (o .key))) n ∙ take-suc-set front (2 * i + 1) (o .key) long
+        ∙ ap (λ (x : ℕ). take x front ++ (o .key ∷ [])) m ∙ ap (λ (x : List ℕ). x ++ (o .key ∷ [])) (take-suc-set (l .answers) (2 * i) (o .code) short)
+        ∙ append-assoc (take (2 * i) (l .answers)) (o .code ∷ []) (o .key ∷ [])
+
+  -- ---- the store, the answers, the blocks
+  from-store : (i k : ℕ) (l : Lent) → from i k l .store ≡ store-after (l .store) (calls-from (c .size) batch i k l)
+  unfolding from store-after calls-from turn
+  from-store i zero l = refl
+  from-store i (suc k) l = from-store (suc i) k (turn (c .size) batch i l)
+
+  abbrev all-outcomes : ℕ → ℕ → Lent → List Outcome
+  all-outcomes i k l = outcomes (l .store) (calls-from (c .size) batch i k l)
+
+  from-answers : (i k : ℕ) (l : Lent) → Ready i k l → from i k l .answers ≡ take (2 * i) (l .answers) ++ enc-all code-and-key (all-outcomes i k l)
+  unfolding from outcomes calls-from enc-all turn
+  from-answers i zero l r = sym (append-nil _ ∙ take-all (2 * i) (l .answers) (omega (arith, r .room)))
+  from-answers i (suc k) l r =
+      let rest : List ℕ = enc-all code-and-key (all-outcomes (suc i) k (turn (c .size) batch i l)) in
+      from-answers (suc i) k (turn (c .size) batch i l) (next i k l r) ∙ ap (λ (x : List ℕ). x ++ rest) (said i k l r)
+      ∙ append-assoc (take (2 * i) (l .answers)) (code-and-key (called i l)) rest
+
+  from-blocks : (i k : ℕ) (l : Lent) → Ready i k l → blocks-from (c .size) batch i k l ≡ map (λ (o : Outcome). o .area) (all-outcomes i k l)
+  unfolding outcomes calls-from blocks-from turn
+  from-blocks i zero l r = refl
+  from-blocks i (suc k) l r = same-cons (shown i k l r) (from-blocks (suc i) k (turn (c .size) batch i l) (next i k l r))
+
+  -- ---- what the answers have at the end of an event
+  module _ (i k : ℕ) (l : Lent) (r : Ready i (suc k) l) (answers : List ℕ) (e : answers ≡ from i (suc k) l .answers) where
+    front-length : length (take (2 * i) (l .answers)) ≡ 2 * i
+    front-length = length-take-le (2 * i) (l .answers) (omega (arith, r .room))
+
+    rest : List ℕ
+    rest = enc-all code-and-key (outcomes (called i l .store) (calls-from (c .size) batch (suc i) k (turn (c .size) batch i l)))
+
+    split : answers ≡ take (2 * i) (l .answers) ++ (called i l .code ∷ (called i l .key ∷ rest))
+    unfolding rest outcomes calls-from enc-all
+    split = e ∙ from-answers i (suc k) l r
+
+    code-at : getD answers (2 * i) 0 ≡ called i l .code
+    code-at = ap (λ (x : List ℕ). getD x (2 * i) 0) split ∙ getD-at (take (2 * i) (l .answers)) (called i l .code) (called i l .key ∷ rest) 0 (2 * i) front-length
+
+    key-at : getD answers (2 * i + 1) 0 ≡ called i l .key
+    key-at =
+        ap (λ (x : List ℕ). getD x (2 * i + 1) 0) split
+        ∙ ap (λ (n : ℕ). getD (take (2 * i) (l .answers) ++ (called i l .code ∷ (called i l .key ∷ rest))) (n + 1) 0) (sym front-length)
+        ∙ getD-append-add (take (2 * i) (l .answers)) (called i l .code ∷ (called i l .key ∷ rest)) 1 0
+
+  -- ---- what was told
+  from-told : (i k : ℕ) (l : Lent) → Ready i k l → (answers : List ℕ) → answers ≡ from i k l .answers
+      → told-from (c .size) batch answers i k l ≡ told-calls (c .size) (l .store) (calls-from (c .size) batch i k l)
+  unfolding from told-from told-calls calls-from
+  from-told i zero l r answers e = refl
+  from-told i (suc k) l r answers e =
+      same-cons (same-told _ _ (code-at i k l r answers e) (key-at i k l r answers e) (shown i k l r))
+      (from-told (suc i) k (turn (c .size) batch i l) (next i k l r) answers e ∙ unfold turn in refl)
+
+  -- ---- bytes that no accepted get fills
+  from-kept : (b n i k : ℕ) (l : Lent) → Ready i k l → (answers : List ℕ) → answers ≡ from i k l .answers
+      → ((j : ℕ) → i ≤ j → j < i + k → kind-of batch j ≡ get-kind → getD answers (2 * j) 0 ≡ 0 → (b + n ≤ begins batch j) ⊎ (begins batch j + c .size ≤ b))
+      → run b n (from i k l .area) ≡ run b n (l .area)
+  unfolding from
+  from-kept b n i zero l r answers e f = refl
+  from-kept b n i (suc k) l r answers e f =
+      from-kept b n (suc i) k (turn (c .size) batch i l) (next i k l r) answers e (λ j h g. f j (omega arith) (omega arith)) ∙ one
+    where
+      call : Call
+      call = call-at (c .size) batch i (l .area)
+
+      one : run b n (turn (c .size) batch i l .area) ≡ run b n (l .area)
+      one =
+          by (eqb (kind-of batch i) get-kind and eqb (called i l .code) 0)
+          (λ y. unfold turn in with-apart (c .size) (begins batch i) (l .area) (called i l .area) (area-length c (l .store) (r .held) (call-at (c .size) batch i (l .area))) b n
+          (f i (omega arith) (omega arith) (eqb-true _ _ (and-l _ _ y)) (code-at i k l r answers e ∙ eqb-true _ _ (and-r _ _ y))))
+          (λ m. unfold turn in ap (λ (x : List ℕ). run b n (with-block (c .size) (begins batch i) x (l .area))) (area-left c (l .store) (r .held) (call-at (c .size) batch i (l .area)) m)
+          ∙ ap (run b n) (sym (with-same (c .size) (begins batch i) (l .area))))
+
+  -- ---- from the first event on
+  ready-turns : (n i : ℕ) (l : Lent) → Ready 0 n l → i ≤ n → Ready i (n - i) (turns (c .size) batch i l)
+  unfolding turns
+  ready-turns n zero l r h = subst (λ (k : ℕ). Ready 0 k l) (let e : n ≡ n - 0 = omega arith in e) r
+  ready-turns n (suc i) l r h =
+      let e : n - i ≡ suc (n - suc i) = omega arith in
+      next i (n - suc i) (turns (c .size) batch i l) (subst (λ (k : ℕ). Ready i k (turns (c .size) batch i l)) e (ready-turns n i l r (omega arith)))
+
+  module _ (l : Lent) (v : StoreOf c (l .store)) (b256 : Below 256 (l .store)) (y : is-batch batch l ≡ true) where
+    ready : Ready 0 (count batch) l
+    unfolding is-batch
+    ready = record { held = v; bytes = b256; room = let e = eqb-true (length (l .answers)) (2 * count batch) (and-r _ _ y) in omega (arith, e) }
+
+    all-from : turns (c .size) batch (count batch) l ≡ from 0 (count batch) l
+    unfolding turns
+    all-from = sym (from-turns 0 (count batch) l ∙ ap (λ (n : ℕ). turns (c .size) batch n l) (zero-add (count batch)))
+
+    pub held-after : StoreOf c (turns (c .size) batch (count batch) l .store)
+    held-after = ready-turns (count batch) (count batch) l ready (omega arith) .held
+
+    pub bytes-after : Below 256 (turns (c .size) batch (count batch) l .store)
+    bytes-after = ready-turns (count batch) (count batch) l ready (omega arith) .bytes
+
+    pub one-by-one : OneByOne (c .size) batch l (turns (c .size) batch (count batch) l)
+    one-by-one = record {
+      store = ap (λ (m : Lent). m .store) all-from ∙ from-store 0 (count batch) l;
+      answers = ap (λ (m : Lent). m .answers) all-from ∙ from-answers 0 (count batch) l ready;
+      blocks = from-blocks 0 (count batch) l ready;
+      kept = λ i b n h f. let e : i + (count batch - i) ≡ count batch = omega arith in
+          let q : from i (count batch - i) (turns (c .size) batch i l) ≡ turns (c .size) batch (count batch) l =
+          from-turns i (count batch - i) l ∙ ap (λ (m : ℕ). turns (c .size) batch m l) e in
+          ap (λ (m : Lent). run b n (m .area)) (sym q)
+          ∙ from-kept b n i (count batch - i) (turns (c .size) batch i l) (ready-turns (count batch) i l ready h) (turns (c .size) batch (count batch) l .answers)
+          (ap (λ (m : Lent). m .answers) (sym q)) (λ j g p. f j g (omega arith));
+    }
+
+    pub all-told : told-from (c .size) batch (turns (c .size) batch (count batch) l .answers) 0 (count batch) l ≡ told-calls (c .size) (l .store) (calls-of (c .size) batch l)
+    all-told = from-told 0 (count batch) l ready _ (ap (λ (m : Lent). m .answers) all-from)
+
+-- ---- the outcome of a batch on a sound store
+module _ (batch : Batch) (l : Lent) where
+  pub ran-all : sound-bytes (l .store) ≡ true → is-batch batch l ≡ true
+      → batch-outcome batch l ≡ ran 0 (turns (decode-bytes (l .store) .settings .size) batch (count batch) l)
+  unfolding batch-outcome
+  ran-all y b = rw (y, b) refl
+
+  pub ran-none : sound-bytes (l .store) ≡ true → is-batch batch l ≡ false → batch-outcome batch l ≡ ran 3 l
+  unfolding batch-outcome
+  ran-none y n = rw (y, n) refl
+
+  ran-unsound : sound-bytes (l .store) ≡ false → batch-outcome batch l ≡ ran 2 l
+  unfolding batch-outcome
+  ran-unsound n = rw n refl
+
+  -- code 0 says that both questions were answered yes
+  zero-sound : batch-outcome batch l .code ≡ 0 → sound-bytes (l .store) ≡ true
+  zero-sound z = by (sound-bytes (l .store)) (λ y. y) (λ n. let e : 2 ≡ batch-outcome batch l .code = ap (λ (r : Ran). r .code) (sym (ran-unsound n)) in absurd (omega (arith, e, z)))
+
+  zero-batch : batch-outcome batch l .code ≡ 0 → is-batch batch l ≡ true
+  zero-batch z =
+      by (is-batch batch l) (λ y. y)
+      (λ n. let e : 3 ≡ batch-outcome batch l .code = ap (λ (r : Ran). r .code) (sym (ran-none (zero-sound z) n)) in absurd (omega (arith, e, z)))
+
+  pub batch-store : sound-bytes (l .store) ≡ true → StoreOf (settings-of (words (l .store))) (l .store)
+  batch-store y = stores.store-of (l .store) (store-sound (l .store) y) (settings-of (words (l .store))) refl
+
+pub batch-theorem : BatchTheorem
+unfolding decode-bytes
+batch-theorem batch l b z =
+    let y = zero-sound batch l z in
+    let c : Settings = settings-of (words (l .store)) in
+    let v = batch-store batch l y in
+    let q : c .size ≡ decode-bytes (l .store) .settings .size = size-is c (l .store) v in
+    subst (λ (left : Lent). OneByOne (decode-bytes (l .store) .settings .size) batch l left) (ap (λ (r : Ran). r .left) (sym (ran-all batch l y (zero-batch batch l z))))
+    (subst (λ (size : ℕ). OneByOne size batch l (turns size batch (count batch) l)) q (one-by-one c batch l v b (zero-batch batch l z)))
