@@ -12,6 +12,26 @@ pub struct Answer {
     pub key: u64,
 }
 
+/// An event of a list: its kind, its fields, and the byte at which a put's block begins in the data, a get's in the area.
+#[derive(Clone, Copy, Debug, PartialEq, Eq)]
+pub struct ListEvent {
+    pub kind: u64,
+    pub a: u64,
+    pub b: u64,
+    pub c: u64,
+    pub at: u64,
+}
+
+/// The words of some events, as a list of them is lent.
+pub fn words_of(events: &[ListEvent]) -> Vec<u64> {
+    events.iter().flat_map(|e| [e.kind, e.a, e.b, e.c, e.at]).collect()
+}
+
+/// The answers in the words that a list of events leaves.
+pub fn answers_in(words: &[u64]) -> Vec<Answer> {
+    words.chunks(2).map(|two| Answer { code: two[0], key: two[1] }).collect()
+}
+
 mod calls {
     use super::Answer;
 
@@ -33,6 +53,18 @@ mod calls {
             answer: *mut u8,
             answer_length: usize,
         ) -> Answer;
+        pub fn disk_run(
+            store: *mut u8,
+            length: usize,
+            events: *const u64,
+            event_words: usize,
+            data: *const u8,
+            data_length: usize,
+            area: *mut u8,
+            area_length: usize,
+            answers: *mut u64,
+            answer_words: usize,
+        ) -> u64;
         pub fn disk_alike(store: *const u8, length: usize, other: *const u8, other_length: usize) -> u64;
     }
 }
@@ -64,6 +96,24 @@ pub fn step(store: &mut [u8], e: &Event, data: &[u8], zero: &[u8], answer: &mut 
             zero.len(),
             answer.as_mut_ptr(),
             answer.len(),
+        )
+    }
+}
+
+/// Events and answers are lent as words: five for each event, two for each answer.
+pub fn run(store: &mut [u8], events: &[u64], data: &[u8], area: &mut [u8], answers: &mut [u64]) -> u64 {
+    unsafe {
+        calls::disk_run(
+            store.as_mut_ptr(),
+            store.len(),
+            events.as_ptr(),
+            events.len(),
+            data.as_ptr(),
+            data.len(),
+            area.as_mut_ptr(),
+            area.len(),
+            answers.as_mut_ptr(),
+            answers.len(),
         )
     }
 }
