@@ -24,7 +24,7 @@ pub struct Sum {
 const LARGE: usize = 1 << 18;
 
 /// A start, and how many acts follow.
-fn start(r: &mut Random) -> (Start, u64) {
+pub fn start(r: &mut Random) -> (Start, u64) {
     let s = settings(r);
     let acts = if length(s) < LARGE { r.among(50, 1200) } else { 60 };
     if r.one_in(4) && length(s) < LARGE {

@@ -36,19 +36,19 @@ pub struct Trial {
     pub counts: Counts,
 }
 
-fn same<T: PartialEq + std::fmt::Debug>(what: &str, proved: T, model: T) -> Result<(), String> {
-    if proved == model {
+pub fn same<T: PartialEq + std::fmt::Debug>(what: &str, proved: T, expected: T) -> Result<(), String> {
+    if proved == expected {
         Ok(())
     } else {
-        Err(format!("{what}: proved {proved:?}, model {model:?}"))
+        Err(format!("{what}: proved {proved:?}, expected {expected:?}"))
     }
 }
 
-fn same_bytes(proved: &[u8], model: &[u8]) -> Result<(), String> {
-    if proved == model {
+pub fn same_bytes(proved: &[u8], expected: &[u8]) -> Result<(), String> {
+    if proved == expected {
         return Ok(());
     }
-    let at = proved.iter().zip(model).position(|(p, m)| p != m);
+    let at = proved.iter().zip(expected).position(|(p, e)| p != e);
     Err(format!("the store differs at byte {at:?}, word {:?}", at.map(|i| i / 8)))
 }
 
@@ -81,6 +81,11 @@ impl Trial {
         same_bytes(&proved, &expected)?;
         same("check", store::check(&proved), 0)?;
         Ok(Trial { state, proved, expected, history, counts: Counts::default() })
+    }
+
+    /// The store as the proved calls have left it.
+    pub fn proved(&self) -> &[u8] {
+        &self.proved
     }
 
     pub fn take(&mut self, act: &Act) -> Result<Answer, String> {

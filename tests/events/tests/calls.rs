@@ -1,9 +1,6 @@
 //! Random lists of events by calls: the proved store and the model, compared after every event in code, key, data and each byte.
 use event_tests::lists::lists;
-
-fn setting(name: &str, default: u64) -> u64 {
-    std::env::var(name).ok().and_then(|n| n.parse().ok()).unwrap_or(default)
-}
+use event_tests::setting;
 
 /// So many events meet all that can be met.
 const ENOUGH: u64 = 1_000_000;
