@@ -1,4 +1,4 @@
-//! The 22 events directly on a store's bytes, written from the rules and docs/LAYOUT.md alone: the opponent of the proved step.
+//! The 22 events directly on a store's bytes, written from the rules and docs/LAYOUT.md alone: the opponent of the proved step, and of lists of events.
 mod asks;
 mod log;
 mod maps;
@@ -17,7 +17,12 @@ mod writes;
 
 use call_tests::store::Answer;
 use call_tests::text::model::Event;
+use std::ops::Range;
 use store::Store;
+
+// The kinds that have a block of bytes.
+const PUT: u64 = 1;
+const GET: u64 = 10;
 
 /// The key of an accepted event, or the number of the question that says no.
 type Told = Result<u64, u64>;
@@ -33,18 +38,51 @@ pub fn check(store: &[u8]) -> u64 {
 #[inline(never)]
 pub fn step(store: &mut [u8], e: &Event, data: &[u8], zero: &[u8], answer: &mut [u8]) -> Answer {
     let told = match Store::sound(store) {
-        Some(mut store) => event(&mut store, e, data, zero, answer),
+        Some(store) if e.kind == GET && !reads::is_zero_block(&store, zero) => Err(3),
+        Some(mut store) => event(&mut store, e, data, answer),
         None => Err(2),
     };
+    let [code, key] = answer_of(told);
+    Answer { code, key }
+}
+
+/// As disk_run.
+#[inline(never)]
+pub fn run(store: &mut [u8], events: &[u64], data: &[u8], area: &mut [u8], answers: &mut [u64]) -> u64 {
+    let Some(mut store) = Store::sound(store) else { return 2 };
+    let ((events, rest), (answers, half)) = (events.as_chunks(), answers.as_chunks_mut());
+    if !rest.is_empty() || !half.is_empty() || events.len() != answers.len() {
+        return 3;
+    }
+    let size = 8 * store.shape.cell;
+    for (&[kind, a, b, c, at], answer) in events.iter().zip(answers) {
+        let (data, area) = match (kind, block(at, size)) {
+            (PUT, Some(block)) => (data.get(block).unwrap_or(&[]), &mut [][..]),
+            (GET, Some(block)) => (&[][..], area.get_mut(block).unwrap_or(&mut [])),
+            _ => (&[][..], &mut [][..]),
+        };
+        *answer = answer_of(event(&mut store, &Event { code: 0, kind, a, b, c }, data, area));
+    }
+    0
+}
+
+/// The bytes of a block; none where their numbers are too high for any area.
+fn block(at: u64, size: usize) -> Option<Range<usize>> {
+    let begin = usize::try_from(at).ok()?;
+    Some(begin..begin.checked_add(size)?)
+}
+
+/// Code and key.
+fn answer_of(told: Told) -> [u64; 2] {
     match told {
-        Ok(key) => Answer { code: 0, key },
-        Err(code) => Answer { code, key: 0 },
+        Ok(key) => [0, key],
+        Err(code) => [code, 0],
     }
 }
 
-fn event(s: &mut Store, e: &Event, data: &[u8], zero: &[u8], answer: &mut [u8]) -> Told {
+fn event(s: &mut Store, e: &Event, data: &[u8], answer: &mut [u8]) -> Told {
     match e.kind {
-        1 => writes::put(s, e.a, e.b, e.c, data),
+        PUT => writes::put(s, e.a, e.b, e.c, data),
         2 => writes::copy(s, e.a),
         3 => writes::savelog(s, e.a),
         4 => maps::map(s, e.a, e.b),
@@ -53,7 +91,7 @@ fn event(s: &mut Store, e: &Event, data: &[u8], zero: &[u8], answer: &mut [u8]) 
         7 => relays::drop(s, e.a),
         8 => maps::savemap(s, e.a),
         9 => maps::done(s, e.a, e.b),
-        10 => reads::get(s, e.a, e.b, zero, answer),
+        GET => reads::get(s, e.a, e.b, answer),
         11 => writes::abandon(s, e.a, e.b),
         12 => membership::learn(s, e.a),
         13 => membership::reset(s, e.a),

@@ -4,6 +4,7 @@ mod lists;
 use call_tests::random::Random;
 use call_tests::store::model::{self, Settings};
 use call_tests::store::random::{small_settings, sound_store};
+use call_tests::store::run;
 use lists::Both;
 use speed::peer;
 
@@ -28,6 +29,7 @@ fn disciplined_lists() {
         for _ in 0..100 {
             both.some_events(&mut r);
         }
+        both.again_in_batches(&mut r);
         (0..16).for_each(|i| codes[i] += both.codes[i]);
         (0..23).for_each(|i| kinds[i] += both.kinds[i]);
     }
@@ -49,6 +51,7 @@ fn wild_lists() {
         for _ in 0..500 {
             both.wild_event(&mut r);
         }
+        both.again_in_batches(&mut r);
         (0..16).for_each(|i| codes[i] += both.codes[i]);
         (0..23).for_each(|i| kinds[i] += both.kinds[i]);
     }
@@ -118,6 +121,29 @@ fn the_highest_key() {
         }
         assert_eq!([peer::check(&store), call_tests::store::check(&store)], [code; 2]);
     }
+}
+
+/// Lists of up to three events, the words of events and answers often too many or too few, blocks at any byte; on a sound store and on one that is not.
+#[test]
+fn any_words() {
+    let mut r = Random::new(37);
+    let sound = Both::formatted(&mut r, Settings::new(3, 8, 2, 4)).peer;
+    let mut codes = [0; 4];
+    for _ in 0..events() / 10 {
+        let store = if r.one_in(4) { &sound[1..] } else { &sound };
+        let words = if r.one_in(2) { r.below(17) } else { 5 * r.below(4) };
+        let answer_words = if r.one_in(4) { r.below(8) } else { words / 5 * 2 };
+        let events: Vec<u64> = (0..words).map(|_| if r.one_in(8) { r.number() } else { r.below(13) }).collect();
+        let lengths = [0; 2].map(|_: usize| r.below(20) as usize);
+        let (data, area) = (r.bytes(lengths[0]), r.bytes(lengths[1]));
+        let [proved, peer] = [run, peer::run].map(|run| {
+            let (mut store, mut area, mut answers) = (store.to_vec(), area.clone(), vec![7; answer_words as usize]);
+            (run(&mut store, &events, &data, &mut area, &mut answers), store, area, answers)
+        });
+        assert!(proved == peer, "{events:?}");
+        codes[peer.0 as usize] += 1;
+    }
+    assert!([0, 2, 3].iter().all(|&code: &usize| codes[code] > events() / 100), "{codes:?}");
 }
 
 #[test]

@@ -38,7 +38,7 @@ pub fn crash(store: &mut Store, place_field: u64) -> Told {
 pub fn lose(store: &mut Store, place_field: u64) -> Told {
     let place = place(store, place_field)?;
     ask(store.ids[place] != 0, 13)?;
-    store.set(store.shape.at(place), 0);
+    store.set_id(place, 0);
     Ok(0)
 }
 
@@ -57,7 +57,7 @@ pub fn join(store: &mut Store, place_field: u64) -> Told {
     ask(store.ids[place] == 0, 13)?;
     let brick = store.shape.at(place);
     store.set(AT_GIVEN, given + 1);
-    store.set(brick, given + 1);
+    store.set_id(place, given + 1);
     store.set(brick + UP, 1);
     for word in [MEMBER, BEGAN, NEXT, CEILING] {
         store.set(brick + word, 0);

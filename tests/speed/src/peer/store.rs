@@ -60,7 +60,7 @@ impl Shape {
 pub struct Store<'a> {
     pub words: &'a mut [Word],
     pub shape: Shape,
-    /// By place, 0 where it is empty; as the step found them.
+    /// By place, 0 where it is empty.
     pub ids: [u64; MOST_PLACES],
 }
 
@@ -78,6 +78,11 @@ impl<'a> Store<'a> {
 
     pub fn set(&mut self, i: usize, value: u64) {
         set(self.words, i, value);
+    }
+
+    pub fn set_id(&mut self, place: usize, id: u64) {
+        self.set(self.shape.at(place), id);
+        self.ids[place] = id;
     }
 
     pub fn view(&self) -> u64 {

@@ -1,4 +1,7 @@
 //! Random lists of events on two stores, one stepped by the proved calls and one by the peer.
+mod again;
+
+use again::Kept;
 use call_tests::random::Random;
 use call_tests::store::model::{get, Settings, AT_BAG, BUCKETS};
 use call_tests::store::{format, step, Answer};
@@ -18,11 +21,12 @@ pub struct Both {
     pub codes: [u64; 16],
     /// How often each kind was accepted.
     pub kinds: [u64; 23],
+    kept: Kept,
 }
 
 impl Both {
     pub fn new(settings: Settings, bytes: Vec<u8>) -> Self {
-        Both { settings, proved: bytes.clone(), peer: bytes, calm: false, codes: [0; 16], kinds: [0; 23] }
+        Both { settings, kept: Kept::new(&bytes), proved: bytes.clone(), peer: bytes, calm: false, codes: [0; 16], kinds: [0; 23] }
     }
 
     /// Formatted over random bytes.
@@ -45,7 +49,17 @@ impl Both {
         if told.code == 0 {
             self.kinds[e.kind as usize] += 1;
         }
+        let fits = match e.kind {
+            1 => data.len() == self.settings.size as usize,
+            _ => area.len() == self.settings.size as usize && *zero == vec![0; area.len()],
+        };
+        self.kept.add(e, fits, data, (area, &one), told);
         told
+    }
+
+    /// All events so far once more, in batches.
+    pub fn again_in_batches(&self, r: &mut Random) {
+        self.kept.again_in_batches(r, &self.proved);
     }
 
     /// With the areas that its kind asks for.
