@@ -1,4 +1,5 @@
-/* A block is written, the brick that it was written to crashes and comes back, and the block is read again. Each call is shown with what it answers. */
+/* Two blocks are written, the brick that they were written to crashes and comes back, and the blocks are read again. Each event is shown with its answer.
+ * A single event is a call of its own: disk_do. Events that are known together go into one call, disk_do_all, which checks the store once for all of them. */
 #include "disk.h"
 
 #include <inttypes.h>
@@ -7,67 +8,75 @@
 #include <string.h>
 
 enum { PLACES = 3, SIZE = 8, ENTRIES = 2, CHUNKS = 4, BUCKETS = 16 };
-enum { PROXY = 0, BLOCK = 5 };
+enum { PROXY = 0, ONE = 5, TWO = 6, LONGEST_LIST = 2 + 2 * BUCKETS + PLACES + 1 };
 
-static const uint8_t drawing[SIZE] = {'d', 'r', 'a', 'w', 'i', 'n', 'g', '1'};
-static const uint8_t zero[SIZE] = {0};
+/* The data of blocks ONE and TWO, and the area for what is read of them. */
+static const uint8_t drawings[2 * SIZE] = {'d', 'r', 'a', 'w', 'i', 'n', 'g', '1', 'd', 'r', 'a', 'w', 'i', 'n', 'g', '2'};
+static uint8_t shown[2 * SIZE];
+static disk_step_answer answers[LONGEST_LIST];
 static uint8_t *store;
 static size_t length;
 
 /* Shows an event as its line of text, and the code with its text. */
-static void show(uint64_t kind, uint64_t a, uint64_t b, uint64_t c, uint64_t code)
+static void show(disk_event event, uint64_t code)
 {
     uint8_t line[DISK_LONGEST_LINE];
-    disk_line_answer text = disk_print(kind, a, b, c, drawing, SIZE, SIZE, line, sizeof line);
+    disk_line_answer text = disk_print(event.kind, event.a, event.b, event.c, drawings + event.at, SIZE, SIZE, line, sizeof line);
     printf("%-28.*s %2" PRIu64 " %s\n", (int)text.length - 1, (const char *)line, code, disk_code_text(code));
 }
 
-/* An event with up to two numbers. */
-static void run(uint64_t kind, uint64_t a, uint64_t b)
+static void run(uint64_t kind, uint64_t a)
 {
-    show(kind, a, b, 0, disk_do(store, length, kind, a, b, 0).code);
+    show((disk_event){kind, a, 0, 0, 0}, disk_do(store, length, kind, a, 0, 0).code);
 }
 
-/* Whether the block shows the drawing. */
-static int read_block(void)
+static void run_all(const disk_event *events, size_t count)
 {
-    uint8_t answer[SIZE];
-    disk_step_answer told = disk_get(store, length, PROXY, BLOCK, zero, SIZE, answer, SIZE);
-    show(DISK_GET, PROXY, BLOCK, 0, told.code);
-    if (told.code != DISK_OK)
-        return 0;
-    printf("    key %" PRIu64 ", data \"%.*s\"\n", told.key, SIZE, (const char *)answer);
-    return memcmp(answer, drawing, SIZE) == 0;
+    if (disk_do_all(store, length, events, count, drawings, sizeof drawings, shown, sizeof shown, answers) == DISK_UNSOUND)
+        exit(1);
+    for (size_t i = 0; i < count; i++)
+        show(events[i], answers[i].code);
 }
 
-/* The chunk goes to two bricks, its key to the bucket's primary and backup; once all of it is saved the write is confirmed. */
-static void write_block(void)
+/* Whether both blocks show their drawings. */
+static int read_blocks(void)
 {
-    disk_step_answer put = disk_put(store, length, PROXY, 0, BLOCK, drawing, SIZE);
-    show(DISK_PUT, PROXY, 0, BLOCK, put.code);
-    run(DISK_COPY, put.key, 0);
-    run(DISK_SAVELOG, 0, 0);
-    run(DISK_SAVELOG, 1, 0);
-    run(DISK_MAP, PROXY, BLOCK);
-    run(DISK_SEND, BLOCK, 0);
-    run(DISK_DELIVER, 0, 0);
-    run(DISK_SAVEMAP, 0, 0);
-    run(DISK_SAVEMAP, 1, 0);
-    run(DISK_DONE, PROXY, BLOCK);
+    const disk_event gets[] = {{DISK_GET, PROXY, ONE, 0, 0}, {DISK_GET, PROXY, TWO, 0, SIZE}};
+    memset(shown, 0, sizeof shown);
+    run_all(gets, 2);
+    for (size_t i = 0; i < 2; i++)
+        if (answers[i].code == DISK_OK)
+            printf("    key %" PRIu64 ", data \"%.*s\"\n", answers[i].key, SIZE, (const char *)shown + gets[i].at);
+    return memcmp(shown, drawings, sizeof shown) == 0;
+}
+
+/* The chunks go to two bricks, their keys to the bucket's primary and backup; once all of it is saved the writes are confirmed. The puts are a list of their
+ * own: a copy needs the key that its put answers. */
+static void write_blocks(void)
+{
+    const disk_event puts[] = {{DISK_PUT, PROXY, 0, ONE, 0}, {DISK_PUT, PROXY, 0, TWO, SIZE}};
+    run_all(puts, 2);
+    const disk_event rest[] = {
+        {DISK_COPY, answers[0].key, 0, 0, 0}, {DISK_COPY, answers[1].key, 0, 0, 0}, {DISK_SAVELOG, 0, 0, 0, 0}, {DISK_SAVELOG, 1, 0, 0, 0},
+        {DISK_MAP, PROXY, ONE, 0, 0},         {DISK_MAP, PROXY, TWO, 0, 0},         {DISK_SEND, ONE, 0, 0, 0},  {DISK_SEND, TWO, 0, 0, 0},
+        {DISK_DELIVER, 0, 0, 0, 0},           {DISK_DELIVER, 0, 0, 0, 0},           {DISK_SAVEMAP, 0, 0, 0, 0}, {DISK_SAVEMAP, 1, 0, 0, 0},
+        {DISK_DONE, PROXY, ONE, 0, 0},        {DISK_DONE, PROXY, TWO, 0, 0},
+    };
+    run_all(rest, sizeof rest / sizeof rest[0]);
 }
 
 /* The risen brick is a member from the next view on; then each bucket gets its copies, and each place its chunks. */
 static void bring_back(uint64_t place)
 {
-    run(DISK_RISE, place, 0);
-    run(DISK_VIEW, 0, 0);
+    disk_event events[LONGEST_LIST] = {{DISK_RISE, place, 0, 0, 0}, {DISK_VIEW, 0, 0, 0, 0}}, *next = events + 2;
     for (uint64_t bucket = 0; bucket < BUCKETS; bucket++) {
-        run(DISK_FETCH, bucket, 0);
-        run(DISK_READY, bucket, 0);
+        *next++ = (disk_event){DISK_FETCH, bucket, 0, 0, 0};
+        *next++ = (disk_event){DISK_READY, bucket, 0, 0, 0};
     }
     for (uint64_t each = 0; each < PLACES; each++)
-        run(DISK_MEND, each, 0);
-    run(DISK_LEARN, PROXY, 0);
+        *next++ = (disk_event){DISK_MEND, each, 0, 0, 0};
+    *next = (disk_event){DISK_LEARN, PROXY, 0, 0, 0};
+    run_all(events, LONGEST_LIST);
 }
 
 int main(void)
@@ -78,13 +87,13 @@ int main(void)
         return 1;
     uint64_t code = disk_format(store, length, PLACES, SIZE, ENTRIES, CHUNKS);
     printf("format of %zu bytes: %s\n", length, disk_code_text(code));
-    run(DISK_LEARN, PROXY, 0);
-    write_block();
-    read_block();
-    run(DISK_CRASH, 0, 0);
-    read_block();
+    run(DISK_LEARN, PROXY);
+    write_blocks();
+    read_blocks();
+    run(DISK_CRASH, 0);
+    read_blocks();
     bring_back(0);
-    int right = read_block();
+    int right = read_blocks();
     printf("check: %s\n", disk_check(store, length) == DISK_OK ? "the store is sound" : disk_code_text(DISK_UNSOUND));
     free(store);
     return right ? 0 : 1;

@@ -1,5 +1,7 @@
 #include "lent.h"
 
+#include "list.h"
+
 #include <inttypes.h>
 #include <stdio.h>
 #include <stdlib.h>
@@ -36,6 +38,7 @@ lent formatted(position position, settings settings)
     lent lent = {
         settings,
         lend(position, length_of(settings)),
+        lend(position, length_of(settings)),
         lend(position, settings.size),
         lend(position, settings.size),
         lend(position, settings.size),
@@ -51,6 +54,7 @@ lent formatted(position position, settings settings)
 void end(lent *lent)
 {
     take_back(&lent->store);
+    take_back(&lent->twin);
     take_back(&lent->data);
     take_back(&lent->zero);
     take_back(&lent->answer);
@@ -84,21 +88,21 @@ static uint8_t data_byte(uint64_t key, size_t i)
     return key == NO_KEY ? 0 : (uint8_t)(1 + 37 * (key >> 56) + 11 * key + 7 * i + i / 256);
 }
 
-static void bring_data(lent *lent, uint64_t key)
+void fill_data(uint8_t *bytes, size_t length, uint64_t key)
 {
-    unseal(&lent->data);
-    for (size_t i = 0; i < lent->data.length; i++)
-        lent->data.bytes[i] = data_byte(key, i);
-    seal(&lent->data);
+    for (size_t i = 0; i < length; i++)
+        bytes[i] = data_byte(key, i);
 }
 
-static void expect_data(const lent *lent, uint64_t key)
+bool is_data(const uint8_t *bytes, size_t length, uint64_t key)
 {
-    for (size_t i = 0; i < lent->answer.length; i++)
-        EXPECT(lent->answer.bytes[i] == data_byte(key, i));
+    for (size_t i = 0; i < length; i++)
+        if (bytes[i] != data_byte(key, i))
+            return false;
+    return true;
 }
 
-static void expect_told(const row *row, disk_step_answer told)
+void expect_told(const row *row, disk_step_answer told)
 {
     if (told.code == row->code && told.key == row->key)
         return;
@@ -107,14 +111,23 @@ static void expect_told(const row *row, disk_step_answer told)
     exit(1);
 }
 
+static void walk_one(lent *lent, const row *row)
+{
+    unseal(&lent->data);
+    fill_data(lent->data.bytes, lent->data.length, row->key);
+    seal(&lent->data);
+    expect_told(row, step(lent, row->kind, row->a, row->b, row->c));
+    if (row->kind == DISK_GET && row->code == DISK_OK)
+        EXPECT(is_data(lent->answer.bytes, lent->answer.length, row->key));
+}
+
 void walk(lent *lent, const row *rows, size_t count)
 {
-    for (const row *row = rows; row < rows + count; row++) {
-        bring_data(lent, row->key);
-        expect_told(row, step(lent, row->kind, row->a, row->b, row->c));
-        if (row->kind == DISK_GET && row->code == DISK_OK)
-            expect_data(lent, row->key);
-    }
+    memcpy(lent->twin.bytes, lent->store.bytes, lent->store.length);
+    run_rows(&lent->twin, lent->settings, rows, count);
+    for (const row *row = rows; row < rows + count; row++)
+        walk_one(lent, row);
+    EXPECT(same_since(&lent->store, bytes_of(&lent->twin)));
 }
 
 void accept(lent *lent, uint64_t kind, uint64_t a, uint64_t b)

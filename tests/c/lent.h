@@ -9,9 +9,10 @@ typedef struct {
     uint64_t places, size, entries, chunks;
 } settings;
 
+/* The twin is for a copy of the store. */
 typedef struct {
     settings settings;
-    area store, data, zero, answer;
+    area store, twin, data, zero, answer;
 } lent;
 
 /* An event and what it is told. */
@@ -41,7 +42,15 @@ void end(lent *lent);
  * and the store stays sound. */
 disk_step_answer step(lent *lent, uint64_t kind, uint64_t a, uint64_t b, uint64_t c);
 
-/* One event after the other, each told what its row says. A put brings the data that belong to the key it is told, and an accepted get must show those. */
+/* The data that belong to a key; key 0 has zeros. */
+void fill_data(uint8_t *bytes, size_t length, uint64_t key);
+bool is_data(const uint8_t *bytes, size_t length, uint64_t key);
+
+/* Ends the process where an event is not told what its row says. */
+void expect_told(const row *row, disk_step_answer told);
+
+/* One event after the other, each told what its row says. A put brings the data that belong to the key it is told, and an accepted get must show those.
+ * The same events in one run, on the twin, are told the same and leave the same bytes. */
 void walk(lent *lent, const row *rows, size_t count);
 
 /* One event that must be accepted with key 0. */

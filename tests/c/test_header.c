@@ -6,6 +6,10 @@
 _Static_assert(sizeof(size_t) == 8, "the library is for 64 bits");
 _Static_assert(sizeof(disk_step_answer) == 16, "two words");
 _Static_assert(offsetof(disk_step_answer, code) == 0 && offsetof(disk_step_answer, key) == 8, "in this order");
+_Static_assert(sizeof(disk_event) == 40, "five words");
+_Static_assert(offsetof(disk_event, kind) == 0 && offsetof(disk_event, a) == 8 && offsetof(disk_event, b) == 16 && offsetof(disk_event, c) == 24 &&
+                   offsetof(disk_event, at) == 32,
+               "in this order");
 _Static_assert(sizeof(disk_event_answer) == 40, "five words");
 _Static_assert(offsetof(disk_event_answer, code) == 0 && offsetof(disk_event_answer, kind) == 8 && offsetof(disk_event_answer, a) == 16 &&
                    offsetof(disk_event_answer, b) == 24 && offsetof(disk_event_answer, c) == 32,

@@ -30,6 +30,11 @@ static void store_calls()
     expect(disk_do(store.data(), store.size(), DISK_SAVELOG, 0, 0, 0).code == DISK_OK, "do");
     const disk_step_answer get = disk_get(store.data(), store.size(), 0, 5, zero, sizeof zero, answer, sizeof answer);
     expect(get.code == DISK_OK && get.key == 0 && std::memcmp(answer, zero, sizeof zero) == 0, "get");
+    const disk_event events[2] = {{DISK_GET, 0, 6, 0, 0}, {DISK_PUT, 0, 0, 6, 0}};
+    disk_step_answer told[2];
+    expect(disk_run(store.data(), store.size(), events, 5, data, 0, answer, sizeof answer, told, 2) == DISK_OK && told[0].code == DISK_OK, "run");
+    expect(disk_do_all(store.data(), store.size(), events, 2, data, sizeof data, answer, 0, told) == DISK_OK, "do all");
+    expect(told[0].code == DISK_BAD_INPUT && told[1].key == ((uint64_t)1 << 56) + 1, "do all");
     expect(disk_alike(store.data(), store.size(), store.data(), store.size()) == 0, "alike");
 }
 

@@ -1,7 +1,21 @@
 /* Bytes that are no sound store: every call on them answers 2, and no byte changes. */
-#include "lent.h"
+#include "list.h"
 
 #include <stdlib.h>
+
+/* A list of all kinds, of right and of wrong lengths. */
+static void run_unsound(area *store)
+{
+    list list = new_list(store->position, DISK_COLLECT + 1, 64, 64);
+    for (uint64_t kind = 0; kind <= DISK_COLLECT; kind++)
+        set_event(&list, kind, (disk_event){kind, 0, 0, 5, 8 * (kind % 8)});
+    size_t event_words = list.events.length / 8, answer_words = list.answers.length / 8;
+    run_refused(store, &list, event_words, answer_words, DISK_UNSOUND);
+    run_refused(store, &list, event_words - 1, answer_words, DISK_UNSOUND);
+    run_refused(store, &list, event_words, answer_words - 2, DISK_UNSOUND);
+    run_refused(store, &list, 0, 0, DISK_UNSOUND);
+    end_list(&list);
+}
 
 /* Every kind, and numbers that are none, on bytes that are no sound store. */
 static void expect_unsound(lent *lent, area *store)
@@ -14,6 +28,7 @@ static void expect_unsound(lent *lent, area *store)
                                           lent->zero.length, lent->answer.bytes, lent->answer.length);
         EXPECT(told.code == DISK_UNSOUND && told.key == NO_KEY);
     }
+    run_unsound(store);
     EXPECT(same_since(store, old) && same_since(&lent->answer, old_answer));
 }
 
