@@ -1,4 +1,5 @@
-//! Times the proved step and the peer side by side, on the same bytes.
+//! Times the proved calls and the peer side by side, on the same bytes.
+pub mod batch;
 pub mod event;
 pub mod fixture;
 pub mod path;
@@ -11,6 +12,11 @@ pub type Step = fn(&mut [u8], &Event, &[u8], &[u8], &mut [u8]) -> Answer;
 
 /// The proved step, then the peer.
 pub const STEPS: [Step; 2] = [call_tests::store::step, crate::peer::step];
+
+pub type Run = fn(&mut [u8], &[u64], &[u8], &mut [u8], &mut [u64]) -> u64;
+
+/// Lists of events, in the same order.
+pub const RUNS: [Run; 2] = [call_tests::store::run, crate::peer::run];
 
 /// The check that each of them begins with.
 pub const CHECKS: [fn(&[u8]) -> u64; 2] = [call_tests::store::check, crate::peer::check];

@@ -68,8 +68,40 @@ impl Store {
     /// The events of a whole write of a block, the store as it is.
     pub fn write(&self, block: u64) -> [Event; 10] {
         let pair = self.pair(block);
-        let next = model::get(&self.bytes, model::AT_PLACES + pair[0] as usize * self.settings.place() + 4);
+        let next = model::get(&self.bytes, self.place(pair[0]) + 4);
         whole_write(block, pair, (pair[0] + 1) % self.settings.places, (pair[0] + 1) << 56 | next)
+    }
+
+    fn place(&self, place: u64) -> usize {
+        model::AT_PLACES + place as usize * self.settings.place()
+    }
+
+    fn log(&self, place: u64) -> usize {
+        self.place(place) + self.settings.at_log()
+    }
+
+    /// Where a cell begins, in bytes.
+    fn cell(&self, place: u64, row: usize) -> usize {
+        8 * (self.log(place) + 1 + 3 * self.settings.chunks as usize + row * self.settings.cell())
+    }
+
+    /// The cell of a place's next chunk.
+    pub fn next_cell(&self, place: u64) -> usize {
+        self.cell(place, model::get(&self.bytes, self.log(place)) as usize)
+    }
+
+    /// The cell of a mapped block at its primary.
+    pub fn cell_of(&self, block: u64) -> usize {
+        let primary = self.pair(block)[0];
+        let memory = self.place(primary) + model::AT_COPIES + 2 * model::bucket_of(block) as usize * self.settings.copy();
+        let key = model::get(&self.bytes, memory + 2 + 2 * self.row(memory, block));
+        self.cell(primary, self.row(self.log(primary), key))
+    }
+
+    /// The row of a table that begins with a number.
+    fn row(&self, table: usize, number: u64) -> usize {
+        let rows = 0..model::get(&self.bytes, table) as usize;
+        rows.into_iter().find(|i| model::get(&self.bytes, table + 1 + 2 * i) == number).expect("a row")
     }
 
     /// Whole writes one after the other, each of the first blocks once.
