@@ -4,7 +4,7 @@ use call_tests::store::model::Settings;
 use speed::bench::batch::{alone, reads, writes, Cells};
 use speed::bench::fixture::Store;
 
-const ROUNDS: usize = 21;
+const ROUNDS: usize = 41;
 const SIZE: u64 = 8192;
 
 fn main() {

@@ -17,6 +17,8 @@ pub fn reset(store: &mut Store, proxy_field: u64) -> Told {
     Ok(0)
 }
 
+/// Not inlined: the marks take much of the stack, which every other event would have to touch too.
+#[inline(never)]
 pub fn crash(store: &mut Store, place_field: u64) -> Told {
     let place = place(store, place_field)?;
     let brick = store.shape.at(place);

@@ -60,7 +60,8 @@ fn ready_tables(store: &Store) -> impl Iterator<Item = usize> + use<> {
     tables.into_iter().flatten()
 }
 
-/// How many chunks a mend adds. A key may be named twice, so they are sorted.
+/// How many chunks a mend adds. A key may be named twice, so they are sorted. Not inlined: the keys take much of the stack.
+#[inline(never)]
 fn missing(store: &Store, brick: usize, turn: &Turn) -> usize {
     let mut keys = [0; BUCKETS * MOST_ENTRIES];
     let mut count = 0;
@@ -91,6 +92,8 @@ fn mend_chunk(store: &mut Store, brick: usize, key: u64) {
     }
 }
 
+/// Not inlined: the marks take much of the stack.
+#[inline(never)]
 pub fn collect(store: &mut Store, place_field: u64) -> Told {
     let brick = member_at(store, place(store, place_field)?)?;
     let members = store.bricks().all(|at| store.get(at + UP) == 1 && store.get(at + MEMBER) == 1);
