@@ -198,7 +198,7 @@ pub fn text(lent: &Lent, acts: &[Act]) -> String {
     let size = Trial::new(&lent.start).map_or(0, |trial| trial.state.size());
     for act in acts {
         text += &match act {
-            Act::Event(e) => format!("[at {} of {} and {}] {}", e.at, lent.data.len(), lent.area.len(), line(&call(e, size, &lent.data, &lent.area))),
+            Act::Event(e) => format!("[at {}, data {}, area {}] {}", e.at, lent.data.len(), lent.area.len(), line(&call(e, size, &lent.data, &lent.area))),
             Act::Run => "[run]\n".to_string(),
             Act::Probe(damage) => format!("[run on a copy with {damage:?}]\n"),
         };
