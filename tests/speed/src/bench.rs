@@ -2,6 +2,7 @@
 pub mod batch;
 pub mod event;
 pub mod fixture;
+pub mod lists;
 pub mod path;
 pub mod samples;
 

@@ -7,12 +7,16 @@ use speed::bench::fixture::Store;
 const ROUNDS: usize = 41;
 const SIZE: u64 = 8192;
 
+const NOTES: &str = "4 places, blocks of 8 KB. A write of n blocks is one list, from their puts to their dones. Each row writes or reads the same 32 blocks,
+two of each bucket, n in a call; ratios are of times. Copies: of the same bytes from and to the same places, to two cells of the store
+as put and copy make them, or from a cell to the area as get does. Cells evicted: before each turn they are taken out of the caches,
+as the next cells of a log mostly are.
+";
+
 fn main() {
     paths(Cells::Cached, "cells cached");
     paths(Cells::Evicted, "cells evicted");
-    println!("4 places, blocks of 8 KB. A write of n blocks is one list from their puts to their dones. Each row writes or reads the same 32 blocks, two of each");
-    println!("bucket, n in a call; ratios are of times. The copies: from the same data to the same cells of the same store, as put and copy make them, for get from");
-    println!("the same cells to the same area.\n");
+    println!("{NOTES}");
     events();
 }
 
