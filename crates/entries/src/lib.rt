@@ -9,6 +9,7 @@ ghost use Rattle.words.specs.Words.{words};
 ghost use Rattle.rules.specs.Entries.{entry, look, has, insert, remove, takes, take-in};
 ghost use Rattle.rules.specs.Sound.{same-entries};
 ghost use Rattle.tables.specs.Tables.{TwoTables, IsTable, Sorted};
+ghost use Rattle.tables.specs.Spots.{SpotOf};
 ghost use Rattle.codec.specs.Codec.{change};
 ghost use Rattle.layout.specs.Layout.{entries-codec};
 ghost use Rattle.entries.specs.Words.{entry-words, entries-words, copied-entries, entry-at};
@@ -39,14 +40,45 @@ pub fn key_at(t: &[u8], most: usize, i: usize) -> ChunkKey
     ChunkKey(words::read(t, 2 + i * ENTRY_WORDS))
 }
 
-// The key of a block; 0 means no mapping.
+// The key at the spot that a look-up found; 0 means no mapping.
+fn key_of(t: &[u8], most: usize, b: BlockNumber, spot: Spot) -> ChunkKey
+    requires { ⌜ Sorted entry-words most (words (now t)) (length (now t)) × SpotOf entry-words (words (now t)) (b .0) spot ⌝ }
+    ensures { λ r. ⌜ r .0 ≡ look (entries-codec most .dec (words (now (t .entry)))) (b .0) ⌝ }
+{
+    match spot {
+        Spot::Here(p) => key_at(t, most, p),
+        Spot::Gap(_) => ChunkKey(0),
+    }
+}
+
+// The key of a block.
 pub fn look(t: &[u8], most: usize, b: BlockNumber) -> ChunkKey
     requires { ⌜ Sorted entry-words most (words (now t)) (length (now t)) ⌝ }
     ensures { λ r. ⌜ r .0 ≡ look (entries-codec most .dec (words (now (t .entry)))) (b .0) ⌝ }
 {
+    key_of(t, most, b, tables::find(t, ENTRY_WORDS, most, b.0))
+}
+
+// The same, looked for at a guess first.
+pub fn look_near(t: &[u8], most: usize, b: BlockNumber, guess: usize) -> ChunkKey
+    requires { ⌜ Sorted entry-words most (words (now t)) (length (now t)) ⌝ }
+    ensures { λ r. ⌜ r .0 ≡ look (entries-codec most .dec (words (now (t .entry)))) (b .0) ⌝ }
+{
+    key_of(
+        t,
+        most,
+        b,
+        tables::find_near(t, ENTRY_WORDS, most, b.0, guess),
+    )
+}
+
+// Where the block's entry is or would go: a guess for tables that are nearly the same.
+pub fn index_of(t: &[u8], most: usize, b: BlockNumber) -> usize
+    requires { ⌜ Sorted entry-words most (words (now t)) (length (now t)) ⌝ }
+{
     match tables::find(t, ENTRY_WORDS, most, b.0) {
-        Spot::Here(p) => key_at(t, most, p),
-        Spot::Gap(_) => ChunkKey(0),
+        Spot::Here(p) => p,
+        Spot::Gap(p) => p,
     }
 }
 

@@ -28,12 +28,12 @@ pub fn access_asks(store: &[u8], settings: Settings, proxy: u64, block: u64) -> 
     6
 }
 
-// The same: is the block neither pending nor in the primary's append buffer?
-pub fn settled_asks(store: &[u8], settings: Settings, block: BlockNumber) -> u64
+// The same: is the block neither pending nor in the primary's append buffer? The copies are looked through at the guess first (`block::index_of`).
+pub fn settled_asks(store: &[u8], settings: Settings, block: BlockNumber, guess: usize) -> u64
     requires { ⌜ StoreOf settings (now store) ⌝ }
     ensures { λ r. ⌜ r ≡ first-no (settled-asks (decode (words (now (store .entry)))) (block .0)) ⌝ }
 {
-    if block::pending(store, settings, block) {
+    if block::pending(store, settings, block, guess) {
         return 8;
     }
     if block::waits(store, settings, block) {
@@ -43,7 +43,7 @@ pub fn settled_asks(store: &[u8], settings: Settings, block: BlockNumber) -> u64
 }
 
 // done, get: access, the bucket ready, and the block settled.
-pub fn served_asks(store: &[u8], settings: Settings, proxy: u64, block: u64) -> u64
+pub fn served_asks(store: &[u8], settings: Settings, proxy: u64, block: u64, guess: usize) -> u64
     requires { ⌜ StoreOf settings (now store) ⌝ }
     ensures { λ r. ⌜ r ≡ first-no (served-asks (decode (words (now (store .entry)))) proxy block) ⌝ }
 {
@@ -54,5 +54,5 @@ pub fn served_asks(store: &[u8], settings: Settings, proxy: u64, block: u64) -> 
     if !block::is_ready(store, settings, BlockNumber(block)) {
         return 7;
     }
-    settled_asks(store, settings, BlockNumber(block))
+    settled_asks(store, settings, BlockNumber(block), guess)
 }

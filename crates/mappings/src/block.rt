@@ -43,6 +43,15 @@ pub fn is_ready(store: &[u8], settings: Settings, block: BlockNumber) -> bool
     agreed(store, settings, block).ready
 }
 
+// Where its entry is or would go in the primary's memory: a guess for the pair's other copies.
+pub fn index_of(store: &[u8], settings: Settings, block: BlockNumber) -> usize
+    requires { ⌜ StoreOf settings (now store) ⌝ }
+{
+    let bucket = bucket::number(settings, block);
+    let primary = bucket::agreed(store, settings, bucket).primary;
+    copy::index_of(store, settings, bucket, primary, block)
+}
+
 // Do the pair's four copies give one key for the block?
 fn agree(
     store: &[u8],
@@ -50,30 +59,31 @@ fn agree(
     bucket: usize,
     agreed: Agreed,
     block: BlockNumber,
+    guess: usize,
 ) -> bool
     requires { ⌜ StoreOf settings (now store) × (bucket < buckets settings)
         × (agreed-of agreed ≡ agreed-in (decode (words (now store)) .bucket bucket)) ⌝ }
     ensures { λ r. ⌜ r ≡ agree (decode (words (now (store .entry))) .bucket bucket) (block .0) ⌝ }
 {
-    let key = copy::in_memory(store, settings, bucket, agreed.primary, block).0;
-    if copy::on_disk(store, settings, bucket, agreed.primary, block).0 != key {
+    let key = copy::in_memory(store, settings, bucket, agreed.primary, block, guess).0;
+    if copy::on_disk(store, settings, bucket, agreed.primary, block, guess).0 != key {
         return false;
     }
-    if copy::in_memory(store, settings, bucket, agreed.backup, block).0 != key {
+    if copy::in_memory(store, settings, bucket, agreed.backup, block, guess).0 != key {
         return false;
     }
-    copy::on_disk(store, settings, bucket, agreed.backup, block).0 == key
+    copy::on_disk(store, settings, bucket, agreed.backup, block, guess).0 == key
 }
 
 // Is the block pending: in a ready bucket, do the four not all give one key?
-pub fn pending(store: &[u8], settings: Settings, block: BlockNumber) -> bool
+pub fn pending(store: &[u8], settings: Settings, block: BlockNumber, guess: usize) -> bool
     requires { ⌜ StoreOf settings (now store) ⌝ }
     ensures { λ r. ⌜ r ≡ pending (bucket-at (decode (words (now (store .entry)))) (block .0)) (block .0) ⌝ }
 {
     let bucket = bucket::number(settings, block);
     let agreed = bucket::agreed(store, settings, bucket);
     if agreed.ready {
-        return !agree(store, settings, bucket, agreed, block);
+        return !agree(store, settings, bucket, agreed, block, guess);
     }
     false
 }
@@ -92,11 +102,11 @@ pub fn waits(store: &[u8], settings: Settings, block: BlockNumber) -> bool
 }
 
 // Its key in the primary's memory.
-pub fn mapped(store: &[u8], settings: Settings, block: BlockNumber) -> ChunkKey
+pub fn mapped(store: &[u8], settings: Settings, block: BlockNumber, guess: usize) -> ChunkKey
     requires { ⌜ StoreOf settings (now store) ⌝ }
     ensures { λ r. ⌜ r .0 ≡ mapped (decode (words (now (store .entry)))) (block .0) ⌝ }
 {
     let bucket = bucket::number(settings, block);
     let primary = bucket::agreed(store, settings, bucket).primary;
-    copy::in_memory(store, settings, bucket, primary, block)
+    copy::in_memory(store, settings, bucket, primary, block, guess)
 }

@@ -17,22 +17,44 @@ use rules::numbers::BlockNumber;
 use rules::numbers::ChunkKey;
 use rules::settings::Settings;
 
-// The key of a block in memory, and the one on disk: 0 where it has no mapping.
+// Where a block's entry is or would go in memory: a guess for the other copies of the bucket, which are nearly always the same.
+pub fn index_of(
+    store: &[u8],
+    settings: Settings,
+    bucket: usize,
+    id: u64,
+    block: BlockNumber,
+) -> usize
+    requires { ⌜ StoreOf settings (now store) × (bucket < buckets settings) ⌝ }
+{
+    match brick::place_of(store, settings, id) {
+        Found::At(place) => entries::index_of(
+            place::memory(store, settings, place, bucket),
+            settings.entries,
+            block,
+        ),
+        Found::Nowhere => 0,
+    }
+}
+
+// The key of a block in memory, and the one on disk: 0 where it has no mapping. It is looked for at the guess first.
 pub fn in_memory(
     store: &[u8],
     settings: Settings,
     bucket: usize,
     id: u64,
     block: BlockNumber,
+    guess: usize,
 ) -> ChunkKey
     requires { ⌜ StoreOf settings (now store) × (bucket < buckets settings) ⌝ }
     ensures { λ r. ⌜ r .0 ≡ look (decode (words (now (store .entry))) .bucket bucket .memory id) (block .0) ⌝ }
 {
     match brick::place_of(store, settings, id) {
-        Found::At(place) => entries::look(
+        Found::At(place) => entries::look_near(
             place::memory(store, settings, place, bucket),
             settings.entries,
             block,
+            guess,
         ),
         Found::Nowhere => ChunkKey(0),
     }
@@ -44,15 +66,17 @@ pub fn on_disk(
     bucket: usize,
     id: u64,
     block: BlockNumber,
+    guess: usize,
 ) -> ChunkKey
     requires { ⌜ StoreOf settings (now store) × (bucket < buckets settings) ⌝ }
     ensures { λ r. ⌜ r .0 ≡ look (decode (words (now (store .entry))) .bucket bucket .disk id) (block .0) ⌝ }
 {
     match brick::place_of(store, settings, id) {
-        Found::At(place) => entries::look(
+        Found::At(place) => entries::look_near(
             place::disk(store, settings, place, bucket),
             settings.entries,
             block,
+            guess,
         ),
         Found::Nowhere => ChunkKey(0),
     }

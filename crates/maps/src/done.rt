@@ -19,16 +19,17 @@ fn asks(store: &[u8], settings: Settings, proxy: u64, block: u64) -> u64
     requires { ⌜ StoreOf settings (now store) ⌝ }
     ensures { λ r. ⌜ r ≡ first-no (done-asks (decode (words (now (store .entry)))) proxy block) ⌝ }
 {
-    let no = asks::served_asks(store, settings, proxy, block);
+    let number = BlockNumber(block);
+    let guess = block::index_of(store, settings, number);
+    let no = asks::served_asks(store, settings, proxy, block, guess);
     if no != 0 {
         return no;
     }
-    let number = BlockNumber(block);
     if !proxy::has_item(store, settings, proxy as usize, number) {
         return 9;
     }
     let key = proxy::item(store, settings, proxy as usize, number).0;
-    if block::mapped(store, settings, number).0 == key {
+    if block::mapped(store, settings, number, guess).0 == key {
         return 0;
     }
     15

@@ -16,6 +16,7 @@ use lent::brick::Found;
 use lent::bucket;
 use lent::proxy;
 use mappings::asks;
+use mappings::block;
 use mappings::buffer;
 use mappings::copy;
 use rules::numbers::BlockNumber;
@@ -67,7 +68,8 @@ fn asks(store: &[u8], settings: Settings, proxy: u64, block: u64) -> u64
     if no != 0 {
         return no;
     }
-    let no = asks::settled_asks(store, settings, BlockNumber(block));
+    let guess = block::index_of(store, settings, BlockNumber(block));
+    let no = asks::settled_asks(store, settings, BlockNumber(block), guess);
     if no != 0 {
         return no;
     }

@@ -37,18 +37,18 @@ fn is_found(store: &[u8], settings: Settings, key: ChunkKey) -> bool
 }
 
 // The number of the first one that is answered no, or 0.
-fn asks(store: &[u8], settings: Settings, proxy: u64, block: u64) -> u64
+fn asks(store: &[u8], settings: Settings, proxy: u64, block: u64, guess: usize) -> u64
     requires { ⌜ StoreOf settings (now store) ⌝ }
     ensures { λ r. ⌜ r ≡ first-no (get-asks (decode (words (now (store .entry)))) proxy block) ⌝ }
 {
-    let no = asks::served_asks(store, settings, proxy, block);
+    let no = asks::served_asks(store, settings, proxy, block, guess);
     if no != 0 {
         return no;
     }
     if is_found(
         store,
         settings,
-        block::mapped(store, settings, BlockNumber(block)),
+        block::mapped(store, settings, BlockNumber(block), guess),
     ) {
         return 0;
     }
@@ -90,13 +90,14 @@ pub fn get<'a>(
     requires { ⌜ StoreOf settings (now store) × (now blank ≡ zeros (settings .size)) ⌝ }
     ensures { λ r. ⌜ Gets (decode (words (now (store .entry)))) proxy block (now (number .exit)) (now (key .exit)) (now r) ⌝ }
 {
-    let no = asks(store, settings, proxy, block);
+    let guess = block::index_of(store, settings, BlockNumber(block));
+    let no = asks(store, settings, proxy, block, guess);
     *number = no;
     if no != 0 {
         *key = 0;
         return &blank[0..0];
     }
-    let found = block::mapped(store, settings, BlockNumber(block));
+    let found = block::mapped(store, settings, BlockNumber(block), guess);
     *key = found.0;
     return key_bytes(store, blank, settings, found);
 }
@@ -135,11 +136,12 @@ pub fn fill_block(
     requires { ⌜ StoreOf settings (now store) × (length (now area) ≡ settings .size) ⌝ }
     ensures { λ r. ⌜ Fills (decode (words (now (store .entry)))) (Event.get proxy block) (now (area .entry)) r (now (area .exit)) ⌝ }
 {
-    let no = asks::served_asks(store, settings, proxy, block);
+    let guess = block::index_of(store, settings, BlockNumber(block));
+    let no = asks::served_asks(store, settings, proxy, block, guess);
     if no != 0 {
         return Answer::No(no);
     }
-    let key = block::mapped(store, settings, BlockNumber(block));
+    let key = block::mapped(store, settings, BlockNumber(block), guess);
     if fill_key(store, settings, key, area) {
         return Answer::Yes(key.0);
     }

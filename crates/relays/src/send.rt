@@ -72,7 +72,7 @@ fn relay(store: &mut [u8], settings: Settings, block: BlockNumber)
     let bucket = bucket::number(settings, block);
     let order = bucket::agreed(store, settings, bucket).order + 1;
     let view = ViewNumber(lent::store::view(store, settings));
-    let key = block::mapped(store, settings, block);
+    let key = block::mapped(store, settings, block, 0);
     let span = relay::bag_span(settings);
     let from = span.from;
     let to = span.to;

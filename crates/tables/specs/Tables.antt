@@ -70,6 +70,13 @@ pub record Sorted (width most : ℕ) (ws : List ℕ) (len : ℕ) : Type 0 where
   pub wide : 1 ≤ width
   pub rising : (i j : ℕ) → i < j → j < getD ws 0 0 → first-at width ws i < first-at width ws j
 
+-- the rows before place p begin below x, and those from it on do not
+abbrev pub RowsBelow : ℕ → List ℕ → ℕ → ℕ → Type 0
+RowsBelow width ws x p = (j : ℕ) → j < p → first-at width ws j < x
+
+abbrev pub RowsFrom : ℕ → List ℕ → ℕ → ℕ → Type 0
+RowsFrom width ws x p = (j : ℕ) → p ≤ j → j < getD ws 0 0 → x ≤ first-at width ws j
+
 -- r is the first place whose row does not begin below x
 abbrev pub RowPlace : ℕ → List ℕ → ℕ → ℕ → Type 0
 RowPlace width ws x r = FirstNotBelow (first-at width ws) (getD ws 0 0) x r

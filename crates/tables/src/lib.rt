@@ -1,13 +1,14 @@
 // Tables in a lent slice, in 64-bit words: a count, then at most `most` rows of `width` words. Rows past the count keep what they hold. A table may be
 // sorted by the first words of its rows, or be a queue in arrival order.
 ghost use mathlib.Core.Path.{_≡_};
+ghost use mathlib.Core.Bool.{true};
 ghost use Prim.Native.Nat.{_+_, _*_, _≤_, _<_};
 ghost use lib.ListN.{length, getD};
 ghost use Rattle.lists.specs.Tests.{all-below};
 ghost use Rattle.words.specs.Words.{words};
 ghost use Rattle.lists.specs.Rows.{table-dec, row};
 ghost use Rattle.tables.specs.Tables.{change-table, cell-at, set-cell, insert-at, remove-at, copied, same-at, same-rows};
-ghost use Rattle.tables.specs.Tables.{TwoTables, IsTable, Sorted, RowPlace};
+ghost use Rattle.tables.specs.Tables.{TwoTables, IsTable, Sorted, RowsBelow, RowsFrom, RowPlace};
 ghost use Rattle.tables.specs.Spots.{SpotOf};
 
 // ---- look-up
@@ -40,17 +41,56 @@ fn place(t: &[u8], width: usize, most: usize, x: u64) -> usize
     lo
 }
 
+// Does the row before place p begin below x? Before the first there is none.
+fn is_after(t: &[u8], width: usize, most: usize, x: u64, p: usize) -> bool
+    requires { ⌜ Sorted width most (words (now t)) (length (now t)) × (p ≤ getD (words (now t)) 0 0) ⌝ }
+    ensures { λ r. ⌜ (r ≡ true → RowsBelow width (words (now (t .entry))) x p) ⌝ }
+{
+    if p == 0 {
+        return true;
+    }
+    let at = words::offset(p - 1, width, most);
+    words::read(t, 1 + at) < x
+}
+
+// Does row p not begin below x? Past the last there is none.
+fn is_before(t: &[u8], width: usize, most: usize, x: u64, p: usize) -> bool
+    requires { ⌜ Sorted width most (words (now t)) (length (now t)) × (p ≤ getD (words (now t)) 0 0) ⌝ }
+    ensures { λ r. ⌜ (r ≡ true → RowsFrom width (words (now (t .entry))) x p) ⌝ }
+{
+    if p == words::read(t, 0) as usize {
+        return true;
+    }
+    let at = words::offset(p, width, most);
+    x <= words::read(t, 1 + at)
+}
+
+// The same place as `place` gives, looked for at a guess first.
+fn place_near(t: &[u8], width: usize, most: usize, x: u64, guess: usize) -> usize
+    requires { ⌜ Sorted width most (words (now t)) (length (now t)) ⌝ }
+    ensures { λ r. ⌜ RowPlace width (words (now (t .entry))) x r ⌝ }
+{
+    if guess <= words::read(t, 0) as usize {
+        if is_after(t, width, most, x, guess) {
+            if is_before(t, width, most, x, guess) {
+                return guess;
+            }
+        }
+    }
+    place(t, width, most, x)
+}
+
 // Where the row that begins with x is, or the place before which it would go.
 pub enum Spot {
     Here(usize),
     Gap(usize),
 }
 
-pub fn find(t: &[u8], width: usize, most: usize, x: u64) -> Spot
-    requires { ⌜ Sorted width most (words (now t)) (length (now t)) ⌝ }
+// Which of the two the first place is whose row does not begin below x.
+fn spot_at(t: &[u8], width: usize, most: usize, x: u64, p: usize) -> Spot
+    requires { ⌜ Sorted width most (words (now t)) (length (now t)) × RowPlace width (words (now t)) x p ⌝ }
     ensures { λ r. ⌜ SpotOf width (words (now (t .entry))) x r ⌝ }
 {
-    let p = place(t, width, most, x);
     if p < words::read(t, 0) as usize {
         let at = words::offset(p, width, most);
         if words::read(t, 1 + at) == x {
@@ -59,6 +99,21 @@ pub fn find(t: &[u8], width: usize, most: usize, x: u64) -> Spot
         return Spot::Gap(p);
     }
     Spot::Gap(p)
+}
+
+pub fn find(t: &[u8], width: usize, most: usize, x: u64) -> Spot
+    requires { ⌜ Sorted width most (words (now t)) (length (now t)) ⌝ }
+    ensures { λ r. ⌜ SpotOf width (words (now (t .entry))) x r ⌝ }
+{
+    spot_at(t, width, most, x, place(t, width, most, x))
+}
+
+// The same, looked for at a guess first: a table like one in which the row was found has it at the same place.
+pub fn find_near(t: &[u8], width: usize, most: usize, x: u64, guess: usize) -> Spot
+    requires { ⌜ Sorted width most (words (now t)) (length (now t)) ⌝ }
+    ensures { λ r. ⌜ SpotOf width (words (now (t .entry))) x r ⌝ }
+{
+    spot_at(t, width, most, x, place_near(t, width, most, x, guess))
 }
 
 // ---- comparison

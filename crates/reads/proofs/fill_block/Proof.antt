@@ -17,36 +17,39 @@ use Rattle.reads.proofs.fill_block.Tie as tie
 
 -- what is looked for is the mapped key
 found : (c : tie.After-fill-key) {x : Bool} → c .fill-key .result ≡ x
-    → let b = c .before .before .before .before .before .before .before in
+    → let b = c .before .before .before .before .before .before .before .before in
     let s = decode (words (b .args .store .now)) in is-found s (mapped s (b .args .block)) ≡ x
 found c q =
-    let s = decode (words (c .before .before .before .before .before .before .before .args .store .now)) in
+    let s = decode (words (c .before .before .before .before .before .before .before .before .args .store .now)) in
     ap (is-found s) (sym (c .before .before .mapped .ensures)) ∙ sym (c .fill-key .ensures .0) ∙ q
 
 all-asked : (c : tie.After-fill-key) → c .fill-key .result ≡ true
-    → let b = c .before .before .before .before .before .before .before in 0 ≡ first-no (get-asks (decode (words (b .args .store .now))) (b .args .proxy) (b .args .block))
+    → let b = c .before .before .before .before .before .before .before .before in 0 ≡ first-no (get-asks (decode (words (b .args .store .now))) (b .args .proxy) (b .args .block))
 unfolding _and_
 all-asked c y =
     let asked = c .before .before .before in
-    let b = c .before .before .before .before .before .before .before in
+    let b = c .before .before .before .before .before .before .before .before in
     goes-on (served-asks (decode (words (b .args .store .now))) (b .args .proxy) (b .args .block)) _ refl (asked .before .served-asks .ensures) (asked .if1 .left)
     (sym (first-yes 11 _ (found c y) ∙ none-asked))
 
 not-found : (c : tie.After-fill-key) → c .fill-key .result ≡ false
-    → let b = c .before .before .before .before .before .before .before in 11 ≡ first-no (get-asks (decode (words (b .args .store .now))) (b .args .proxy) (b .args .block))
+    → let b = c .before .before .before .before .before .before .before .before in 11 ≡ first-no (get-asks (decode (words (b .args .store .now))) (b .args .proxy) (b .args .block))
 unfolding _and_
 not-found c n =
     let asked = c .before .before .before in
-    let b = c .before .before .before .before .before .before .before in
+    let b = c .before .before .before .before .before .before .before .before in
     goes-on (served-asks (decode (words (b .args .store .now))) (b .args .proxy) (b .args .block)) _ refl (asked .before .served-asks .ensures) (asked .if1 .left)
     (sym (first-stop 11 _ (found c n)))
+
+index-of-requires : tie.Need-index-of-requires
+index-of-requires c κs = search needs
 
 served-asks-requires : tie.Need-served-asks-requires
 served-asks-requires c κs = search needs
 
 returns : tie.Need-returns
 returns c =
-    let b = c .before .before .before .before in
+    let b = c .before .before .before .before .before in
     let s = decode (words (b .args .store .now)) in
     let no = stops-there (served-asks s (b .args .proxy) (b .args .block)) _ (c .before .served-asks .ensures) (c .if1 .taken) in
     fills-refused s (b .args .proxy) (b .args .block) _ (refused s (b .args .proxy) (b .args .block) _ no (c .if1 .taken)) (c .if1 .taken) (b .args .area .now)
@@ -62,7 +65,7 @@ same-length c = search needs
 
 returns-2 : tie.Need-returns-2
 returns-2 c =
-    let b = c .before .before .before .before .before .before .before .before .before .before in
+    let b = c .before .before .before .before .before .before .before .before .before .before .before in
     let s = decode (words (b .args .store .now)) in
     let r = c .before .before .before .fill-key in
     let key = c .before .before .before .before .before .mapped in
@@ -75,7 +78,7 @@ same-length-2 c = search needs
 
 returns-3 : tie.Need-returns-3
 returns-3 c =
-    let b = c .before .before .before .before .before .before .before .before .before .before in
+    let b = c .before .before .before .before .before .before .before .before .before .before .before in
     let s = decode (words (b .args .store .now)) in
     let r = c .before .before .before .fill-key in
     rw (r .ensures .1 ∙ ap (λ (x : Bool). cond x (key-bytes s (c .before .before .before .before .before .mapped .result .0)) (b .args .area .now)) (c .if2 .left))
@@ -85,6 +88,7 @@ pub fill-block-spec : {M : Type 1} → statement M
 fill-block-spec =
     tie.close
     (tie.spec
+    index-of-requires
     served-asks-requires
     returns
     mapped-requires

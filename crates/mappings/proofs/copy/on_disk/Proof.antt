@@ -24,8 +24,8 @@ disk-requires c κs =
     rw (c .before .place .given .1) at (c .before .before .before .place-of .ensures) in
     (s .pre .0, h .inside, omega (arith, h .some, h .here), s .pre .1)
 
-look-requires : tie.Need-look-requires
-look-requires c κs = search needs
+look-near-requires : tie.Need-look-near-requires
+look-near-requires c κs = search needs
 
 enum-told : tie.Need-enum-told
 enum-told c = search needs
@@ -36,7 +36,7 @@ returns c =
     let state = decode (words (s .args .store .now)) in
     let h : Stands (s .args .settings) state (s .args .id) (c .before .before .before .place .given .0 .0) =
     rw (c .before .before .before .place .given .1) at (c .before .before .before .before .before .place-of .ensures) in
-    c .look .ensures ∙ ap (λ (l : List Entry). look l (s .args .block .0)) (c .before .disk .ensures .same)
+    c .look-near .ensures ∙ ap (λ (l : List Entry). look l (s .args .block .0)) (c .before .disk .ensures .same)
     ∙ ap (λ (i : ℕ). look (state .bucket (s .args .bucket) .disk i) (s .args .block .0)) (h .here)
 
 returns-2 : tie.Need-returns-2
@@ -54,7 +54,7 @@ on-disk-spec =
     place-of-requires
     enum-known-place
     disk-requires
-    look-requires
+    look-near-requires
     enum-told
     returns
     returns-2)
