@@ -29,7 +29,8 @@ use Rattle.lent.specs.Stores.{StoreOf}
 use Rattle.lent.proofs.Stores.{settings-are, facts}
 use Rattle.named.specs.Tables.{EntriesAt, named, AllNamed, names-at}
 use Rattle.named.proofs.Copies.{named-is, beside-log, inside-store, entry-names}
-use Rattle.named.proofs.Logs.{log-from, log-inside, log-bytes, log-run, log-length, log-lies, log-changed}
+use Rattle.lent.specs.Places.{log-from}
+use Rattle.lent.proofs.Logs.{log-inside, log-bytes, log-run, log-length, log-lies, log-changed}
 use Rattle.collect.specs.Marked.{marks, named-first, LogIn, TableIn, TablesIn, sweeps}
 use Rattle.collect.specs.Collect.{Collects}
 use Rattle.collect.proofs.SameCopies.{Tables, calm-names}

@@ -9,3 +9,5 @@ pub mod MatchedCopies
 pub mod AllPlaces
 pub mod Proxies
 pub mod PlaceSteps
+pub mod Logs
+pub mod PlaceLogs

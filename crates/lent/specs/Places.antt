@@ -9,7 +9,7 @@ use Rattle.words.specs.Words.{words}
 use Rattle.rules.specs.declared.settings.Settings.{Settings}
 use Rattle.rules.specs.Limits.{buckets}
 use Rattle.rules.specs.Chunks.{Chunk}
-use Rattle.rules.specs.State.{State}
+use Rattle.rules.specs.State.{State, set-bricks, with-log}
 use Rattle.rules.specs.Parts.{up-member}
 use Rattle.rules.proofs.Limits.{Limits}
 use Rattle.log.specs.Log.{IsLog}
@@ -64,6 +64,12 @@ pub record HoldsBrick (c : Settings) (w : List ℕ) (len : ℕ) : Type 0 where
   pub disk : (g : ℕ) → g < buckets c → getD w (copies-at c g + copy-words c) 0 ≤ c .entries
   pub log : IsLog (c .chunks) (c .size / word-bytes) (run (log-at c) (log-words c) w) (8 * log-words c)
 
+-- len bytes, with the words w, are a place that has a log
+pub record PlaceLog (c : Settings) (w : List ℕ) (len : ℕ) : Type 0 where
+  pub limits : Limits c
+  pub size : len ≡ 8 * place-words c
+  pub log : IsLog (c .chunks) (c .size / word-bytes) (run (log-at c) (log-words c) w) (8 * log-words c)
+
 -- len bytes, with the words w, are a place, or all places, as a sound store has them
 pub record CleanPlace (c : Settings) (w : List ℕ) (len : ℕ) : Type 0 where
   pub limits : Limits c
@@ -78,3 +84,12 @@ pub record CleanPlaces (c : Settings) (w : List ℕ) (len : ℕ) : Type 0 where
 -- the log of the place's brick changed, all else as it was
 abbrev pub on-log : (List Chunk → List Chunk) → Place → Place
 on-log f p = p .fst & record { here = p .snd .here; status = p .snd .status; buffer = p .snd .buffer; copies = p .snd .copies; log = f (p .snd .log) }
+
+-- ---- a log of the store
+-- the word at which that of a place begins
+abbrev pub log-from : Settings → ℕ → ℕ
+log-from c p = place-at c p + log-at c
+
+-- the state with another log at a brick
+abbrev pub with-chunks : State → ℕ → List Chunk → State
+with-chunks s id log = set-bricks s (with-log (s .bricks) id log)

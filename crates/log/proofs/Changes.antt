@@ -1,5 +1,5 @@
 -- What stores leave of a log's words: a chunk more, another saved word.
-use mathlib.Core.Path.{_≡_, refl, ap, _∙_}
+use mathlib.Core.Path.{_≡_, refl, sym, ap, _∙_}
 use mathlib.Core.List.{List, [], _∷_, _++_, append-nil, map}
 use Prim.Native.Nat.{ℕ, zero, suc, _+_, _*_, _-_, _≤_, _<_}
 use native.Mathlib.Nat.{le-refl, not-suc-le-zero, le-of-suc-le-suc}
@@ -7,15 +7,15 @@ use native.Mathlib.Omega.{arith}
 use lib.ListN.{length, take, drop, getD, set, length-append, length-drop, length-set, List·getD-append}
 use lib.Seq.{paste, length-paste, getD-append-seam}
 use Rattle.lists.specs.Runs.{enc-all, Sized, none, more}
-use Rattle.lists.proofs.Runs.{enc-all-append}
+use Rattle.lists.proofs.Runs.{fits-in, enc-all-append}
 use Rattle.log.specs.Positions.{positions}
 use Rattle.log.specs.Log.{Stored, stored, row-of, cell-of, stored-at, key-at, positions-of, rows-in, positions-in, cells-in, lay, over, write-log}
 use Rattle.log.specs.Log.{KeyPlace, Fits}
 use Rattle.log.specs.Steps.{with-saved, put-saved, tag, entered}
 use Rattle.log.proofs.Positions as order
-use Rattle.log.proofs.Regions.{over-two, over-more, over-insert, over-set, lay-row, lay-position, lay-paste, lay-shift, length-rows}
-use Rattle.log.proofs.Regions.{length-positions, regions}
-use Rattle.log.proofs.Chunks.{length-row-words, length-positions-of, length-cells-in, over-rows, over-position, write-by}
+use Rattle.log.proofs.Regions.{over-two, over-next, over-paste, over-hides, over-insert, over-set, lay-row, lay-rows, lay-position, lay-positions}
+use Rattle.log.proofs.Regions.{lay-cells, lay-paste, lay-shift, length-rows, length-positions, length-cells, regions}
+use Rattle.log.proofs.Chunks.{length-row-words, length-positions-of, length-cells-in, over-rows, over-position, write-as, write-by}
 
 -- ---- a chunk more
 
@@ -90,21 +90,69 @@ module _ (L w : ℕ) (ys : List Stored) (ws : List ℕ) (hl : length ws ≡ 1 + 
         (over-rows L w ys ws hl fit) (over-position L w ys ws hl fit) (pl .within) room
         ∙ rw (r, i, rows-more ys x, position-in)
 
-    -- the chunk x after the chunks ys
-    pub pushed : (q : ℕ) → q ≡ 1 + 3 * L + length ys * w
-        → paste (entered L (length ys) p (x .key) (x .saved) (write-log L ys ws)) q (x .cell) w ≡ write-log L (ys ++ x ∷ []) ws
+    -- the chunk x after the chunks ys, whose cell stands there
+    pub pushed : x .cell ≡ take w (drop (length ys * w) (cells-in L ws))
+        → entered L (length ys) p (x .key) (x .saved) (write-log L ys ws) ≡ write-log L (ys ++ x ∷ []) ws
     unfolding write-log
-    pushed q e =
+    pushed e =
         let len : length (ys ++ x ∷ []) ≡ length ys + 1 = rw length-append (omega arith) in
-        let R : List ℕ = over (enc-all row-of (ys ++ x ∷ [])) (rows-in L ws) in
-        let I : List ℕ = over (positions-of (ys ++ x ∷ [])) (positions-in L ws) in
-        let C : List ℕ = over (enc-all cell-of ys) (cells-in L ws) in
-        let lr = over-rows L w (ys ++ x ∷ []) ws hl fits-more in
-        let li = over-position L w (ys ++ x ∷ []) ws hl fits-more in
-        let o = over-more (enc-all cell-of ys) (cells-in L ws) (x .cell) (length ys * w) w (length-cells-in (fit .sized)) hx in
-        ap (λ (l : List ℕ). paste l q (x .cell) w) entered-regions
-        ∙ lay-paste (length ys + 1) R I C q (length ys * w) w (x .cell) (omega arith)
-        ∙ rw (o, cells-more ys x, len)
+        let inside = fits-in w room in
+        let o = over-next (enc-all cell-of ys) (cells-in L ws) (length ys * w) w (length-cells-in (fit .sized)) (rw (length-cells L w ws hl) (omega arith)) in
+        entered-regions ∙ rw (o, ← e, cells-more ys x, len)
+
+-- ---- words among the cells
+
+module _ (L w : ℕ) (ws : List ℕ) (hl : length ws ≡ 1 + 3 * L + L * w) (b k q : ℕ) (s : List ℕ) (eq : q ≡ 1 + 3 * L + b) (hb : b ≤ L * w) where
+  pasted : paste ws q s k ≡ lay (getD ws 0 0) (rows-in L ws) (positions-in L ws) (paste (cells-in L ws) b s k)
+  pasted =
+      ap (λ (l : List ℕ). paste l q s k) (regions L w ws hl)
+      ∙ lay-paste (getD ws 0 0) (rows-in L ws) (positions-in L ws) (cells-in L ws) q b k s
+      (omega (arith, length-rows L w ws hl, length-positions L w ws hl))
+
+  rows-left : rows-in L (paste ws q s k) ≡ rows-in L ws
+  rows-left =
+      ap (rows-in L) pasted ∙ lay-rows (getD ws 0 0) (rows-in L ws) (positions-in L ws) (paste (cells-in L ws) b s k) (2 * L) (length-rows L w ws hl)
+
+  positions-left : positions-in L (paste ws q s k) ≡ positions-in L ws
+  positions-left =
+      ap (positions-in L) pasted
+      ∙ lay-positions (getD ws 0 0) (rows-in L ws) (positions-in L ws) (paste (cells-in L ws) b s k) (1 + 2 * L) L
+      (omega (arith, length-rows L w ws hl)) (length-positions L w ws hl)
+
+  cells-pasted : cells-in L (paste ws q s k) ≡ paste (cells-in L ws) b s k
+  cells-pasted =
+      ap (cells-in L) pasted
+      ∙ lay-cells (getD ws 0 0) (rows-in L ws) (positions-in L ws) (paste (cells-in L ws) b s k) (1 + 3 * L)
+      (omega (arith, length-rows L w ws hl, length-positions L w ws hl))
+
+  same-regions : (ys : List Stored) (C : List ℕ) → over (enc-all cell-of ys) (paste (cells-in L ws) b s k) ≡ C
+      → write-log L ys (paste ws q s k) ≡ lay (length ys) (over (enc-all row-of ys) (rows-in L ws)) (over (positions-of ys) (positions-in L ws)) C
+  same-regions ys C e =
+      write-as L ys (paste ws q s k)
+      ∙ join (rows-in L (paste ws q s k)) (positions-in L (paste ws q s k)) (cells-in L (paste ws q s k)) rows-left positions-left cells-pasted
+    where
+      join : (R I X : List ℕ) → R ≡ rows-in L ws → I ≡ positions-in L ws → X ≡ paste (cells-in L ws) b s k
+          → lay (length ys) (over (enc-all row-of ys) R) (over (positions-of ys) I) (over (enc-all cell-of ys) X)
+          ≡ lay (length ys) (over (enc-all row-of ys) (rows-in L ws)) (over (positions-of ys) (positions-in L ws)) C
+      join R I X r i x = rw (r, i, x, e)
+
+  -- chunks written over them hide them
+  pub write-hides : (ys : List Stored) → Sized cell-of w ys → b + k ≤ length ys * w → k ≤ length s → write-log L ys (paste ws q s k) ≡ write-log L ys ws
+  write-hides ys z h hs =
+      same-regions ys (over (enc-all cell-of ys) (cells-in L ws))
+      (over-hides (enc-all cell-of ys) (cells-in L ws) s b k (rw (length-cells-in z) h) (rw (length-cells L w ws hl) hb) hs)
+      ∙ sym (write-as L ys ws)
+
+  -- chunks before them leave them
+  pub write-leaves : (ys : List Stored) → Fits L w ys → length ys * w ≡ b → paste (write-log L ys ws) q s k ≡ write-log L ys (paste ws q s k)
+  write-leaves ys fit e =
+      let R : List ℕ = over (enc-all row-of ys) (rows-in L ws) in
+      let I : List ℕ = over (positions-of ys) (positions-in L ws) in
+      let C : List ℕ = over (enc-all cell-of ys) (cells-in L ws) in
+      ap (λ (l : List ℕ). paste l q s k) (write-as L ys ws)
+      ∙ lay-paste (length ys) R I C q b k s (omega (arith, over-rows L w ys ws hl fit, over-position L w ys ws hl fit))
+      ∙ sym (same-regions ys (paste C b s k)
+      (sym (over-paste (enc-all cell-of ys) (cells-in L ws) s b k (length-cells-in (fit .sized) ∙ e) (rw (length-cells L w ws hl) hb))))
 
 -- ---- another saved word
 

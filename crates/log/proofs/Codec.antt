@@ -37,7 +37,7 @@ unfolding fixed
 fixed-same w ws e = take-at ws (replicate w 0) w e
 
 -- ---- any chunks, cut to what a log can hold, fit it
-sized-from : (w : ℕ) (cs : List Chunk) → Sized cell-of w (map (from-chunk w) cs)
+pub sized-from : (w : ℕ) (cs : List Chunk) → Sized cell-of w (map (from-chunk w) cs)
 sized-from w [] = none
 sized-from w (c ∷ cs) = more (length-fixed w (words (c .bytes))) (sized-from w cs)
 

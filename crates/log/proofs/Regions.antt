@@ -1,13 +1,13 @@
 -- Laws of a log's regions: words at the front of a region, words read and written in a region.
 use mathlib.Core.Path.{_≡_, refl, sym, ap, _∙_}
-use mathlib.Core.List.{List, [], _∷_, _++_, append-assoc, append-nil}
+use mathlib.Core.List.{List, [], _∷_, _++_, append-assoc}
 use Prim.Native.Nat.{ℕ, suc, _+_, _*_, _-_, _≤_, _<_}
 use native.Mathlib.Nat.{zero-add, suc-add}
 use native.Mathlib.Numerals.{add-one}
 use native.Mathlib.Omega.{arith}
 use lib.ListN.{length, take, drop, getD, set, length-append, length-drop, length-set, take-append-drop, List·getD-append}
 use lib.Seq.{paste, getD-take, getD-drop, take-append-add, drop-append-add, getD-append-add, take-append-le, drop-append-le, take-at, drop-at}
-use lib.Seq.{drop-drop, drop-cons, length-take-le, take-suc, set-at, set-append-left, drop-set-add}
+use lib.Seq.{drop-drop, drop-paste, drop-cons, length-take-le, take-suc, set-at, set-append-left, drop-set-add}
 use Rattle.log.specs.Log.{rows-in, positions-in, cells-in, lay, over, position-at}
 use Rattle.log.proofs.Positions as order
 
@@ -43,16 +43,6 @@ over-two A R a b m e h =
     stores y z Z =
         let l : length (A ++ a ∷ []) ≡ m + 1 = rw length-append (omega arith) in
         rw (set-at A y (z ∷ Z) a m e, ← flat Z z, set-at (A ++ a ∷ []) z Z b (m + 1) l) (flat2 Z)
-
-pub over-more : (B C d : List ℕ) (b k : ℕ) → length B ≡ b → length d ≡ k → paste (over B C) b d k ≡ over (B ++ d) C
-unfolding over
-over-more B C d b k eb ed =
-    let t : take k d ≡ d = rw (← ed) (rw append-nil at (take-at d [] (length d) refl)) in
-    let e1 : take b (B ++ drop (length B) C) ≡ B = take-at B (drop (length B) C) b eb in
-    let g : b + k ≡ length B + k = omega arith in
-    let e2 : drop (b + k) (B ++ drop (length B) C) ≡ drop (length B + k) C = rw g (drop-append-add B (drop (length B) C) k ∙ drop-drop k (length B) C) in
-    let l : length (B ++ d) ≡ length B + k = rw length-append (omega arith) in
-    rw (e1, e2, t, l)
 
 -- a word goes in at place p of the front
 set-mid : (T D Z : List ℕ) (y q p : ℕ) → length T ≡ p → set ((T ++ y ∷ []) ++ D ++ Z) p q ≡ (T ++ q ∷ D) ++ Z
@@ -118,6 +108,25 @@ over-run B C s b k eb h =
     let l : length (B ++ take k s) ≡ length B + k = rw (length-append, length-take-le k s h) in
     rw (e1, e2, l)
 
+-- words after the front: part of it, or left as they are
+pub over-next : (B C : List ℕ) (b k : ℕ) → length B ≡ b → b + k ≤ length C → over B C ≡ over (B ++ take k (drop b C)) C
+unfolding over
+over-next B C b k e h =
+    let l : length (B ++ take k (drop b C)) ≡ b + k =
+    rw (length-append, length-take-le k (drop b C) (rw length-drop (omega arith))) (omega arith) in
+    let r : drop b C ≡ take k (drop b C) ++ drop (b + k) C = rw (← drop-drop k b C) (sym (take-append-drop k (drop b C))) in
+    rw (l, e) (ap (λ (z : List ℕ). B ++ z) r ∙ sym (append-assoc B (take k (drop b C)) (drop (b + k) C)))
+
+pub over-paste : (B C s : List ℕ) (b k : ℕ) → length B ≡ b → b ≤ length C → paste (over B C) b s k ≡ over B (paste C b s k)
+unfolding over
+over-paste B C s b k eb h =
+    let e1 : take b (B ++ drop (length B) C) ≡ B = take-at B (drop (length B) C) b eb in
+    let g : b + k ≡ length B + k = omega arith in
+    let e2 : drop (b + k) (B ++ drop (length B) C) ≡ drop (b + k) C = rw g (drop-append-add B (drop (length B) C) k ∙ drop-drop k (length B) C) in
+    let e3 : drop (length B) ((take b C ++ take k s) ++ drop (b + k) C) ≡ take k s ++ drop (b + k) C =
+    rw (eb, append-assoc (take b C) (take k s) (drop (b + k) C)) (drop-at (take b C) (take k s ++ drop (b + k) C) b (length-take-le b C h)) in
+    rw (e1, e2, e3) (append-assoc B (take k s) (drop (b + k) C))
+
 same-past : (A X Y : List ℕ) → drop (length A) X ≡ drop (length A) Y → over A X ≡ over A Y
 unfolding over
 same-past A X Y e = ap (λ (l : List ℕ). A ++ l) e
@@ -125,6 +134,13 @@ same-past A X Y e = ap (λ (l : List ℕ). A ++ l) e
 -- written over twice
 pub over-over : (A B X : List ℕ) → length B ≤ length A → over A (over B X) ≡ over A X
 over-over A B X h = same-past A (over B X) X (drop-over B X (length A) h)
+
+-- words that the front hides
+pub over-hides : (A X s : List ℕ) (b k : ℕ) → b + k ≤ length A → b ≤ length X → k ≤ length s → over A (paste X b s k) ≡ over A X
+over-hides A X s b k h hx hs =
+    let e : length A ≡ b + k + (length A - (b + k)) = omega arith in
+    same-past A (paste X b s k) X
+    (rw e (sym (drop-drop (length A - (b + k)) (b + k) (paste X b s k)) ∙ rw (drop-paste X b s k hx hs) (drop-drop (length A - (b + k)) (b + k) X)))
 
 -- ---- regions
 

@@ -1,22 +1,26 @@
 -- What single steps of the code leave: cited by the contracts of the log's inner functions.
-use mathlib.Core.Path.{_≡_}
-use mathlib.Core.Bool.{Bool, true, false, cond}
+use mathlib.Core.Bool.{Bool}
 use mathlib.Core.List.{List, [], _∷_}
-use Prim.Native.Nat.{ℕ, zero, suc, _+_, _*_, _-_, _<_}
+use Prim.Native.Nat.{ℕ, zero, suc, _+_, _*_, _-_}
 use lib.ListN.{getD, set, drop}
 use lib.Seq.{paste}
 use Rattle.lists.specs.Tests.{_and_, all-below}
-use Rattle.rules.specs.Chunks.{Chunk, chunk, held, append, save-key}
+use Rattle.lists.specs.Runs.{run}
+use Rattle.words.specs.Words.{unwords}
+use Rattle.rules.specs.Chunks.{chunk, append}
+use Rattle.codec.specs.Codec.{change}
 use Rattle.log.specs.Log.{chunks-codec, Stored, stored, stored-at, position-at, flag-at, below-at, rises-at}
 
--- a chunk that a log gets saved: one that is held becomes saved
-abbrev pub hold-saved : ℕ → List ℕ → List Chunk → List Chunk
-hold-saved k d l = cond (held l k) (save-key l k) (append l (chunk k true d))
+-- the words of the cell of row i, and the bytes in the one after the last chunk's
+abbrev pub cell-in : ℕ → ℕ → ℕ → List ℕ → List ℕ
+cell-in chunks width i ws = run (1 + 3 * chunks + i * width) width ws
 
--- a log has room for a chunk that it does not hold
-pub record Takes (chunks width k : ℕ) (ws : List ℕ) (len : ℕ) : Type 0 where
-  pub room : held (chunks-codec chunks width .dec ws) k ≡ false → getD ws 0 0 < chunks
-  pub size : len ≡ 8 * width
+abbrev pub next-bytes : ℕ → ℕ → List ℕ → List ℕ
+next-bytes chunks width ws = unwords (cell-in chunks width (getD ws 0 0) ws)
+
+-- a chunk more: the one whose bytes stand there
+abbrev pub with-next : ℕ → ℕ → ℕ → Bool → List ℕ → List ℕ
+with-next chunks width k saved ws = change (chunks-codec chunks width) (λ l. append l (chunk k saved (next-bytes chunks width ws))) ws
 
 -- the check in one pass along the positions: each is that of a row in use whose flag is in range, and keys ascend
 abbrev pub row-good : ℕ → ℕ → List ℕ → ℕ → Bool

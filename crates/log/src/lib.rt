@@ -8,7 +8,7 @@ ghost use Rattle.words.specs.Words.{words};
 ghost use Rattle.rules.specs.Chunks.{chunk, append, held, saved-in, save-all, save-key};
 ghost use Rattle.codec.specs.Codec.{change};
 ghost use Rattle.log.specs.Log.{chunks-codec, log-words, chunk-at, position-at, key-by, Ordered, LogWith, IsLog, KeyPlace};
-ghost use Rattle.log.specs.Steps.{hold-saved, Takes, entered};
+ghost use Rattle.log.specs.Steps.{with-next, entered};
 ghost use Rattle.log.specs.Answers.{FoundIn};
 use rules::numbers::ChunkKey;
 
@@ -119,6 +119,16 @@ fn enter(log: &mut [u8], chunks: usize, n: usize, p: usize, key: u64, saved: u64
     words::write(log, 0, (n + 1) as u64);
 }
 
+// A chunk at the end whose bytes stand in its cell already, the one after the last.
+pub fn append_in_place(log: &mut [u8], chunks: usize, width: usize, key: ChunkKey, saved: bool)
+    requires { ⌜ IsLog chunks width (words (now log)) (length (now log)) × (getD (words (now log)) 0 0 < chunks) ⌝ }
+    ensures { λ _. ⌜ words (now (log .exit)) ≡ with-next chunks width (key .0) saved (words (now (log .entry))) ⌝ }
+{
+    let n = words::read(log, 0) as usize;
+    let p = place(log, chunks, n, key.0);
+    enter(log, chunks, n, p, key.0, saved as u64);
+}
+
 // A chunk at the end.
 pub fn append(log: &mut [u8], chunks: usize, width: usize, key: ChunkKey, saved: bool, bytes: &[u8])
     requires { ⌜ IsLog chunks width (words (now log)) (length (now log)) ⌝ }
@@ -127,11 +137,10 @@ pub fn append(log: &mut [u8], chunks: usize, width: usize, key: ChunkKey, saved:
         ≡ change (chunks-codec chunks width) (λ l. append l (chunk (key .0) saved (now (bytes .entry)))) (words (now (log .entry))) ⌝ }
 {
     let n = words::read(log, 0) as usize;
-    let p = place(log, chunks, n, key.0);
-    enter(log, chunks, n, p, key.0, saved as u64);
     let at = words::offset(n, width, chunks);
     let start = 8 * (1 + 3 * chunks + at);
     moves::copy_bytes(&mut log[start..start + 8 * width], bytes);
+    append_in_place(log, chunks, width, key, saved);
 }
 
 // The chunk with the key, where there is one, becomes saved.
@@ -143,19 +152,6 @@ pub fn save_key(log: &mut [u8], chunks: usize, width: usize, k: ChunkKey)
         Found::At(p) => words::write(log, 2 + 2 * p, 1),
         Found::Nothing => {}
     }
-}
-
-// The log gets the chunk saved: one that is held becomes saved, another is appended.
-pub fn hold_saved(log: &mut [u8], chunks: usize, width: usize, key: ChunkKey, bytes: &[u8])
-    requires { ⌜ IsLog chunks width (words (now log)) (length (now log)) ⌝ }
-    requires { ⌜ Takes chunks width (key .0) (words (now log)) (length (now bytes)) ⌝ }
-    ensures { λ _. ⌜ words (now (log .exit)) ≡ change (chunks-codec chunks width) (hold-saved (key .0) (now (bytes .entry))) (words (now (log .entry))) ⌝ }
-{
-    if holds(log, chunks, width, key) {
-        save_key(log, chunks, width, key);
-        return;
-    }
-    append(log, chunks, width, key, true, bytes);
 }
 
 // All chunks become saved.

@@ -20,7 +20,8 @@ use Rattle.layout.specs.Layout.{log-words, store-words}
 use Rattle.layout.specs.Store.{decode, render}
 use Rattle.lent.proofs.Stores.{settings-are, facts}
 use Rattle.named.specs.Tables.{EntriesAt, named}
-use Rattle.named.proofs.Logs.{log-from, log-inside, log-changed}
+use Rattle.lent.specs.Places.{log-from}
+use Rattle.lent.proofs.Logs.{log-inside, log-changed}
 use Rattle.mend.specs.Fit.{with-log-at, log-of, MendsTable, table-of, table-mended, Mended, MendsAll}
 use Rattle.mend.specs.Keys.{before}
 use Rattle.mend.proofs.Mending.{bucket-more, mended-start, sofar-at, mended-grows}

@@ -16,7 +16,7 @@ use Rattle.rules.specs.State.{State}
 use Rattle.rules.specs.Parts.{circle, seek, holder}
 use Rattle.rules.specs.Upkeep.{of-first-two, mend-key, mend-keys}
 use Rattle.rules.proofs.Parts.{ids-in, circle-in, seek-held, seek-found}
-use Rattle.named.specs.Tables.{with-chunks}
+use Rattle.lent.specs.Places.{with-chunks}
 use Rattle.mend.specs.Keys.{wants}
 use Rattle.mend.proofs.Mending.{key-none, key-saved, key-added, key-held, Sofar}
 

@@ -26,7 +26,8 @@ use Rattle.lent.proofs.Stores.{facts}
 use Rattle.named.specs.Tables.{TableAt, AtCopies}
 use Rattle.named.proofs.Runs.{on-at-after}
 use Rattle.named.proofs.Copies.{beside-log, inside-store, table-length, table-key}
-use Rattle.named.proofs.Logs.{log-from, log-inside}
+use Rattle.lent.specs.Places.{log-from}
+use Rattle.lent.proofs.Logs.{log-inside}
 use Rattle.mend.specs.Fit.{with-log-at, log-of, Mends, MendsTable, key-mended, table-of, table-mended}
 use Rattle.mend.proofs.Mending.{key-length, Sofar, sofar-start, sofar-turn, keys-more}
 use Rattle.mend.proofs.OnStore.{store-long, log-still}

@@ -9,20 +9,18 @@ use Rattle.lists.specs.Runs.{run, Below}
 use Rattle.lists.proofs.Tests.{and-l}
 use Rattle.lists.proofs.Runs.{fits-in, run-of-run, on-by, on-id, on-within, below-take, below-drop}
 use Rattle.words.specs.Words.{words}
-use Rattle.words.proofs.Laws.{lent-run, length-words}
+use Rattle.words.proofs.Laws.{lent-run}
 use Rattle.rules.specs.declared.settings.Settings.{Settings}
 use Rattle.rules.specs.Chunks.{Chunk}
 use Rattle.codec.specs.Codec.{change}
-use Rattle.log.specs.Log.{IsLog}
-use Rattle.log.specs.Steps.{Takes}
 use Rattle.log.proofs.Steps.{clean}
-use Rattle.log.proofs.Codec.{dec-length}
 use Rattle.layout.specs.Layout.{word-bytes, log-codec, log-words, place-words, store-words, place-at, log-at}
 use Rattle.layout.specs.Store.{decode}
 use Rattle.layout.proofs.Lent.{lent}
 use Rattle.lent.proofs.Stores.{facts}
-use Rattle.named.proofs.Logs.{log-from, log-bytes, log-run, log-length, log-lies}
-use Rattle.mend.specs.Fit.{change-log, PlaceLog, with-log-at, log-of, UpAt}
+use Rattle.lent.specs.Places.{PlaceLog, log-from}
+use Rattle.lent.proofs.Logs.{log-bytes, log-run, log-lies, log-good, log-read}
+use Rattle.mend.specs.Fit.{change-log, with-log-at, log-of, UpAt}
 
 module _ (c : Settings) (bs : List ℕ) (p : ℕ) (u : UpAt c bs p) where
   pub stands : 0 < decode (words bs) .ids p
@@ -34,16 +32,12 @@ module _ (c : Settings) (bs : List ℕ) (p : ℕ) (u : UpAt c bs p) where
   place-inside : place-at c p + place-words c ≤ store-words c
   place-inside = let b = fits-in (place-words c) (u .inside) in omega arith
 
-  pub log-is : log-codec c .dec (run (log-from c p) (log-words c) (words bs)) ≡ log-of p (words bs)
-  log-is = ap (log-codec c .dec) (sym (log-run c bs (u .store) p (u .inside))) ∙ log-lies c bs (u .store) p (u .inside) stands .same
+  log-is : log-codec c .dec (run (log-from c p) (log-words c) (words bs)) ≡ log-of p (words bs)
+  log-is = log-read c bs (u .store) p (u .inside) stands
 
   in-place : run (log-at c) (log-words c) (run (place-at c p) (place-words c) (words bs)) ≡ run (log-from c p) (log-words c) (words bs)
   in-place =
       run-of-run (place-at c p) (place-words c) (log-at c) (log-words c) (words bs) (omega (arith, place-inside, store-long)) (omega arith)
-
-  good : IsLog (c .chunks) (c .size / word-bytes) (run (log-from c p) (log-words c) (words bs)) (8 * log-words c)
-  good =
-      rw (log-run c bs (u .store) p (u .inside), log-length c bs (u .store) p (u .inside)) at (log-lies c bs (u .store) p (u .inside) stands .log)
 
   -- ---- the place's part lent
   module _ (o e : ℕ) (eo : o ≡ 8 * place-at c p) (ee : e ≡ o + 8 * place-words c) where
@@ -56,18 +50,10 @@ module _ (c : Settings) (bs : List ℕ) (p : ℕ) (u : UpAt c bs p) where
         let z = u .store .size in
         let room : e - o ≤ length (drop o bs) = rw length-drop (omega arith) in
         record {
-          small = u .store .limits;
+          limits = u .store .limits;
           size = length-take-le (e - o) (drop o bs) room ∙ omega arith;
-          log = rw (part-is, in-place) good;
+          log = rw (part-is, in-place) (log-good c bs (u .store) p (u .inside) stands);
         }
-
-    pub lent-takes : (k len : ℕ) → length (log-of p (words bs)) < c .chunks → len ≡ 8 * (c .size / word-bytes)
-        → Takes (c .chunks) (c .size / word-bytes) k (run (log-at c) (log-words c) (words (take (e - o) (drop o bs)))) len
-    lent-takes k len r h =
-        let n : length (run (log-from c p) (log-words c) (words bs)) ≡ log-words c =
-        ap length (sym (log-run c bs (u .store) p (u .inside))) ∙ length-words (log-bytes c p bs) ∙ omega (arith, log-length c bs (u .store) p (u .inside)) in
-        let m = dec-length (c .chunks) (c .size / word-bytes) (run (log-from c p) (log-words c) (words bs)) n in
-        rw (part-is, in-place) (record { room = λ _. omega (arith, ap length log-is, m); size = h })
 
     pub place-back : (f : List Chunk → List Chunk) (t : List ℕ) → length t ≡ e - o → words t ≡ change-log c f (words (take (e - o) (drop o bs)))
         → words (take o bs ++ (t ++ drop (e - o) (drop o bs))) ≡ with-log-at c p (f (log-of p (words bs))) (words bs)

@@ -32,8 +32,8 @@ use Rattle.layout.proofs.Sound.{SoundWords}
 use Rattle.layout.proofs.Fit.{read-back, settings-kept, render-sound}
 use Rattle.lent.specs.Stores.{StoreOf}
 use Rattle.lent.proofs.Stores.{settings-are, facts}
-use Rattle.named.specs.Tables.{with-chunks}
-use Rattle.named.proofs.Logs.{log-from, log-changed}
+use Rattle.lent.specs.Places.{with-chunks, log-from}
+use Rattle.lent.proofs.Logs.{log-changed}
 use Rattle.mend.specs.Fit.{with-log-at, log-of, UpAt, key-mended}
 use Rattle.mend.specs.Keys.{wants}
 use Rattle.mend.proofs.Mending.{key-none, key-saved, key-added, Sofar}

@@ -10,14 +10,15 @@ use Rattle.words.specs.Words.{words}
 use Rattle.rules.specs.declared.settings.Settings.{Settings}
 use Rattle.rules.specs.Chunks.{Chunk, chunk, held, bytes-in, append, save-key}
 use Rattle.rules.specs.State.{State}
-use Rattle.log.specs.Steps.{hold-saved}
-use Rattle.layout.specs.Store.{decode}
-use Rattle.mend.specs.Fit.{with-log-at, log-of, Brings, Mends, key-mended}
+use Rattle.layout.specs.Store.{decode, render}
+use Rattle.lent.proofs.Logs.{log-changed}
+use Rattle.transfer.specs.Brings.{Brings, brought}
+use Rattle.mend.specs.Fit.{with-log-at, log-of, Mends, key-mended}
 use Rattle.mend.specs.Keys.{wants}
 use Rattle.mend.specs.Acts.{Lacking}
 use Rattle.mend.proofs.Mending.{key-none, key-saved, key-added}
 use Rattle.mend.proofs.Flagged.{holds-it}
-use Rattle.mend.proofs.OnStore.{log-still}
+use Rattle.mend.proofs.OnStore.{stands, log-still}
 
 module _ (c : Settings) (bs : List ℕ) (p k : ℕ) (m : Mends c bs p k) where
   abbrev s : State
@@ -43,17 +44,17 @@ module _ (c : Settings) (bs : List ℕ) (p k : ℕ) (m : Mends c bs p k) where
         key-added s (s .ids p) log k (o .wanted) (o .missing)
         ∙ ap (λ (i : ℕ). append log (chunk k true (bytes-in (s .bricks .log i) k))) (sym (o .from .here))
 
-    pub brings : Brings c bs p from k
+    pub brings : Brings c bs from p k
     brings = record {
-      there = m .there;
-      inside = o .from .inside;
-      holds = holds-it c bs (m .there .store) k from (o .from) .holds;
+      store = m .there .store;
+      from-in = o .from .inside;
+      to-in = m .there .inside;
+      to-filled = stands c bs p (m .there);
+      held = holds-it c bs (m .there .store) k from (o .from) .holds;
       room = omega (arith, m .room, ap length grown ∙ length-append log (chunk k true bytes ∷ []));
     }
 
-    pub brought : (vs : List ℕ) → vs ≡ with-log-at c p (hold-saved k bytes log) (words bs)
-        → vs ≡ with-log-at c p (key-mended p k (words bs)) (words bs)
-    brought vs q = q ∙ ap (λ (l : List Chunk). with-log-at c p l (words bs)) (added ∙ sym grown)
-      where
-        added : hold-saved k bytes log ≡ append log (chunk k true bytes)
-        added = rw (o .missing)
+    pub added : (vs : List ℕ) → vs ≡ render (brought s from p k true) (words bs) → vs ≡ with-log-at c p (key-mended p k (words bs)) (words bs)
+    added vs q =
+        q ∙ log-changed c bs (m .there .store) p (m .there .inside) (stands c bs p (m .there)) (append log (chunk k true bytes))
+        ∙ ap (λ (l : List Chunk). with-log-at c p l (words bs)) (sym grown)

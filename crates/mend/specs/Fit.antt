@@ -2,37 +2,30 @@
 use mathlib.Core.Path.{_≡_}
 use mathlib.Core.Bool.{true}
 use mathlib.Core.List.{List}
-use Prim.Native.Nat.{ℕ, _+_, _*_, _/_, _≤_, _<_}
+use Prim.Native.Nat.{ℕ, _≤_, _<_}
 use lib.ListN.{length, getD}
 use Rattle.lists.specs.Runs.{run, on-run}
 use Rattle.words.specs.Words.{words}
 use Rattle.rules.specs.declared.settings.Settings.{Settings}
 use Rattle.rules.specs.Limits.{buckets}
 use Rattle.rules.specs.Entries.{Entry}
-use Rattle.rules.specs.Chunks.{Chunk, held}
+use Rattle.rules.specs.Chunks.{Chunk}
 use Rattle.rules.specs.Parts.{up-member}
 use Rattle.rules.specs.Upkeep.{mend-key, mend-keys, mended}
-use Rattle.rules.proofs.Limits.{Limits}
 use Rattle.codec.specs.Codec.{change}
-use Rattle.log.specs.Log.{IsLog}
-use Rattle.layout.specs.Layout.{word-bytes, log-codec, copy-codec, copy-words, log-words, place-words, place-at, log-at}
+use Rattle.layout.specs.Layout.{log-codec, copy-codec, copy-words, log-words, log-at}
 use Rattle.layout.specs.Store.{decode}
 use Rattle.lent.specs.Stores.{StoreOf}
+use Rattle.lent.specs.Places.{log-from}
 use Rattle.named.specs.Tables.{AtCopies, AllNamed}
 
 -- the words of a place with its log changed
 abbrev pub change-log : Settings → (List Chunk → List Chunk) → List ℕ → List ℕ
 change-log c f part = on-run (log-at c) (log-words c) (change (log-codec c) f) part
 
--- these words are those of a place, and have a log
-pub record PlaceLog (c : Settings) (part : List ℕ) (len : ℕ) : Type 0 where
-  pub small : Limits c
-  pub size : len ≡ 8 * place-words c
-  pub log : IsLog (c .chunks) (c .size / word-bytes) (run (log-at c) (log-words c) part) (8 * log-words c)
-
 -- the words of a store with another log at a place
 abbrev pub with-log-at : Settings → ℕ → List Chunk → List ℕ → List ℕ
-with-log-at c place log ws = on-run (place-at c place + log-at c) (log-words c) (log-codec c .enc log) ws
+with-log-at c place log ws = on-run (log-from c place) (log-words c) (log-codec c .enc log) ws
 
 -- the log of the brick at a place
 abbrev pub log-of : ℕ → List ℕ → List Chunk
@@ -53,13 +46,6 @@ table-of c from ws = copy-codec c .dec (run from (copy-words c) ws)
 
 abbrev pub table-mended : Settings → ℕ → ℕ → List ℕ → List Chunk
 table-mended c place from ws = mend-keys (decode ws) (decode ws .ids place) (log-of place ws) (table-of c from ws)
-
--- a chunk comes from the brick at another place, and there is room for it
-pub record Brings (c : Settings) (bs : List ℕ) (place from key : ℕ) : Type 0 where
-  pub there : UpAt c bs place
-  pub inside : from < c .places
-  pub holds : held (log-of from (words bs)) key ≡ true
-  pub room : length (log-of place (words bs)) < c .chunks
 
 -- a key is mended, and there is room for the chunk if it is added
 pub record Mends (c : Settings) (bs : List ℕ) (place key : ℕ) : Type 0 where

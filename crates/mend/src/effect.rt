@@ -1,15 +1,11 @@
 // The effect of mend, key by key: a place's log gets chunks saved that up members hold.
 ghost use mathlib.Core.Path.{_≡_};
-ghost use mathlib.Core.Bool.{true};
-ghost use Prim.Native.Nat.{_<_, _≤_};
-ghost use lib.ListN.{length, take};
+ghost use Prim.Native.Nat.{_<_};
 ghost use Rattle.words.specs.Words.{words};
-ghost use Rattle.rules.specs.Chunks.{held, bytes-in, save-key};
+ghost use Rattle.rules.specs.Chunks.{save-key};
 ghost use Rattle.rules.specs.Upkeep.{mend-effect};
-ghost use Rattle.log.specs.Steps.{hold-saved};
 ghost use Rattle.layout.specs.Store.{decode, render};
-ghost use Rattle.lent.specs.Stores.{StoreOf};
-ghost use Rattle.mend.specs.Fit.{with-log-at, log-of, UpAt, Brings, Mends, key-mended, MendsTable, table-mended, Mended, MendsAll};
+ghost use Rattle.mend.specs.Fit.{with-log-at, log-of, UpAt, Mends, key-mended, MendsTable, table-mended, Mended, MendsAll};
 use crate::act;
 use crate::act::Act;
 use crate::chunk;
@@ -18,19 +14,6 @@ use rules::numbers::ChunkKey;
 use rules::settings::Settings;
 
 // ---- one key
-
-// The bytes of a chunk that the brick at a place holds are copied to the front of an area.
-fn fetch(area: &mut [u8], store: &[u8], settings: Settings, place: usize, key: ChunkKey)
-    requires { ⌜ StoreOf settings (now store) × (place < settings .places) × (settings .size ≤ length (now area)) ⌝ }
-    requires { ⌜ held (log-of place (words (now store))) (key .0) ≡ true ⌝ }
-    ensures { λ _. ⌜ take (settings .size) (now (area .exit)) ≡ bytes-in (log-of place (words (now (store .entry)))) (key .0) ⌝ }
-{
-    let size = settings.size;
-    moves::copy_bytes(
-        &mut area[0..size],
-        holders::chunk(store, settings, place, key),
-    );
-}
 
 // The chunk that the brick at the place holds becomes saved.
 fn save_at(store: &mut [u8], settings: Settings, place: usize, key: ChunkKey)
@@ -43,22 +26,6 @@ fn save_at(store: &mut [u8], settings: Settings, place: usize, key: ChunkKey)
     chunk::save_chunk(&mut store[a..e], settings, key);
 }
 
-// The chunk comes from another place.
-fn bring(store: &mut [u8], settings: Settings, place: usize, from: usize, key: ChunkKey)
-    requires { ⌜ Brings settings (now store) place from (key .0) ⌝ }
-    ensures { λ _. ⌜ words (now (store .exit))
-        ≡ with-log-at settings place
-        (hold-saved (key .0) (bytes-in (log-of from (words (now (store .entry)))) (key .0)) (log-of place (words (now (store .entry)))))
-        (words (now (store .entry))) ⌝ }
-{
-    let mut area = [0u8; Settings::MAX_SIZE];
-    fetch(&mut area, store, settings, from, key);
-    let a = 8 * sizes::place_at(settings, place);
-    let e = a + 8 * sizes::place_words(settings);
-    let size = settings.size;
-    chunk::mend_chunk(&mut store[a..e], settings, key, &area[0..size]);
-}
-
 // The place does for the key what it is to do.
 fn mend_key(store: &mut [u8], settings: Settings, place: usize, key: ChunkKey)
     requires { ⌜ Mends settings (now store) place (key .0) ⌝ }
@@ -68,7 +35,7 @@ fn mend_key(store: &mut [u8], settings: Settings, place: usize, key: ChunkKey)
     match act::for_key(store, settings, place, key) {
         Act::Nothing => {}
         Act::Save => save_at(store, settings, place, key),
-        Act::Bring(from) => bring(store, settings, place, from, key),
+        Act::Bring(from) => transfer::bring(store, settings, from, place, key, true),
     }
 }
 

@@ -1,12 +1,11 @@
 -- copy: what it finds, its questions, and what it leaves.
 use mathlib.Core.Path.{_≡_, sym, ap, _∙_}
-use mathlib.Core.List.{List, _++_}
+use mathlib.Core.List.{List}
 use mathlib.Core.Bool.{true, false}
 use Prim.Native.Nat.{ℕ, _^_, _≤_, _<_}
 use native.Mathlib.Omega.{arith}
 use lib.Dec.{eqb, ltb, leb}
-use lib.ListN.{length, take, drop}
-use lib.Seq.{take-at}
+use lib.ListN.{length}
 use borrow.Author.Tests.{eq-eqb, ne-eqb, lt-ltb, le-ltb, le-leb, ltb-true}
 use Rattle.lists.specs.Tests.{_and_, some}
 use Rattle.lists.proofs.Tests.{and-l, both, clash, no-first, or-l, or-r, or-no}
@@ -14,7 +13,7 @@ use Rattle.words.specs.Words.{words}
 use Rattle.rules.specs.declared.settings.Settings.{Settings}
 use Rattle.rules.specs.Limits.{max-id}
 use Rattle.rules.specs.Numbers.{home-of}
-use Rattle.rules.specs.Chunks.{held}
+use Rattle.rules.specs.Chunks.{chunk, append, held, bytes-in}
 use Rattle.rules.specs.State.{State}
 use Rattle.rules.specs.Parts.{up-member}
 use Rattle.rules.specs.Question.{AllYes}
@@ -22,9 +21,10 @@ use Rattle.rules.specs.Writes.{target, nothing-to-copy, copy-asks, copy-effect}
 use Rattle.layout.specs.Disk.{Brick, blank-brick}
 use Rattle.layout.specs.Store.{brick-in, decode, render}
 use Rattle.lent.specs.Stores.{StoreOf}
-use Rattle.lent.specs.Places.{Stands}
+use Rattle.lent.specs.Places.{Stands, with-chunks}
 use Rattle.lent.proofs.Stores.{settings-are}
-use Rattle.writes.specs.Copies.{Lacking, has-room, Copies, copied}
+use Rattle.transfer.specs.Brings.{Brings, brought}
+use Rattle.writes.specs.Copies.{Lacking, has-room}
 
 -- ---- what is found
 module _ (c : Settings) (s : State) (key : ℕ) where
@@ -46,10 +46,6 @@ module _ (c : Settings) (s : State) (key : ℕ) where
 
   pub none-up : {A : Type 0} (id : ℕ) → brick-in s id ≡ blank-brick → up-member s id ≡ true → A
   none-up id e y = clash (ap (λ (b : Brick). b .status .up) e) (and-l _ _ y)
-
--- bytes that went into the front of a room are read from there
-pub room-read : (room new bytes : List ℕ) (size : ℕ) → new ≡ bytes → length bytes ≡ size → take size (new ++ drop size room) ≡ bytes
-room-read room new bytes size e n = take-at new (drop size room) size (ap length e ∙ n) ∙ e
 
 -- ---- the questions
 pub no-home : (key : ℕ) → home-of key ≡ 0 → (ltb 0 (home-of key) and leb (home-of key) max-id) ≡ false
@@ -77,21 +73,24 @@ module _ (c : Settings) (bs : List ℕ) (so : StoreOf c bs) (key : ℕ) where
 
     -- ---- the effect
     module _ (y : AllYes (copy-asks s key)) (home : ℕ) (from : Stands c s (home-of key) home) where
-      pub copies-fit : Copies c bs home place key 8192
-      copies-fit = record {
+      pub copy-fits : Brings c bs home place key
+      copy-fits = record {
         store = so;
-        home-in = from .inside;
-        home-filled = rw (from .here) (from .some);
-        target-in = at .at .inside;
-        target-filled = rw (at .at .here) (at .at .some);
-        held = rw (from .here) (y .1 .1 .1 .0);
+        from-in = from .inside;
+        to-in = at .at .inside;
+        to-filled = rw (at .at .here) (at .at .some);
+        held = ap (λ (i : ℕ). held (s .bricks .log i) key) (from .here) ∙ y .1 .1 .1 .0;
         room = ltb-true (length (s .bricks .log (s .ids place))) (c .chunks) (room-is ∙ y .1 .1 .0);
-        size = so .limits .size-to;
       }
 
-      pub one-copied : render (copied s home place key) (words bs) ≡ render (copy-effect s key) (words bs)
+      pub one-copied : render (brought s home place key false) (words bs) ≡ render (copy-effect s key) (words bs)
       unfolding copy-effect
-      one-copied = rw (target-lacks c s key place at, from .here, at .at .here)
+      one-copied =
+          ap (λ (i : ℕ). render (to-place (s .ids place) i) (words bs)) (from .here) ∙ ap (λ (i : ℕ). render (to-place i (home-of key)) (words bs)) (at .at .here)
+          ∙ rw (target-lacks c s key place at)
+        where
+          to-place : ℕ → ℕ → State
+          to-place to id = with-chunks s to (append (s .bricks .log to) (chunk key false (bytes-in (s .bricks .log id) key)))
 
   pub none-copied : nothing-to-copy s key ≡ true → words bs ≡ render (copy-effect s key) (words bs)
   unfolding copy-effect

@@ -1,18 +1,15 @@
 -- A brick's log changed: in the state, and in the words of its place.
-use mathlib.Core.Path.{_≡_, refl, sym, ap, _∙_}
-use mathlib.Core.List.{List, _++_}
-use Prim.Native.Nat.{ℕ, _*_, _-_, _/_, _<_}
+use mathlib.Core.Path.{_≡_, refl, ap, _∙_}
+use mathlib.Core.List.{List}
+use Prim.Native.Nat.{ℕ, _/_, _<_}
 use native.Mathlib.Omega.{arith}
-use lib.ListN.{length, take, drop, getD}
+use lib.ListN.{length, getD}
 use Rattle.lists.specs.Runs.{run, on-run}
 use Rattle.lists.proofs.Columns.{upd-same, upd-other}
-use Rattle.lists.proofs.Runs.{run-length}
 use Rattle.words.specs.Words.{words}
-use Rattle.words.proofs.Laws.{words-part, lent-run}
 use Rattle.rules.specs.declared.settings.Settings.{Settings}
 use Rattle.rules.specs.Chunks.{Chunk}
 use Rattle.rules.specs.State.{State, set-bricks, with-log}
-use Rattle.log.specs.Log.{IsLog}
 use Rattle.log.proofs.Codec.{dec-length}
 use Rattle.codec.specs.Codec.{change}
 use Rattle.codec.proofs.Focus.{part-length}
@@ -42,28 +39,6 @@ log-changes s p at f =
     })
     (rw (upd-same (s .bricks .log) id new))
 
--- ---- bytes o to e of a place are its log
-module _ (c : Settings) (s bytes : List ℕ) (k : AppendFits c (words s) (length s) bytes) (o e : ℕ) (eo : o ≡ 8 * log-at c) (ee : e ≡ length s) where
-  abbrev log : List ℕ
-  log = take (e - o) (drop o s)
-
-  log-lent : words log ≡ run (log-at c) (log-words c) (words s)
-  log-lent = words-part s o (e - o) (log-at c) (log-words c) eo (omega (arith, k .size)) (omega (arith, k .size))
-
-  log-length : length log ≡ 8 * log-words c
-  log-length = run-length o (e - o) s (omega (arith, k .size)) ∙ omega (arith, k .size)
-
-  pub log-is : IsLog (c .chunks) (c .size / 8) (words log) (length log)
-  log-is = rw (log-lent, log-length) (k .log)
-
-  pub log-room : getD (words log) 0 0 < c .chunks
-  log-room = rw log-lent (k .room)
-
-  pub appended : (f : List Chunk → List Chunk) (t : List ℕ) → length t ≡ length log → words t ≡ change (log-codec c) f (words log)
-      → words (take o s ++ (t ++ drop (e - o) (drop o s))) ≡ on-run (log-at c) (log-words c) (change (log-codec c) f) (words s)
-  appended f t l q =
-      lent-run s t o (e - o) (log-at c) (log-words c) (change (log-codec c) f) eo (omega (arith, k .size)) (omega (arith, k .size)) (l ∙ log-length) q
-
 -- ---- a place whose brick is s in words, and a after some steps that left the log; v are the bytes then
 module _ (c : Settings) (s : List ℕ) (k : HoldsBrick c (words s) (length s)) (a : Place) (z : 0 < a .fst)
     (left : a .snd .log ≡ place-codec c .dec (words s) .snd .log) (v : List ℕ) (same : words v ≡ place-codec c .enc a (words s))
@@ -77,7 +52,10 @@ module _ (c : Settings) (s : List ℕ) (k : HoldsBrick c (words s) (length s)) (
 
   pub append-fits : (bytes : List ℕ) → getD (run (log-at c) (log-words c) (words s)) 0 0 < c .chunks → length bytes ≡ c .size
       → AppendFits c (words v) (length v) bytes
-  append-fits bytes room size = record { limits = k .limits; size = long ∙ k .size; log = rw still (k .log); room = rw still room; whole = size }
+  append-fits bytes room size = record {
+    log = record { place = record { limits = k .limits; size = long ∙ k .size; log = rw still (k .log) }; room = rw still room };
+    whole = size;
+  }
 
   pub log-grown : (f : List Chunk → List Chunk) → on-run (log-at c) (log-words c) (change (log-codec c) f) (words v) ≡ place-codec c .enc (on-log f a) (words s)
   log-grown f =
@@ -96,17 +74,3 @@ room-left {c = c} l o room =
     ∙ dec-length (c .chunks) (c .size / 8) (run (log-at c) (log-words c) (words (part l))) (part-length (log-of c) (words (part l)) wide) in
     let same = ap (λ (v : Place). length (v .snd .log)) (part-read l) in
     omega arith
-
--- ---- a chunk comes into its log
-module _ {bs : List ℕ} {c : Settings} {p from to : ℕ} (l : LentPlace bs c p from to) (o : 0 < decode (words bs) .ids p) where
-  pub place-fits : (bytes : List ℕ) → length (decode (words bs) .bricks .log (decode (words bs) .ids p)) < c .chunks → length bytes ≡ c .size
-      → AppendFits c (words (part l)) (length (part l)) bytes
-  place-fits bytes room size =
-      let brick = part-brick l o in
-      append-fits c (part l) brick (place-codec c .dec (words (part l))) (brick .filled) refl (part l) (sym (brick .clean)) refl bytes (room-left l o room) size
-
-  pub place-grown : (f : List Chunk → List Chunk)
-      → on-run (log-at c) (log-words c) (change (log-codec c) f) (words (part l)) ≡ change (place-codec c) (on-log f) (words (part l))
-  place-grown f =
-      let brick = part-brick l o in
-      log-grown c (part l) brick (place-codec c .dec (words (part l))) (brick .filled) refl (part l) (sym (brick .clean)) refl f

@@ -1,6 +1,5 @@
 // copy,key: from the home brick to the next other member by id, circularly, unsaved; no change if it is held there or if there is none.
 ghost use mathlib.Core.Path.{_≡_};
-ghost use lib.ListN.{length};
 ghost use Rattle.words.specs.Words.{words};
 ghost use Rattle.rules.specs.Chunks.{held};
 ghost use Rattle.rules.specs.Event.{Event};
@@ -9,13 +8,11 @@ ghost use Rattle.rules.specs.Writes.{copy-asks, copy-effect};
 ghost use Rattle.layout.specs.Store.{decode, render};
 ghost use Rattle.lent.specs.Performs.{Performs};
 ghost use Rattle.lent.specs.Stores.{StoreOf};
-ghost use Rattle.writes.specs.Copies.{Copies, CopiedTo, has-room, copied};
-use crate::grow;
+ghost use Rattle.writes.specs.Copies.{CopiedTo, has-room};
 use lent::Answer;
 use lent::brick;
 use lent::brick::Found;
 use lent::place;
-use lent::place::Span;
 use rules::numbers::ChunkKey;
 use rules::settings::Settings;
 
@@ -81,35 +78,6 @@ fn asks(store: &[u8], settings: Settings, key: ChunkKey) -> u64
 
 // ---- the effect
 
-// The chunk goes from the log of the brick at one place to that at another, by way of `room`.
-fn copy_by(
-    store: &mut [u8],
-    settings: Settings,
-    home: usize,
-    target: usize,
-    key: ChunkKey,
-    room: &mut [u8],
-)
-    requires { ⌜ Copies settings (now store) home target (key .0) (length (now room)) ⌝ }
-    ensures { λ _. ⌜ words (now (store .exit)) ≡ render (copied (decode (words (now (store .entry)))) home target (key .0)) (words (now (store .entry))) ⌝ }
-{
-    let size = settings.size;
-    moves::copy_bytes(
-        &mut room[..size],
-        holders::chunk(store, settings, home, key),
-    );
-    let Span { from, to } = place::span_of(settings, target);
-    grow::append(&mut store[from..to], settings, key, &room[..size]);
-}
-
-fn copy_chunk(store: &mut [u8], settings: Settings, home: usize, target: usize, key: ChunkKey)
-    requires { ⌜ Copies settings (now store) home target (key .0) 8192 ⌝ }
-    ensures { λ _. ⌜ words (now (store .exit)) ≡ render (copied (decode (words (now (store .entry)))) home target (key .0)) (words (now (store .entry))) ⌝ }
-{
-    let mut room = [0; Settings::MAX_SIZE];
-    copy_by(store, settings, home, target, key, &mut room);
-}
-
 // All was answered yes, so the home brick stands somewhere.
 fn effect(store: &mut [u8], settings: Settings, key: ChunkKey)
     requires { ⌜ StoreOf settings (now store) × AllYes (copy-asks (decode (words (now store))) (key .0)) ⌝ }
@@ -121,7 +89,7 @@ fn effect(store: &mut [u8], settings: Settings, key: ChunkKey)
     let Found::At(home) = brick::place_of(store, settings, key.home()) else {
         return;
     };
-    copy_chunk(store, settings, home, target, key);
+    transfer::bring(store, settings, home, target, key, false);
 }
 
 pub fn copy(store: &mut [u8], settings: Settings, key: u64) -> Answer

@@ -1,25 +1,14 @@
-use mathlib.Core.Path.{refl}
-use mir.Val.{boolByte}
+use mathlib.Core.Path.{refl, _∙_}
 use Prim.Native.Nat.{_+_, _*_, _-_}
 use native.Mathlib.Omega.{arith}
 use Rattle.lists.proofs.Runs.{below-of}
-use Rattle.log.proofs.Steps.{append-leaves}
-use Rattle.lists.proofs.Tests.{flag-word}
+use Rattle.log.proofs.Steps.{copied-fits, copied-leaves}
 use borrow.Author.Needs.{needs}
 use Rattle.log.proofs.append.Statement.{statement}
 use Rattle.log.proofs.append.Tie as tie
 
 read-requires : tie.Need-read-requires
 read-requires c κs = search needs
-
-place-requires : tie.Need-place-requires
-place-requires c κs = ((omega arith, omega arith), rw (c .before .read .ensures) (c .before .before .before .before .before .pre .0 .order))
-
-cast-enter : tie.Need-cast-enter
-cast-enter c = search needs
-
-enter-requires : tie.Need-enter-requires
-enter-requires c κs = search needs
 
 offset-requires : tie.Need-offset-requires
 offset-requires c κs = search needs
@@ -54,34 +43,44 @@ part-copy-bytes-end c = search needs
 copy-bytes-requires : tie.Need-copy-bytes-requires
 copy-bytes-requires c κs = search needs
 
+append-in-place-requires : tie.Need-append-in-place-requires
+append-in-place-requires c κs =
+    let copy = c .before .before .before in
+    let offset = copy .before .before in
+    let read = offset .before in
+    let k = read .before .before .before in
+    let s = k .before in
+    let q = 8 * (1 + 3 * s .args .chunks + offset .offset .result) in
+    copied-fits (s .args .chunks) (s .args .width) (s .args .log .now) (s .pre .0)
+    (below-of 256 (s .args .log .now) (λ i. k .slice-known .given i .fits)) (read .read .result) (offset .offset .result) (s .args .bytes .now)
+    (copy .copy-bytes .last .0) q (q + 8 * s .args .width - q) (s .pre .1 .0) (read .read .ensures) (s .pre .1 .1) (copy .copy-bytes .ensures)
+    (offset .offset .ensures .0) refl (omega arith) (omega arith)
+
 same-length : tie.Need-same-length
 same-length c = search needs
 
 returns : tie.Need-returns
 returns c =
-    let after-offset = c .before .before .before .before in
-    let after-enter = after-offset .before .before .before in
-    let after-place = after-enter .before .before in
-    let after-read = after-place .before .before in
-    let k = after-read .before .before .before in
+    let done = c .before .before in
+    let copy = done .before .before .before .before in
+    let offset = copy .before .before in
+    let read = offset .before in
+    let shared = read .before .before in
+    let k = shared .before in
     let s = k .before in
-    let r = after-read .read in
-    let at = after-offset .offset in
-    let q = 8 * (1 + 3 * s .args .chunks + at .result) in
-    append-leaves (s .args .chunks) (s .args .width) (s .args .log .now) (s .pre .0)
-    (below-of 256 (s .args .log .now) (λ i. k .slice-known .given i .fits)) (r .result) (after-place .place .result) (s .args .key .0) (s .args .saved)
-    (boolByte (s .args .saved)) (at .result) (s .args .bytes .now) (after-enter .enter .last .0) (c .before .before .copy-bytes .last .0) q
-    (q + 8 * s .args .width - q) (flag-word (s .args .saved)) (s .pre .1 .0) (r .ensures) (after-place .place .ensures) (s .pre .1 .1) (omega arith)
-    (after-enter .enter .ensures) (c .before .before .copy-bytes .ensures) (at .ensures .0) (at .ensures .1) refl (omega arith)
+    let q = 8 * (1 + 3 * s .args .chunks + offset .offset .result) in
+    done .append-in-place .ensures
+    ∙ copied-leaves (s .args .chunks) (s .args .width) (s .args .log .now) (s .pre .0)
+    (below-of 256 (s .args .log .now) (λ i. k .slice-known .given i .fits)) (read .read .result) (offset .offset .result) (s .args .bytes .now)
+    (copy .copy-bytes .last .0) q (q + 8 * s .args .width - q) (s .pre .1 .0) (read .read .ensures) (s .pre .1 .1) (copy .copy-bytes .ensures)
+    (offset .offset .ensures .0) refl (omega arith) (s .args .key .0) (s .args .saved)
+    (below-of 256 (s .args .bytes .now) (λ i. shared .shared-slice-known .given i .fits))
 
 pub append-spec : {M : Type 1} → statement M
 append-spec =
     tie.close
     (tie.spec
     read-requires
-    place-requires
-    cast-enter
-    enter-requires
     offset-requires
     mul-start
     add-start
@@ -93,5 +92,6 @@ append-spec =
     part-copy-bytes-start
     part-copy-bytes-end
     copy-bytes-requires
+    append-in-place-requires
     same-length
     returns)

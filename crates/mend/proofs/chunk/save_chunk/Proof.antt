@@ -1,7 +1,9 @@
 use Prim.Native.Nat.{_+_, _*_}
 use native.Mathlib.Omega.{arith}
 use Rattle.rules.specs.Chunks.{save-key}
-use Rattle.mend.proofs.Lent.{part-log, part-back}
+use Rattle.codec.specs.Codec.{change}
+use Rattle.layout.specs.Layout.{log-codec}
+use Rattle.lent.proofs.PlaceLogs.{part-log, part-back}
 use borrow.Author.Needs.{needs}
 use Rattle.mend.proofs.chunk.save_chunk.Statement.{statement}
 use Rattle.mend.proofs.chunk.save_chunk.Tie as tie
@@ -47,7 +49,8 @@ returns c =
     let s = g .before .before .before in
     let a = s .args in
     let o = 8 * g .before .log-at .result in
-    part-back (a .settings) (a .part .now) (s .pre) o (o + 8 * g .log-words .result) (omega arith) (omega arith) (λ l. save-key l (a .key .0))
+    part-back (a .settings) (a .part .now) (s .pre) o (o + 8 * g .log-words .result) (omega arith) (omega arith)
+    (change (log-codec (a .settings)) (λ l. save-key l (a .key .0)))
     (m .save-key .last .0) (omega arith) (m .save-key .ensures)
 
 pub save-chunk-spec : {M : Type 1} → statement M

@@ -7,7 +7,7 @@ use Rattle.layout.specs.Store.{decode}
 use Rattle.mend.specs.Fit.{log-of}
 use Rattle.mend.specs.Keys.{wants}
 use Rattle.mend.specs.Acts.{Lacking}
-use Rattle.mend.proofs.OneKey.{unmended, saved, brings, brought}
+use Rattle.mend.proofs.OneKey.{unmended, saved, brings, added}
 use borrow.Author.Needs.{needs}
 use Rattle.mend.proofs.effect.mend_key.Statement.{statement}
 use Rattle.mend.proofs.effect.mend_key.Tie as tie
@@ -75,7 +75,7 @@ returns-3 c =
     let f = c .before .before .before .before .before in
     let s = f .before .before .before .before .before in
     let a = s .args in
-    brought (a .settings) (a .store .now) (a .place) (a .key .0) (s .pre) _ (lacking f) _ (c .before .before .bring .ensures)
+    added (a .settings) (a .store .now) (a .place) (a .key .0) (s .pre) _ (lacking f) _ (c .before .before .bring .ensures)
 
 pub mend-key-spec : {M : Type 1} → statement M
 mend-key-spec =

@@ -9,7 +9,7 @@ use Rattle.layout.specs.Disk.{blank-brick}
 use Rattle.layout.specs.Store.{brick-in, decode}
 use Rattle.lent.specs.Places.{Stands}
 use Rattle.writes.specs.Copies.{Lacking}
-use Rattle.writes.proofs.Copies.{none-up, none-copied, copies-fit, one-copied}
+use Rattle.writes.proofs.Copies.{none-up, none-copied, copy-fits, one-copied}
 use borrow.Author.Needs.{needs}
 use Rattle.writes.proofs.copy.effect.Statement.{statement}
 use Rattle.writes.proofs.copy.effect.Tie as tie
@@ -75,11 +75,11 @@ returns-2 c =
     let blank : brick-in (state b) (home .result) ≡ blank-brick = rw (c .enum-told2 .given .1) at (c .before .before .place-of .ensures) in
     none-up (b .args .settings) (state b) (b .args .key .0) _ (ap (brick-in (state b)) (sym (home .ensures)) ∙ blank) (b .pre .1 .1 .0)
 
-copy-chunk-requires : tie.Need-copy-chunk-requires
-copy-chunk-requires c κs =
+bring-requires : tie.Need-bring-requires
+bring-requires c κs =
     let k = c .before .before in
     let b = start (chosen k) in
-    copies-fit (b .args .settings) (b .args .store .now) (b .pre .0) (b .args .key .0) _ (lacking (chosen k)) (b .pre .1) _ (source k)
+    copy-fits (b .args .settings) (b .args .store .now) (b .pre .0) (b .args .key .0) _ (lacking (chosen k)) (b .pre .1) _ (source k)
 
 same-length-3 : tie.Need-same-length-3
 same-length-3 c = search needs
@@ -88,7 +88,7 @@ returns-3 : tie.Need-returns-3
 returns-3 c =
     let k = c .before .before .before .before .before in
     let b = start (chosen k) in
-    c .before .before .copy-chunk .ensures
+    c .before .before .bring .ensures
     ∙ one-copied (b .args .settings) (b .args .store .now) (b .pre .0) (b .args .key .0) _ (lacking (chosen k)) (b .pre .1) _ (source k)
 
 pub effect-spec : {M : Type 1} → statement M
@@ -106,6 +106,6 @@ effect-spec =
     enum-told-2
     same-length-2
     returns-2
-    copy-chunk-requires
+    bring-requires
     same-length-3
     returns-3)

@@ -1,12 +1,21 @@
-use mathlib.Core.Path.{refl}
-use Prim.Native.Nat.{_*_}
+use mathlib.Core.Path.{_≡_}
+use Prim.Native.Nat.{_+_, _*_}
 use native.Mathlib.Omega.{arith}
 use lib.ListN.{length}
+use Rattle.codec.specs.Codec.{change}
+use Rattle.layout.specs.Layout.{log-codec, log-words, log-at}
 use Rattle.writes.specs.Logs.{with-chunk}
-use Rattle.writes.proofs.Logs.{log-is, log-room, appended}
+use Rattle.lent.proofs.PlaceLogs.{part-log, part-room, part-back}
 use borrow.Author.Needs.{needs}
 use Rattle.writes.proofs.grow.append.Statement.{statement}
 use Rattle.writes.proofs.grow.append.Tie as tie
+
+-- the log lies in the last bytes of the place
+start : (c : tie.After-log-at) → 8 * c .log-at .result ≡ 8 * log-at (c .before .before .before .args .settings)
+start c = omega (arith, c .log-at .ensures)
+
+end : (c : tie.After-log-at) → let s = c .before .before .before in length (s .args .part .now) ≡ 8 * c .log-at .result + 8 * log-words (s .args .settings)
+end c = omega (arith, start c, c .before .before .before .pre .log .place .size)
 
 log-at-requires : tie.Need-log-at-requires
 log-at-requires c κs = search needs
@@ -25,15 +34,13 @@ part-append-end c = search needs
 
 append-requires : tie.Need-append-requires
 append-requires c κs =
-    let b = c .before .before .before .before .before in
-    let a = b .args in
-    let log-at = c .before .before .log-at in
-    let from = 8 * log-at .result in
-    let end = length (a .part .now) in
-    let eo = log-at .ensures in
-    let words = b .pre .limits .size-words in (
-      log-is (a .settings) (a .part .now) (a .bytes .now) (b .pre) from end (omega (arith, eo)) refl,
-      (log-room (a .settings) (a .part .now) (a .bytes .now) (b .pre) from end (omega (arith, eo)) refl, omega (arith, b .pre .whole)),
+    let k = c .before .before in
+    let s = k .before .before .before in
+    let a = s .args in
+    let place = s .pre .log .place in
+    let words = place .limits .size-words in (
+      part-log (a .settings) (a .part .now) place _ _ (start k) (end k),
+      (part-room (a .settings) (a .part .now) place _ _ (start k) (end k) (s .pre .log .room), omega (arith, s .pre .whole)),
     )
 
 same-length : tie.Need-same-length
@@ -41,12 +48,12 @@ same-length c = search needs
 
 returns : tie.Need-returns
 returns c =
-    let b = c .before .before .before .before .before .before .before .before in
-    let a = b .args in
-    let log-at = c .before .before .before .before .before .log-at in
-    let done = c .before .before .append in
-    appended (a .settings) (a .part .now) (a .bytes .now) (b .pre) (8 * log-at .result) (length (a .part .now)) (omega (arith, log-at .ensures)) refl
-    (with-chunk (a .key .0) (a .bytes .now)) (done .last .0) (done .kept .0) (done .ensures)
+    let done = c .before .before in
+    let k = done .before .before .before in
+    let s = k .before .before .before in
+    let a = s .args in
+    part-back (a .settings) (a .part .now) (s .pre .log .place) _ _ (start k) (end k)
+    (change (log-codec (a .settings)) (with-chunk (a .key .0) (a .bytes .now))) (done .append .last .0) (omega arith) (done .append .ensures)
 
 pub append-spec : {M : Type 1} → statement M
 append-spec =

@@ -1,7 +1,7 @@
 -- The log of a brick, in the words of the whole store: where it lies, and a change of it alone.
 use mathlib.Core.Path.{_≡_, refl, sym, ap, subst, _∙_}
 use mathlib.Core.List.{List}
-use Prim.Native.Nat.{ℕ, _+_, _*_, _≤_, _<_}
+use Prim.Native.Nat.{ℕ, _+_, _*_, _/_, _≤_, _<_}
 use native.Mathlib.Omega.{arith}
 use lib.ListN.{length, take, drop, length-drop}
 use lib.Seq.{length-take-le}
@@ -13,21 +13,17 @@ use Rattle.words.proofs.Laws.{words-part}
 use Rattle.rules.specs.declared.settings.Settings.{Settings}
 use Rattle.rules.specs.Chunks.{Chunk}
 use Rattle.rules.specs.State.{State}
+use Rattle.log.specs.Log.{IsLog}
 use Rattle.layout.specs.Disk.{Brick}
-use Rattle.layout.specs.Layout.{log-codec, settings-of, log-words, place-words, store-words, place-at, log-at}
+use Rattle.layout.specs.Layout.{word-bytes, log-codec, settings-of, log-words, place-words, store-words, place-at, log-at}
 use Rattle.layout.specs.Store.{brick-in, decode, render}
 use Rattle.layout.proofs.Sound.{SoundWords}
 use Rattle.layout.proofs.Foci.{log-of}
 use Rattle.layout.proofs.Changes.{OneBrick, part-changed}
 use Rattle.lent.specs.Stores.{StoreOf}
-use Rattle.lent.specs.Places.{PlacePart}
+use Rattle.lent.specs.Places.{PlacePart, log-from, with-chunks}
 use Rattle.lent.specs.Parts.{LogPart}
 use Rattle.lent.proofs.Parts.{log-part}
-use Rattle.named.specs.Tables.{with-chunks}
-
--- the word at which the log of a place begins
-abbrev pub log-from : Settings → ℕ → ℕ
-log-from c p = place-at c p + log-at c
 
 pub log-inside : (c : Settings) (p : ℕ) → p < c .places → log-from c p + log-words c ≤ store-words c
 log-inside c p l = let b = fits-in (place-words c) l in omega arith
@@ -61,6 +57,14 @@ module _ (c : Settings) (bs : List ℕ) (v : StoreOf c bs) (p : ℕ) (l : p < c 
       log-part c bs (take (8 * place-words c) (drop (8 * place-at c p) bs)) v p l place-bytes o (log-bytes c p bs) log-length
       (log-run ∙ sym (ap (run (log-at c) (log-words c)) (place-bytes .same)
       ∙ run-of-run (place-at c p) (place-words c) (log-at c) (log-words c) (words bs) (omega arith) (omega arith)))
+
+  -- as a run of the store's words
+  module _ (o : 0 < decode (words bs) .ids p) where
+    pub log-good : IsLog (c .chunks) (c .size / word-bytes) (run (log-from c p) (log-words c) (words bs)) (8 * log-words c)
+    log-good = rw (log-run, log-length) at (log-lies o .log)
+
+    pub log-read : log-codec c .dec (run (log-from c p) (log-words c) (words bs)) ≡ decode (words bs) .bricks .log (decode (words bs) .ids p)
+    log-read = ap (log-codec c .dec) (sym log-run) ∙ log-lies o .same
 
 -- ---- a change of the log alone
 one-log : (s : State) (id : ℕ) (k : List Chunk) → OneBrick s (with-chunks s id k) id
