@@ -2,14 +2,15 @@
 use mathlib.Core.Path.{_≡_, refl, sym, ap, _∙_}
 use mathlib.Core.List.{List, [], _∷_, _++_}
 use mathlib.Core.Bool.{true, false}
-use mathlib.Core.Logic.{_⊎_, ⊎-elim}
+use mathlib.Core.Logic.{_⊎_, inl, inr, ⊎-elim}
 use Prim.Native.Nat.{ℕ, _+_, _-_, _≤_, _<_}
 use native.Mathlib.Omega.{arith}
-use lib.Dec.{leb}
+use lib.Dec.{leb, ltb}
 use lib.ListN.{length, take, drop}
-use borrow.Author.Tests.{leb-true, le-leb, lt-leb}
+use borrow.Author.Tests.{leb-true, le-leb, lt-leb, ltb-false}
+use Rattle.lists.specs.Tests.{_and_}
 use Rattle.lists.specs.Runs.{run, on-run}
-use Rattle.lists.proofs.Tests.{same-test, by, either}
+use Rattle.lists.proofs.Tests.{same-test, by, by-lt, either, yes-first}
 use Rattle.lists.proofs.Runs.{run-length, on-length, on-same, on-before, on-after, on-id}
 use Rattle.batch.specs.Batch.{block-at, with-block}
 
@@ -49,6 +50,16 @@ module _ (size at : ℕ) (bytes : List ℕ) where
   pub with-same : bytes ≡ with-block size at (block-at size at bytes) bytes
   unfolding with-block block-at
   with-same = by (leb (at + size) (length bytes)) (λ y. rw y (sym (on-id at size _ bytes refl))) (λ n. rw n refl)
+
+-- two areas that agree there
+pub block-same : (size at : ℕ) (bytes other : List ℕ) → length bytes ≡ length other → run at size bytes ≡ run at size other
+    → block-at size at bytes ≡ block-at size at other
+unfolding block-at
+block-same size at bytes other e f = rw (e, f) refl
+
+-- two runs that do not meet
+pub apart : (a size b n : ℕ) → (ltb a (b + n) and ltb b (a + size)) ≡ false → (b + n ≤ a) ⊎ (a + size ≤ b)
+apart a size b n f = by-lt a (b + n) (λ y _. inr (ltb-false b (a + size) (sym (yes-first _ _ y) ∙ f))) (λ _ h. inl h)
 
 -- ---- another block of the same length
 module _ (size at : ℕ) (bytes new : List ℕ) (h : length new ≡ length (block-at size at bytes)) where

@@ -2,22 +2,21 @@
 use mathlib.Core.Path.{_≡_, refl, sym, ap, subst, _∙_}
 use mathlib.Core.List.{List, [], _∷_, _++_, append-assoc, append-nil, map}
 use mathlib.Core.Bool.{Bool, true, false}
-use mathlib.Core.Logic.{_⊎_}
 use Prim.Native.Nat.{ℕ, zero, suc, _+_, _*_, _-_, _≤_, _<_}
 use native.Mathlib.Nat.{add-zero, zero-add}
 use native.Mathlib.Omega.{arith}
-use lib.Dec.{eqb}
+use lib.Dec.{ltb, eqb}
 use lib.ListN.{length, take, getD, set, length-set}
 use lib.Seq.{take-all, take-suc-set, getD-at, getD-append-add, length-take-le}
-use borrow.Author.Tests.{eqb-true}
-use Rattle.lists.specs.Tests.{_and_}
+use borrow.Author.Tests.{eqb-true, eq-eqb, lt-ltb}
+use Rattle.lists.specs.Tests.{_and_, some-below}
 use Rattle.lists.specs.Runs.{run, enc-all, Below}
 use Rattle.lists.proofs.Lists.{same-cons}
-use Rattle.lists.proofs.Tests.{by, and-l, and-r}
+use Rattle.lists.proofs.Tests.{by, clash, and-l, and-r, both, yes-first, some-at}
 use Rattle.words.specs.Words.{words}
 use Rattle.rules.specs.declared.settings.Settings.{Settings}
 use Rattle.rules.specs.Event.{Event}
-use Rattle.rules.specs.Call.{Call, get-kind}
+use Rattle.rules.specs.Call.{get-kind}
 use Rattle.layout.specs.Layout.{settings-of}
 use Rattle.layout.specs.Store.{decode-bytes, sound-bytes}
 use Rattle.lent.specs.Stores.{StoreOf}
@@ -28,8 +27,8 @@ use Rattle.calls.specs.Claim.{told-calls}
 use Rattle.calls.proofs.Performed.{store-sound}
 use Rattle.reads.proofs.Outcomes.{size-is}
 use Rattle.batch.specs.Batch.{block-at, with-block, Batch, Lent, begins, kind-of, call-at, turn, turns, count, is-batch, Ran, ran, batch-outcome}
-use Rattle.batch.specs.Claim.{outcomes, store-after, code-and-key, calls-from, calls-of, blocks-from, OneByOne, BatchTheorem, told-from}
-use Rattle.batch.proofs.Blocks.{block-with, with-apart, with-same}
+use Rattle.batch.specs.Claim.{outcomes, store-after, code-and-key, calls-from, calls-of, blocks-from, fills-into, OneByOne, BatchTheorem, seen, told-from}
+use Rattle.batch.proofs.Blocks.{block-with, block-same, apart, with-length, with-apart, with-same}
 use Rattle.batch.proofs.Turns.{kept-of, turn-keeps}
 use Rattle.batch.proofs.Areas.{area-left, area-length}
 
@@ -37,6 +36,9 @@ same-told : (e : Event) (w : Bool) {code code' key key' : ℕ} {bytes bytes' : L
     → _≡_ {A = Told} (record { event = e; code = code; said = record { key = key; bytes = bytes }; found-whole = w })
     (record { event = e; code = code'; said = record { key = key'; bytes = bytes' }; found-whole = w })
 same-told e w p q s = rw (p, q, s) refl
+
+none-at : (n : ℕ) (test : ℕ → Bool) (k : ℕ) → k < n → some-below n test ≡ false → test k ≡ false
+none-at n test k l f = by (test k) (λ y. clash f (some-at n test k l y)) (λ z. z)
 
 module _ (c : Settings) (batch : Batch) where
   -- ---- k events from event i on
@@ -106,55 +108,76 @@ module _ (c : Settings) (batch : Batch) where
   from-blocks i zero l r = refl
   from-blocks i (suc k) l r = same-cons (shown i k l r) (from-blocks (suc i) k (turn (c .size) batch i l) (next i k l r))
 
-  -- ---- what the answers have at the end of an event
-  module _ (i k : ℕ) (l : Lent) (r : Ready i (suc k) l) (answers : List ℕ) (e : answers ≡ from i (suc k) l .answers) where
+  -- ---- what the answers have in the end for an event
+  module _ (i k : ℕ) (l : Lent) (r : Ready i (suc k) l) (left : Lent) (e : left ≡ from i (suc k) l) where
     front-length : length (take (2 * i) (l .answers)) ≡ 2 * i
     front-length = length-take-le (2 * i) (l .answers) (omega (arith, r .room))
 
     rest : List ℕ
     rest = enc-all code-and-key (outcomes (called i l .store) (calls-from (c .size) batch (suc i) k (turn (c .size) batch i l)))
 
-    split : answers ≡ take (2 * i) (l .answers) ++ (called i l .code ∷ (called i l .key ∷ rest))
+    split : left .answers ≡ take (2 * i) (l .answers) ++ (called i l .code ∷ (called i l .key ∷ rest))
     unfolding rest outcomes calls-from enc-all
-    split = e ∙ from-answers i (suc k) l r
+    split = ap (λ (m : Lent). m .answers) e ∙ from-answers i (suc k) l r
 
-    code-at : getD answers (2 * i) 0 ≡ called i l .code
+    code-at : getD (left .answers) (2 * i) 0 ≡ called i l .code
     code-at = ap (λ (x : List ℕ). getD x (2 * i) 0) split ∙ getD-at (take (2 * i) (l .answers)) (called i l .code) (called i l .key ∷ rest) 0 (2 * i) front-length
 
-    key-at : getD answers (2 * i + 1) 0 ≡ called i l .key
+    key-at : getD (left .answers) (2 * i + 1) 0 ≡ called i l .key
     key-at =
         ap (λ (x : List ℕ). getD x (2 * i + 1) 0) split
         ∙ ap (λ (n : ℕ). getD (take (2 * i) (l .answers) ++ (called i l .code ∷ (called i l .key ∷ rest))) (n + 1) 0) (sym front-length)
         ∙ getD-append-add (take (2 * i) (l .answers)) (called i l .code ∷ (called i l .key ∷ rest)) 1 0
 
-  -- ---- what was told
-  from-told : (i k : ℕ) (l : Lent) → Ready i k l → (answers : List ℕ) → answers ≡ from i k l .answers
-      → told-from (c .size) batch answers i k l ≡ told-calls (c .size) (l .store) (calls-from (c .size) batch i k l)
-  unfolding from told-from told-calls calls-from
-  from-told i zero l r answers e = refl
-  from-told i (suc k) l r answers e =
-      same-cons (same-told _ _ (code-at i k l r answers e) (key-at i k l r answers e) (shown i k l r))
-      (from-told (suc i) k (turn (c .size) batch i l) (next i k l r) answers e ∙ unfold turn in refl)
+    -- an event that fills none of the n bytes from b on
+    turn-kept : (b n : ℕ) → fills-into (c .size) batch left b n i ≡ false → run b n (turn (c .size) batch i l .area) ≡ run b n (l .area)
+    unfolding turn
+    turn-kept b n f =
+        let call = call-at (c .size) batch i (l .area) in
+        by (eqb (kind-of batch i) get-kind and eqb (called i l .code) 0)
+        (λ y. let got = both _ _ (and-l _ _ y) (eq-eqb _ _ (code-at ∙ eqb-true _ _ (and-r _ _ y))) in
+        with-apart (c .size) (begins batch i) (l .area) (called i l .area) (area-length c (l .store) (r .held) call) b n
+        (apart (begins batch i) (c .size) b n (sym (yes-first _ _ got) ∙ f)))
+        (λ m. ap (λ (x : List ℕ). run b n (with-block (c .size) (begins batch i) x (l .area))) (area-left c (l .store) (r .held) call m)
+        ∙ ap (run b n) (sym (with-same (c .size) (begins batch i) (l .area))))
 
-  -- ---- bytes that no accepted get fills
-  from-kept : (b n i k : ℕ) (l : Lent) → Ready i k l → (answers : List ℕ) → answers ≡ from i k l .answers
-      → ((j : ℕ) → i ≤ j → j < i + k → kind-of batch j ≡ get-kind → getD answers (2 * j) 0 ≡ 0 → (b + n ≤ begins batch j) ⊎ (begins batch j + c .size ≤ b))
-      → run b n (from i k l .area) ≡ run b n (l .area)
+  -- ---- the area: its length, and bytes that no accepted get fills
+  from-length : (i k : ℕ) (l : Lent) → Ready i k l → length (from i k l .area) ≡ length (l .area)
+  unfolding from turn
+  from-length i zero l r = refl
+  from-length i (suc k) l r =
+      from-length (suc i) k (turn (c .size) batch i l) (next i k l r)
+      ∙ with-length (c .size) (begins batch i) (l .area) (called i l .area) (area-length c (l .store) (r .held) (call-at (c .size) batch i (l .area)))
+
+  from-kept : (b n i k : ℕ) (l : Lent) → Ready i k l → (left : Lent) → left ≡ from i k l
+      → ((j : ℕ) → i ≤ j → j < i + k → fills-into (c .size) batch left b n j ≡ false) → run b n (from i k l .area) ≡ run b n (l .area)
   unfolding from
-  from-kept b n i zero l r answers e f = refl
-  from-kept b n i (suc k) l r answers e f =
-      from-kept b n (suc i) k (turn (c .size) batch i l) (next i k l r) answers e (λ j h g. f j (omega arith) (omega arith)) ∙ one
-    where
-      call : Call
-      call = call-at (c .size) batch i (l .area)
+  from-kept b n i zero l r left e f = refl
+  from-kept b n i (suc k) l r left e f =
+      from-kept b n (suc i) k (turn (c .size) batch i l) (next i k l r) left e (λ j h g. f j (omega arith) (omega arith))
+      ∙ turn-kept i k l r left e b n (f i (omega arith) (omega arith))
 
-      one : run b n (turn (c .size) batch i l .area) ≡ run b n (l .area)
-      one =
-          by (eqb (kind-of batch i) get-kind and eqb (called i l .code) 0)
-          (λ y. unfold turn in with-apart (c .size) (begins batch i) (l .area) (called i l .area) (area-length c (l .store) (r .held) (call-at (c .size) batch i (l .area))) b n
-          (f i (omega arith) (omega arith) (eqb-true _ _ (and-l _ _ y)) (code-at i k l r answers e ∙ eqb-true _ _ (and-r _ _ y))))
-          (λ m. unfold turn in ap (λ (x : List ℕ). run b n (with-block (c .size) (begins batch i) x (l .area))) (area-left c (l .store) (r .held) (call-at (c .size) batch i (l .area)) m)
-          ∙ ap (run b n) (sym (with-same (c .size) (begins batch i) (l .area))))
+  -- ---- what was told
+  seen-is : (i k : ℕ) (l : Lent) → Ready i (suc k) l → (left : Lent) → left ≡ from i (suc k) l → i + suc k ≡ count batch
+      → seen (c .size) batch left i (turn (c .size) batch i l) ≡ called i l .area
+  unfolding from
+  seen-is i k l r left e h =
+      let at = begins batch i in
+      let next-l = turn (c .size) batch i l in
+      by (some-below (count batch) (λ j. ltb i j and fills-into (c .size) batch left at (c .size) j)) (λ y. rw y (shown i k l r))
+      (λ n. rw n
+      (block-same (c .size) at (left .area) (next-l .area) (ap (λ (m : Lent). length (m .area)) e ∙ from-length (suc i) k next-l (next i k l r))
+      (ap (λ (m : Lent). run at (c .size) (m .area)) e ∙ from-kept at (c .size) (suc i) k next-l (next i k l r) left e
+      (λ j p q. sym (yes-first _ _ (lt-ltb i j p)) ∙ none-at (count batch) _ j (omega arith) n))
+      ∙ shown i k l r))
+
+  from-told : (i k : ℕ) (l : Lent) → Ready i k l → (left : Lent) → left ≡ from i k l → i + k ≡ count batch
+      → told-from (c .size) batch left i k l ≡ told-calls (c .size) (l .store) (calls-from (c .size) batch i k l)
+  unfolding from told-from told-calls calls-from
+  from-told i zero l r left e h = refl
+  from-told i (suc k) l r left e h =
+      same-cons (same-told _ _ (code-at i k l r left e) (key-at i k l r left e) (seen-is i k l r left e h))
+      (from-told (suc i) k (turn (c .size) batch i l) (next i k l r) left e (omega arith) ∙ unfold turn in refl)
 
   -- ---- from the first event on
   ready-turns : (n i : ℕ) (l : Lent) → Ready 0 n l → i ≤ n → Ready i (n - i) (turns (c .size) batch i l)
@@ -188,12 +211,12 @@ module _ (c : Settings) (batch : Batch) where
           let q : from i (count batch - i) (turns (c .size) batch i l) ≡ turns (c .size) batch (count batch) l =
           from-turns i (count batch - i) l ∙ ap (λ (m : ℕ). turns (c .size) batch m l) e in
           ap (λ (m : Lent). run b n (m .area)) (sym q)
-          ∙ from-kept b n i (count batch - i) (turns (c .size) batch i l) (ready-turns (count batch) i l ready h) (turns (c .size) batch (count batch) l .answers)
-          (ap (λ (m : Lent). m .answers) (sym q)) (λ j g p. f j g (omega arith));
+          ∙ from-kept b n i (count batch - i) (turns (c .size) batch i l) (ready-turns (count batch) i l ready h) (turns (c .size) batch (count batch) l)
+          (sym q) (λ j g p. f j g (omega arith));
     }
 
-    pub all-told : told-from (c .size) batch (turns (c .size) batch (count batch) l .answers) 0 (count batch) l ≡ told-calls (c .size) (l .store) (calls-of (c .size) batch l)
-    all-told = from-told 0 (count batch) l ready _ (ap (λ (m : Lent). m .answers) all-from)
+    pub all-told : told-from (c .size) batch (turns (c .size) batch (count batch) l) 0 (count batch) l ≡ told-calls (c .size) (l .store) (calls-of (c .size) batch l)
+    all-told = from-told 0 (count batch) l ready _ all-from (zero-add (count batch))
 
 -- ---- the outcome of a batch on a sound store
 module _ (batch : Batch) (l : Lent) where

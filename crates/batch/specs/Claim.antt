@@ -1,11 +1,11 @@
 -- What a batch leaves is what its calls leave one by one; and demand 3 of lists of requests, each a call or a batch.
 use mathlib.Core.Path.{_≡_}
 use mathlib.Core.List.{List, [], _∷_, _++_, map}
-use mathlib.Core.Bool.{true, false, cond}
-use mathlib.Core.Logic.{_⊎_}
+use mathlib.Core.Bool.{Bool, true, false, cond}
 use Prim.Native.Nat.{ℕ, zero, suc, _+_, _*_, _≤_, _<_}
-use lib.Dec.{eqb}
+use lib.Dec.{ltb, eqb}
 use lib.ListN.{getD}
+use Rattle.lists.specs.Tests.{_and_, some-below}
 use Rattle.lists.specs.Runs.{run, enc-all, Below}
 use Rattle.rules.specs.declared.settings.Settings.{Settings}
 use Rattle.rules.specs.Event.{Event}
@@ -45,11 +45,10 @@ unfoldable pub blocks-from : ℕ → Batch → ℕ → ℕ → Lent → List (Li
 blocks-from size batch i zero l = []
 blocks-from size batch i (suc k) l = block-at size (begins batch i) (turn size batch i l .area) ∷ blocks-from size batch (suc i) k (turn size batch i l)
 
--- from event i on, every accepted get has its block before or after the n bytes from b on
-abbrev pub Elsewhere : ℕ → Batch → Lent → ℕ → ℕ → ℕ → Type 0
-Elsewhere size batch left i b n =
-    (j : ℕ) → i ≤ j → j < count batch → kind-of batch j ≡ get-kind → getD (left .answers) (answer-words * j) 0 ≡ 0
-    → (b + n ≤ begins batch j) ⊎ (begins batch j + size ≤ b)
+-- is event j an accepted get whose block has one of the n bytes from b on?
+abbrev pub fills-into : ℕ → Batch → Lent → ℕ → ℕ → ℕ → Bool
+fills-into size batch left b n j =
+    (eqb (kind-of batch j) get-kind and eqb (getD (left .answers) (answer-words * j) 0) 0) and (ltb (begins batch j) (b + n) and ltb b (begins batch j + size))
 
 -- ---- what a batch leaves, by its calls one after the other
 pub record OneByOne (size : ℕ) (batch : Batch) (l left : Lent) : Type 0 where
@@ -60,25 +59,31 @@ pub record OneByOne (size : ℕ) (batch : Batch) (l left : Lent) : Type 0 where
   -- each block of the area
   pub blocks : blocks-from size batch 0 (count batch) l ≡ map (λ (o : Outcome). o .area) (outcomes (l .store) (calls-of size batch l))
   -- bytes of the area that no accepted get fills from event i on are as the events before left them
-  pub kept : (i b n : ℕ) → i ≤ count batch → Elsewhere size batch left i b n → run b n (left .area) ≡ run b n (turns size batch i l .area)
+  pub kept : (i b n : ℕ) → i ≤ count batch → ((j : ℕ) → i ≤ j → j < count batch → fills-into size batch left b n j ≡ false)
+      → run b n (left .area) ≡ run b n (turns size batch i l .area)
 
 abbrev pub BatchTheorem : Type 0
 BatchTheorem = (batch : Batch) (l : Lent) → Below 256 (l .store) → batch-outcome batch l .code ≡ 0
     → OneByOne (decode-bytes (l .store) .settings .size) batch l (batch-outcome batch l .left)
 
 -- ---- demand 3 of requests
--- what the events of a batch were told, k of them from event i on: the code and the key as the answers have them at the end, and the bytes that the event's
--- block of the area then holds
-unfoldable pub told-from : ℕ → Batch → List ℕ → ℕ → ℕ → Lent → List Told
-told-from size batch answers i zero l = []
-told-from size batch answers i (suc k) l =
+-- the bytes that the block of event i has at the end; where a later get has filled over them, those that it had after the event
+abbrev pub seen : ℕ → Batch → Lent → ℕ → Lent → List ℕ
+seen size batch left i after =
+    block-at size (begins batch i)
+    (cond (some-below (count batch) (λ j. ltb i j and fills-into size batch left (begins batch i) size j)) (after .area) (left .area))
+
+-- what the events of a batch were told, k of them from event i on: code and key as the answers have them at the end, and the bytes that were seen
+unfoldable pub told-from : ℕ → Batch → Lent → ℕ → ℕ → Lent → List Told
+told-from size batch left i zero l = []
+told-from size batch left i (suc k) l =
     record {
       event = event-called size (call-at size batch i (l .area));
-      code = getD answers (answer-words * i) 0;
-      said = record { key = getD answers (answer-words * i + 1) 0; bytes = block-at size (begins batch i) (turn size batch i l .area) };
+      code = getD (left .answers) (answer-words * i) 0;
+      said = record { key = getD (left .answers) (answer-words * i + 1) 0; bytes = seen size batch left i (turn size batch i l) };
       found-whole = whole (decode-bytes (l .store));
     }
-    ∷ told-from size batch answers (suc i) k (turn size batch i l)
+    ∷ told-from size batch left (suc i) k (turn size batch i l)
 
 -- that the store is not sound
 abbrev pub told-unsound : Told
@@ -86,7 +91,7 @@ told-unsound = record { event = Event.unknown; code = 2; said = only-key 0; foun
 
 -- what a batch was told by what it left: one for each event; a batch that is refused with 3 was told nothing of any block
 unfoldable pub told-batch : ℕ → Batch → Lent → Ran → List Told
-told-batch size batch l r = cond (eqb (r .code) 0) (told-from size batch (r .left .answers) 0 (count batch) l) (cond (eqb (r .code) 2) (told-unsound ∷ []) [])
+told-batch size batch l r = cond (eqb (r .code) 0) (told-from size batch (r .left) 0 (count batch) l) (cond (eqb (r .code) 2) (told-unsound ∷ []) [])
 
 pub data Request : Type 0 where
   single : Call → Request
