@@ -89,5 +89,6 @@ module _ (size at : ℕ) (bytes new : List ℕ) (h : length new ≡ length (bloc
   unfolding with-block
   with-apart b n d =
       either (λ (l : List ℕ). run b n l ≡ run b n bytes) (leb (at + size) (length bytes))
-      (λ y. ⊎-elim (λ g. on-before at size (λ _. new) b n bytes (leb-true _ _ y) g) (λ g. on-after at size (λ _. new) b n bytes (leb-true _ _ y) (new-size y) g) d)
+      (λ y. ⊎-elim (λ g. on-before at size (λ _. new) b n bytes (leb-true _ _ y) g) (λ g. on-after at size (λ _. new) b n bytes (leb-true _ _ y) (new-size y) g)
+      d)
       (λ _. refl)

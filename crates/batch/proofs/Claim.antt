@@ -13,17 +13,17 @@ use Rattle.layout.specs.Store.{decode-bytes, sound-bytes}
 use Rattle.lent.specs.Stores.{StoreOf}
 use Rattle.lent.proofs.Stores as stores
 use Rattle.history.specs.Claim.{Told, no-history, Ageing, StruckWhole, NoWant}
-use Rattle.calls.specs.Outcome.{Outcome, outcome}
+use Rattle.calls.specs.Outcome.{outcome}
 use Rattle.calls.specs.Claim.{told-calls, NeverTwo}
-use Rattle.calls.proofs.Calls.{call-keeps}
+use Rattle.calls.proofs.Calls.{call-keeps, kept-of}
 use Rattle.calls.proofs.Claim.{formatted, calls-claim}
-use Rattle.calls.proofs.Held.{Holds, held-settings}
+use Rattle.calls.proofs.Held.{held-settings}
 use Rattle.calls.proofs.Performed.{sound-store, store-sound}
 use Rattle.reads.proofs.Outcomes.{size-is}
 use Rattle.batch.specs.Batch.{Batch, Lent, lent, turns, count, is-batch, Ran, ran, batch-outcome}
 use Rattle.batch.specs.Claim.{store-after, calls-of, told-batch, Request, told-requests, BatchesClaim}
-use Rattle.batch.proofs.Turns.{kept-of}
-use Rattle.batch.proofs.Theorem.{held-after, bytes-after, one-by-one, all-told, ran-all, ran-none}
+use Rattle.batch.proofs.Turns.{ran-none, ran-all}
+use Rattle.batch.proofs.Theorem.{held-after, bytes-after, one-by-one, all-told}
 
 -- ---- the calls that a list of requests makes
 calls-made : ℕ → List ℕ → List Request → List Call

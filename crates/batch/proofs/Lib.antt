@@ -1,5 +1,4 @@
 pub mod Blocks
 pub mod Turns
-pub mod Areas
 pub mod Theorem
 pub mod Claim

@@ -26,11 +26,12 @@ use Rattle.calls.specs.Outcome.{Outcome, outcome}
 use Rattle.calls.specs.Claim.{told-calls}
 use Rattle.calls.proofs.Performed.{store-sound}
 use Rattle.reads.proofs.Outcomes.{size-is}
-use Rattle.batch.specs.Batch.{block-at, with-block, Batch, Lent, begins, kind-of, call-at, turn, turns, count, is-batch, Ran, ran, batch-outcome}
+use Rattle.calls.proofs.Calls.{kept-of}
+use Rattle.batch.specs.Batch.{block-at, with-block, Batch, Lent, begins, kind-of, call-at, turn, turns, count, is-batch, Ran, batch-outcome}
 use Rattle.batch.specs.Claim.{outcomes, store-after, code-and-key, calls-from, calls-of, blocks-from, fills-into, OneByOne, BatchTheorem, seen, told-from}
 use Rattle.batch.proofs.Blocks.{block-with, block-same, apart, with-length, with-apart, with-same}
-use Rattle.batch.proofs.Turns.{kept-of, turn-keeps}
-use Rattle.batch.proofs.Areas.{area-left, area-length}
+use Rattle.batch.proofs.Turns.{turn-keeps, ran-unsound, ran-none, ran-all}
+use Rattle.step.proofs.Areas.{area-left, area-length}
 
 same-told : (e : Event) (w : Bool) {code code' key key' : ℕ} {bytes bytes' : List ℕ} → code ≡ code' → key ≡ key' → bytes ≡ bytes'
     → _≡_ {A = Told} (record { event = e; code = code; said = record { key = key; bytes = bytes }; found-whole = w })
@@ -121,7 +122,9 @@ module _ (c : Settings) (batch : Batch) where
     split = ap (λ (m : Lent). m .answers) e ∙ from-answers i (suc k) l r
 
     code-at : getD (left .answers) (2 * i) 0 ≡ called i l .code
-    code-at = ap (λ (x : List ℕ). getD x (2 * i) 0) split ∙ getD-at (take (2 * i) (l .answers)) (called i l .code) (called i l .key ∷ rest) 0 (2 * i) front-length
+    code-at =
+        ap (λ (x : List ℕ). getD x (2 * i) 0) split
+        ∙ getD-at (take (2 * i) (l .answers)) (called i l .code) (called i l .key ∷ rest) 0 (2 * i) front-length
 
     key-at : getD (left .answers) (2 * i + 1) 0 ≡ called i l .key
     key-at =
@@ -215,34 +218,24 @@ module _ (c : Settings) (batch : Batch) where
           (sym q) (λ j g p. f j g (omega arith));
     }
 
-    pub all-told : told-from (c .size) batch (turns (c .size) batch (count batch) l) 0 (count batch) l ≡ told-calls (c .size) (l .store) (calls-of (c .size) batch l)
+    pub all-told : told-from (c .size) batch (turns (c .size) batch (count batch) l) 0 (count batch) l ≡ told-calls (c .size) (l .store)
+        (calls-of (c .size) batch l)
     all-told = from-told 0 (count batch) l ready _ all-from (zero-add (count batch))
 
 -- ---- the outcome of a batch on a sound store
 module _ (batch : Batch) (l : Lent) where
-  pub ran-all : sound-bytes (l .store) ≡ true → is-batch batch l ≡ true
-      → batch-outcome batch l ≡ ran 0 (turns (decode-bytes (l .store) .settings .size) batch (count batch) l)
-  unfolding batch-outcome
-  ran-all y b = rw (y, b) refl
-
-  pub ran-none : sound-bytes (l .store) ≡ true → is-batch batch l ≡ false → batch-outcome batch l ≡ ran 3 l
-  unfolding batch-outcome
-  ran-none y n = rw (y, n) refl
-
-  ran-unsound : sound-bytes (l .store) ≡ false → batch-outcome batch l ≡ ran 2 l
-  unfolding batch-outcome
-  ran-unsound n = rw n refl
-
   -- code 0 says that both questions were answered yes
   zero-sound : batch-outcome batch l .code ≡ 0 → sound-bytes (l .store) ≡ true
-  zero-sound z = by (sound-bytes (l .store)) (λ y. y) (λ n. let e : 2 ≡ batch-outcome batch l .code = ap (λ (r : Ran). r .code) (sym (ran-unsound n)) in absurd (omega (arith, e, z)))
+  zero-sound z =
+      by (sound-bytes (l .store)) (λ y. y)
+      (λ n. let e : 2 ≡ batch-outcome batch l .code = ap (λ (r : Ran). r .code) (sym (ran-unsound batch l n)) in absurd (omega (arith, e, z)))
 
   zero-batch : batch-outcome batch l .code ≡ 0 → is-batch batch l ≡ true
   zero-batch z =
       by (is-batch batch l) (λ y. y)
-      (λ n. let e : 3 ≡ batch-outcome batch l .code = ap (λ (r : Ran). r .code) (sym (ran-none (zero-sound z) n)) in absurd (omega (arith, e, z)))
+      (λ n. let e : 3 ≡ batch-outcome batch l .code = ap (λ (r : Ran). r .code) (sym (ran-none batch l (zero-sound z) n)) in absurd (omega (arith, e, z)))
 
-  pub batch-store : sound-bytes (l .store) ≡ true → StoreOf (settings-of (words (l .store))) (l .store)
+  batch-store : sound-bytes (l .store) ≡ true → StoreOf (settings-of (words (l .store))) (l .store)
   batch-store y = stores.store-of (l .store) (store-sound (l .store) y) (settings-of (words (l .store))) refl
 
 pub batch-theorem : BatchTheorem
@@ -252,5 +245,6 @@ batch-theorem batch l b z =
     let c : Settings = settings-of (words (l .store)) in
     let v = batch-store batch l y in
     let q : c .size ≡ decode-bytes (l .store) .settings .size = size-is c (l .store) v in
-    subst (λ (left : Lent). OneByOne (decode-bytes (l .store) .settings .size) batch l left) (ap (λ (r : Ran). r .left) (sym (ran-all batch l y (zero-batch batch l z))))
+    subst (λ (left : Lent). OneByOne (decode-bytes (l .store) .settings .size) batch l left)
+    (ap (λ (r : Ran). r .left) (sym (ran-all batch l y (zero-batch batch l z))))
     (subst (λ (size : ℕ). OneByOne size batch l (turns size batch (count batch) l)) q (one-by-one c batch l v b (zero-batch batch l z)))

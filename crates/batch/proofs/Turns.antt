@@ -2,87 +2,52 @@
 use mathlib.Core.Path.{_≡_, refl, sym, ap, subst, _∙_}
 use mathlib.Core.List.{List, [], _++_}
 use mathlib.Core.Bool.{true, false}
-use Prim.Native.Nat.{ℕ, _+_, _*_, _/_, _≤_, _<_}
+use Prim.Native.Nat.{ℕ, _+_, _*_, _/_, _≤_}
 use native.Mathlib.Numerals.{add-one}
 use native.Mathlib.Omega.{arith}
-use lib.Dec.{leb, eqb}
+use lib.Dec.{leb}
 use lib.ListN.{length, set}
 use borrow.Author.Tests.{eq-eqb, ne-eqb}
 use Rattle.lists.specs.Runs.{Below}
-use Rattle.lists.specs.Tests.{_and_}
-use Rattle.lists.proofs.Tests.{by, both, no-first, no-second}
+use Rattle.lists.proofs.Tests.{both, no-first, no-second}
 use Rattle.words.specs.Words.{words}
 use Rattle.rules.specs.declared.settings.Settings.{Settings}
 use Rattle.rules.specs.Event.{Event}
 use Rattle.rules.specs.Call.{Call, get-kind, is-zero-block}
 use Rattle.rules.specs.Reads.{zeros}
-use Rattle.rules.proofs.Call.{other-called}
 use Rattle.layout.specs.Store.{decode, decode-bytes, sound-bytes}
 use Rattle.lent.specs.declared.Answer.{Answer}
 use Rattle.lent.specs.declared.Answer.the-variants.{Yes, No}
 use Rattle.lent.specs.Stores.{StoreOf}
 use Rattle.lent.proofs.Stores as stores
-use Rattle.layout.proofs.Bytes.{bytes-sound}
-use Rattle.calls.specs.Outcome.{Outcome, call-with, filled, outcome, outcome-of}
+use Rattle.calls.specs.Outcome.{Outcome, call-with, outcome, outcome-of}
 use Rattle.calls.proofs.Calls.{Kept, call-keeps}
-use Rattle.calls.proofs.Performed.{sound-store}
 use Rattle.reads.specs.Get.{Fills}
 use Rattle.reads.proofs.Outcomes.{size-is, not-lent, lent as lent-both}
 use Rattle.reads.proofs.Zeros.{zeros-test}
+use Rattle.step.proofs.Areas.{over, other-areas}
 use Rattle.step.proofs.Outcomes.{get-steps}
 use Rattle.batch.specs.Batch.{block-at, with-block, Batch, Lent, lent, call-at, begins, turn, turns, count, is-batch, ran, batch-outcome, StepsAt}
 use Rattle.batch.proofs.Blocks.{block-none, block-size, with-same, nothing}
 
--- ---- an answer with another area
-abbrev over : Outcome → List ℕ → Outcome
-over o area = record { code = o .code; key = o .key; area = area; store = o .store }
-
-over-of : (r : Answer) (area new store : List ℕ) → outcome-of r new store ≡ over (outcome-of r area store) new
+-- ---- an answer has its code and key whatever stands beside it
+told-of : (r : Answer) (area store : List ℕ)
+    → outcome-of r area store ≡ record { code = outcome-of r [] [] .code; key = outcome-of r [] [] .key; area = area; store = store }
 unfolding outcome-of
-over-of (Yes k) area new store = refl
-over-of (No n) area new store = refl
-
-area-of : (r : Answer) (area store : List ℕ) → outcome-of r area store .area ≡ area
-unfolding outcome-of
-area-of (Yes k) area store = refl
-area-of (No n) area store = refl
-
-code-of : (r : Answer) (area store : List ℕ) → outcome-of r [] [] .code ≡ outcome-of r area store .code
-unfolding outcome-of
-code-of (Yes k) area store = refl
-code-of (No n) area store = refl
-
-key-of : (r : Answer) (area store : List ℕ) → outcome-of r [] [] .key ≡ outcome-of r area store .key
-unfolding outcome-of
-key-of (Yes k) area store = refl
-key-of (No n) area store = refl
-
-store-of : (r : Answer) (area store : List ℕ) → outcome-of r area store .store ≡ store
-unfolding outcome-of
-store-of (Yes k) area store = refl
-store-of (No n) area store = refl
+told-of (Yes k) area store = refl
+told-of (No n) area store = refl
 
 -- the outcome of a call, told with the area that it leaves
 pub steps-at : (size at : ℕ) (call : Call) (store area : List ℕ) (r : Answer) (after part area-after : List ℕ) → outcome-of r part after ≡ outcome store call
     → area-after ≡ with-block size at part area → StepsAt size at call store area r after area-after
 steps-at size at call store area r after part area-after e f =
-    let q : part ≡ outcome store call .area = sym (area-of r part after) ∙ ap (λ (o : Outcome). o .area) e in
+    let q : part ≡ outcome store call .area = ap (λ (o : Outcome). o .area) (sym (told-of r part after) ∙ e) in
     record {
       same = subst (λ (p : List ℕ). outcome-of r p after ≡ outcome store call) q e;
       fills = f ∙ ap (λ (p : List ℕ). with-block size at p area) q;
     }
 
--- ---- a kind other than get looks at no area
-other-areas : (bs : List ℕ) (kind a b c : ℕ) (bytes zero-block area zero-block' area' : List ℕ) → (kind ≡ get-kind → ⊥)
-    → outcome bs (call-with kind a b c bytes zero-block area) ≡ over (outcome bs (call-with kind a b c bytes zero-block' area')) area
-unfolding outcome filled _and_
-other-areas bs kind a b c bytes zero-block area zero-block' area' u =
-    let size = decode-bytes bs .settings .size in
-    let n = ne-eqb kind get-kind u in
-    by (sound-bytes bs)
-    (λ y. rw (y, other-called size (call-with kind a b c bytes zero-block area) u, other-called size (call-with kind a b c bytes zero-block' area') u, n) refl)
-    (λ f. rw f refl)
-
+-- ---- one event: any kind but get, and get
 module _ (c : Settings) (bs : List ℕ) (v : StoreOf c bs) (kind a b d at : ℕ) (bytes area : List ℕ) where
   abbrev call : Call
   call = call-with kind a b d bytes (zeros (c .size)) (block-at (c .size) at area)
@@ -92,10 +57,11 @@ module _ (c : Settings) (bs : List ℕ) (v : StoreOf c bs) (kind a b d at : ℕ)
       → StepsAt (c .size) at call bs area r after (part ++ area)
   other-at u r after part got z q e =
       steps-at (c .size) at call bs area r after (block-at (c .size) at area) (part ++ area)
-      (over-of r part _ after ∙ ap (λ (o : Outcome). over o (block-at (c .size) at area)) (e ∙ ap (λ (x : List ℕ). outcome bs (call-with kind a b d x [] [])) q) ∙ sym (other-areas bs kind a b d bytes (zeros (c .size)) _ [] [] u))
+      (told-of r _ after ∙ ap (λ (o : Outcome). over o (block-at (c .size) at area)) (sym (told-of r part after))
+      ∙ ap (λ (o : Outcome). over o (block-at (c .size) at area)) (e ∙ ap (λ (x : List ℕ). outcome bs (call-with kind a b d x [] [])) q)
+      ∙ sym (other-areas bs kind a b d bytes (zeros (c .size)) _ [] [] u))
       (ap (λ (p : List ℕ). p ++ area) (nothing part z) ∙ with-same (c .size) at area)
 
-  -- ---- get
   module _ (b256 : Below 256 bs) (g : kind ≡ get-kind) where
     pub get-nowhere : leb (at + c .size) (length area) ≡ false → StepsAt (c .size) at call bs area (No 3) bs area
     unfolding decode-bytes
@@ -129,9 +95,9 @@ pub turned : (size : ℕ) (batch : Batch) (i : ℕ) (l : Lent) (r : Answer) (aft
 unfolding turn
 turned size batch i l r after area p answers e =
     let o = outcome (l .store) (call-at size batch i (l .area)) in
-    let c : outcome-of r [] [] .code ≡ o .code = code-of r (o .area) after ∙ ap (λ (x : Outcome). x .code) (p .same) in
-    let k : outcome-of r [] [] .key ≡ o .key = key-of r (o .area) after ∙ ap (λ (x : Outcome). x .key) (p .same) in
-    let s : after ≡ o .store = sym (store-of r (o .area) after) ∙ ap (λ (x : Outcome). x .store) (p .same) in
+    let c : outcome-of r [] [] .code ≡ o .code = ap (λ (x : Outcome). x .code) (sym (told-of r (o .area) after) ∙ p .same) in
+    let k : outcome-of r [] [] .key ≡ o .key = ap (λ (x : Outcome). x .key) (sym (told-of r (o .area) after) ∙ p .same) in
+    let s : after ≡ o .store = ap (λ (x : Outcome). x .store) (sym (told-of r (o .area) after) ∙ p .same) in
     rw (e, c, k, s, p .fills) refl
 
 pub turns-more : (size : ℕ) (batch : Batch) (i : ℕ) (l m k : Lent) → k ≡ turn size batch i m → m ≡ turns size batch i l → k ≡ turns size batch (i + 1) l
@@ -139,14 +105,6 @@ unfolding turns
 turns-more size batch i l m k e h = rw add-one (e ∙ ap (turn size batch i) h)
 
 -- ---- a turn keeps the store sound, and its settings
-pub kept-of : {c : Settings} {bs after : List ℕ} → StoreOf c bs → Kept bs after → StoreOf c after
-kept-of {c} {bs} {after} v k = record {
-  limits = v .limits;
-  size = k .size ∙ v .size;
-  same = v .same ∙ sym (k .settings);
-  sound = bytes-sound after (k .check ∙ sound-store bs (stores.sound-store c bs v));
-}
-
 pub turn-keeps : (size : ℕ) (batch : Batch) (i : ℕ) (l k : Lent) → k ≡ turn size batch i l → Below 256 (l .store) → Kept (l .store) (k .store)
 unfolding turn
 turn-keeps size batch i l k e b = subst (λ (m : Lent). Kept (l .store) (m .store)) (sym e) (call-keeps (l .store) b (call-at size batch i (l .area)))
@@ -161,22 +119,33 @@ pub record Running (c : Settings) (n : ℕ) (batch : Batch) (start now : Lent) (
   pub held : StoreOf c (now .store)
   pub state : now ≡ turns (c .size) batch i start
 
--- ---- the call
+-- ---- the call: not sound, no batch, or each event in turn
 module _ (batch : Batch) (l : Lent) where
-  pub unsound-runs : sound-bytes (l .store) ≡ false → ran 2 l ≡ batch-outcome batch l
+  pub ran-unsound : sound-bytes (l .store) ≡ false → batch-outcome batch l ≡ ran 2 l
   unfolding batch-outcome
-  unsound-runs n = rw n refl
+  ran-unsound n = rw n refl
 
   module _ (y : sound-bytes (l .store) ≡ true) where
+    pub ran-none : is-batch batch l ≡ false → batch-outcome batch l ≡ ran 3 l
+    unfolding batch-outcome
+    ran-none n = rw (y, n) refl
+
+    pub ran-all : is-batch batch l ≡ true → batch-outcome batch l ≡ ran 0 (turns (decode-bytes (l .store) .settings .size) batch (count batch) l)
+    unfolding batch-outcome
+    ran-all b = rw (y, b) refl
+
+    -- as the code finds it
     pub odd-runs : (length (batch .events) ≡ 5 * (length (batch .events) / 5) → ⊥) → ran 3 l ≡ batch-outcome batch l
-    unfolding batch-outcome is-batch count
-    odd-runs u = rw (y, no-first _ _ (ne-eqb _ _ u)) refl
+    unfolding is-batch count
+    odd-runs u = sym (ran-none (no-first _ _ (ne-eqb _ _ u)))
 
     pub short-runs : (length (l .answers) ≡ 2 * (length (batch .events) / 5) → ⊥) → ran 3 l ≡ batch-outcome batch l
-    unfolding batch-outcome is-batch count
-    short-runs u = rw (y, no-second _ _ (ne-eqb _ _ u)) refl
+    unfolding is-batch count
+    short-runs u = sym (ran-none (no-second _ _ (ne-eqb _ _ u)))
 
     pub all-runs : (size : ℕ) → size ≡ decode-bytes (l .store) .settings .size → length (batch .events) ≡ 5 * (length (batch .events) / 5)
-        → length (l .answers) ≡ 2 * (length (batch .events) / 5) → (k : Lent) → k ≡ turns size batch (length (batch .events) / 5) l → ran 0 k ≡ batch-outcome batch l
-    unfolding batch-outcome is-batch count
-    all-runs size q e f k h = rw (y, both _ _ (eq-eqb _ _ e) (eq-eqb _ _ f), ← q) (ap (ran 0) h)
+        → length (l .answers) ≡ 2 * (length (batch .events) / 5) → (k : Lent) → k ≡ turns size batch (length (batch .events) / 5) l
+        → ran 0 k ≡ batch-outcome batch l
+    unfolding is-batch count
+    all-runs size q e f k h =
+        ap (ran 0) (h ∙ ap (λ (n : ℕ). turns n batch (length (batch .events) / 5) l) q) ∙ sym (ran-all (both _ _ (eq-eqb _ _ e) (eq-eqb _ _ f)))

@@ -108,7 +108,8 @@ fn run_one(
 )
     requires { ⌜ Fits settings (i + 1) (now events) (now answers) (now store) ⌝ }
     ensures { λ _. ⌜ lent (now (store .exit)) (now (area .exit)) (now (answers .exit))
-        ≡ turn (settings .size) (batch-with (now (events .entry)) (now («data» .entry))) i (lent (now (store .entry)) (now (area .entry)) (now (answers .entry))) ⌝ }
+        ≡ turn (settings .size) (batch-with (now (events .entry)) (now («data» .entry))) i
+        (lent (now (store .entry)) (now (area .entry)) (now (answers .entry))) ⌝ }
 {
     let e = EVENT_WORDS * i;
     let at = events[e + 4] as usize;
@@ -138,7 +139,8 @@ fn run_all(
 )
     requires { ⌜ Fits settings n (now events) (now answers) (now store) ⌝ }
     ensures { λ _. ⌜ lent (now (store .exit)) (now (area .exit)) (now (answers .exit))
-        ≡ turns (settings .size) (batch-with (now (events .entry)) (now («data» .entry))) n (lent (now (store .entry)) (now (area .entry)) (now (answers .entry))) ⌝ }
+        ≡ turns (settings .size) (batch-with (now (events .entry)) (now («data» .entry))) n
+        (lent (now (store .entry)) (now (area .entry)) (now (answers .entry))) ⌝ }
 {
     let mut i = 0;
     while i < n {

@@ -11,14 +11,18 @@ use borrow.Author.Tests.{ne-eqb}
 use Rattle.lists.specs.Runs.{Below}
 use Rattle.lists.proofs.Tests.{either, no-second}
 use Rattle.words.specs.Words.{words}
+use Rattle.rules.specs.declared.settings.Settings.{Settings}
 use Rattle.rules.specs.Event.{Event}
 use Rattle.rules.specs.Call.{Call, get-kind}
 use Rattle.rules.specs.Step.{Outcome as Result, rule, step}
 use Rattle.rules.proofs.Step.{Stepped, refused, accepted, stepped, Numbered, step-numbers}
 use Rattle.layout.specs.Layout.{settings-of}
 use Rattle.layout.specs.Store.{decode-bytes, render-bytes, sound-bytes}
-use Rattle.layout.proofs.Bytes.{bytes-still}
+use Rattle.layout.proofs.Bytes.{bytes-sound, bytes-still}
+use Rattle.lent.specs.Stores.{StoreOf}
+use Rattle.lent.proofs.Stores as stores
 use Rattle.calls.specs.Outcome.{Outcome, filled, performed, event-on, outcome}
+use Rattle.calls.proofs.Performed.{sound-store}
 use Rattle.calls.proofs.Held.{holds-own, holds-step, held-settings, settings-step, length-step, render-below}
 
 -- 2 is answered where the bytes are not sound, and only there
@@ -53,6 +57,15 @@ call-keeps bs b call =
       settings = held-settings k ∙ settings-step h e ∙ sym (held-settings h);
     })
     (λ _. record { size = refl; bytes = b; check = refl; settings = refl })
+
+-- so a store of some settings stays one
+pub kept-of : {c : Settings} {bs after : List ℕ} → StoreOf c bs → Kept bs after → StoreOf c after
+kept-of {c} {bs} {after} v k = record {
+  limits = v .limits;
+  size = k .size ∙ v .size;
+  same = v .same ∙ sym (k .settings);
+  sound = bytes-sound after (k .check ∙ sound-store bs (stores.sound-store c bs v));
+}
 
 -- ---- a refusal has key 0, and no lent byte changes
 abbrev Still : List ℕ → Call → Outcome → Type 0

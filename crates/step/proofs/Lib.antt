@@ -1,3 +1,4 @@
+pub mod Areas
 pub mod KindLaws
 pub mod Outcomes
 pub mod Parts

@@ -55,11 +55,14 @@ module _ (bs blank : List ℕ) (p b : ℕ) where
       pub got-part : (n k : ℕ) (bytes : List ℕ) → Gets (decode-bytes bs) p b n k bytes → GetsPart bs blank p b n k bytes
       unfolding outcome-of
       got-part zero k bytes g =
-          let e = get-steps bs sd below (part-call blank p b) refl (Yes k) bytes (lent (decode-bytes bs) p b blank blank both-lent (fills-accepted (decode-bytes bs) p b g refl blank bytes refl)) in
+          let e = get-steps bs sd below (part-call blank p b) refl (Yes k) bytes (lent (decode-bytes bs) p b blank blank both-lent
+          (fills-accepted (decode-bytes bs) p b g refl blank bytes refl)) in
           record { number = ap (λ (o : Outcome). o .code) e; found = ap (λ (o : Outcome). o .key) e; same = ap (λ (o : Outcome). o .area) e }
       got-part (suc n) k bytes g =
-          let e = get-steps bs sd below (part-call blank p b) refl (No (suc n)) blank (lent (decode-bytes bs) p b blank blank both-lent (fills-refused (decode-bytes bs) p b (suc n) g (λ z. omega arith) blank)) in
-          let none = quiet (decode-bytes bs) (Event.get p b) (step (decode-bytes bs) (Event.get p b)) (stepped (decode-bytes bs) (Event.get p b)) n (g .number) in
+          let e = get-steps bs sd below (part-call blank p b) refl (No (suc n)) blank (lent (decode-bytes bs) p b blank blank both-lent
+          (fills-refused (decode-bytes bs) p b (suc n) g (λ z. omega arith) blank)) in
+          let none = quiet (decode-bytes bs) (Event.get p b) (step (decode-bytes bs) (Event.get p b)) (stepped (decode-bytes bs) (Event.get p b)) n
+          (g .number) in
           record {
             number = ap (λ (o : Outcome). o .code) e;
             found = g .found ∙ none .0 ∙ ap (λ (o : Outcome). o .key) e;

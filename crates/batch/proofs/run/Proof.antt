@@ -7,7 +7,7 @@ use Rattle.layout.specs.Store.{decode-bytes, sound-bytes}
 use Rattle.reads.proofs.Outcomes.{size-is}
 use Rattle.calls.proofs.Performed.{store-sound}
 use Rattle.batch.specs.Batch.{batch-with, lent}
-use Rattle.batch.proofs.Turns.{unsound-runs, odd-runs, short-runs, all-runs}
+use Rattle.batch.proofs.Turns.{ran-unsound, odd-runs, short-runs, all-runs}
 use Rattle.batch.proofs.run.Statement.{statement}
 use Rattle.batch.proofs.run.Tie as tie
 
@@ -24,8 +24,8 @@ same-length c = search needs
 returns : tie.Need-returns
 returns c =
     let s = c .before .before .before .before .before .before .before .before .args in
-    unsound-runs (batch-with (s .events .now) (s .«data» .now)) (lent (s .store .now) (s .area .now) (s .answers .now))
-    (sym (c .before .is-sound .ensures) ∙ not-true _ (c .if1 .taken))
+    sym (ran-unsound (batch-with (s .events .now) (s .«data» .now)) (lent (s .store .now) (s .area .now) (s .answers .now))
+    (sym (c .before .is-sound .ensures) ∙ not-true _ (c .if1 .taken)))
 
 mul-if2 : tie.Need-mul-if2
 mul-if2 c = search needs
@@ -47,13 +47,17 @@ same-length-3 c = search needs
 returns-3 : tie.Need-returns-3
 returns-3 c =
     let s = c .before .before .before .before .before .before .before .before .before .before .args in
-    short-runs (batch-with (s .events .now) (s .«data» .now)) (lent (s .store .now) (s .area .now) (s .answers .now)) (passed (c .before .before)) (c .if3 .taken)
+    short-runs (batch-with (s .events .now) (s .«data» .now)) (lent (s .store .now) (s .area .now) (s .answers .now)) (passed (c .before .before))
+    (c .if3 .taken)
 
 settings-requires : tie.Need-settings-requires
 settings-requires c κs = store-sound _ (passed (c .before .before .before))
 
 run-all-requires : tie.Need-run-all-requires
-run-all-requires c κs = record { held = c .before .before .before .settings .ensures; events-in = omega (arith, c .before .before .before .before .before .before .if2 .left); answers-in = omega (arith, c .before .before .before .before .before .if3 .left) }
+run-all-requires c κs =
+    let at-if3 = c .before .before .before .before .before in
+    let at-if2 = at-if3 .before in
+    record { held = c .before .before .before .settings .ensures; events-in = omega (arith, at-if2 .if2 .left); answers-in = omega (arith, at-if3 .if3 .left) }
 
 same-length-4 : tie.Need-same-length-4
 same-length-4 c = search needs
@@ -67,10 +71,15 @@ same-length-6 c = search needs
 returns-4 : tie.Need-returns-4
 unfolding decode-bytes
 returns-4 c =
-    let s = c .before .before .before .before .before .before .before .before .before .before .before .before .before .before .before .before .before .before .before .before .before .before .args in
-    let settings = c .before .before .before .before .before .before .before .before .before .before .settings in
-    all-runs (batch-with (s .events .now) (s .«data» .now)) (lent (s .store .now) (s .area .now) (s .answers .now)) (passed (c .before .before .before .before .before .before .before .before .before .before .before .before .before .before)) (settings .result .size)
-    (size-is (settings .result) (s .store .now) (settings .ensures)) (c .before .before .before .before .before .before .before .before .before .before .before .before .before .if2 .left) (c .before .before .before .before .before .before .before .before .before .before .before .before .if3 .left) _ (c .before .before .before .before .before .before .run-all .ensures)
+    let at-run-all = c .before .before .before .before .before .before in
+    let at-settings = at-run-all .before .before .before .before in
+    let at-if3 = at-settings .before .before in
+    let at-if2 = at-if3 .before in
+    let at-if1 = at-if2 .before in
+    let s = at-if1 .before .before .before .before .before .before .before .before .args in
+    let settings = at-settings .settings in
+    all-runs (batch-with (s .events .now) (s .«data» .now)) (lent (s .store .now) (s .area .now) (s .answers .now)) (passed at-if1) (settings .result .size)
+    (size-is (settings .result) (s .store .now) (settings .ensures)) (at-if2 .if2 .left) (at-if3 .if3 .left) _ (at-run-all .run-all .ensures)
 
 pub run-spec : {M : Type 1} → statement M
 run-spec =

@@ -2,13 +2,15 @@ use mathlib.Core.Path.{_≡_, refl, subst, _∙_}
 use Prim.Native.Nat.{ℕ, _-_}
 use native.Mathlib.Omega.{arith}
 use Rattle.lists.proofs.Runs.{below-of}
+use Rattle.calls.proofs.Calls.{kept-of}
 use Rattle.batch.specs.Batch.{Batch, batch-with, Lent, lent, turns}
-use Rattle.batch.proofs.Turns.{kept-of, turn-keeps, turns-more, Running}
+use Rattle.batch.proofs.Turns.{turn-keeps, turns-more, Running}
 use Rattle.batch.proofs.run_all.Statement.{statement}
 use Rattle.batch.proofs.run_all.Tie as tie
 
 abbrev Inv-loop : tie.InvT-loop
-Inv-loop store₀ settings n events «data» area₀ answers₀ i₀ store area answers i = Running settings n (batch-with events «data») (lent store₀ area₀ answers₀) (lent store area answers) i
+Inv-loop store₀ settings n events «data» area₀ answers₀ i₀ store area answers i =
+    Running settings n (batch-with events «data») (lent store₀ area₀ answers₀) (lent store area answers) i
 
 abbrev μ-loop : tie.MeasureT-loop
 μ-loop store₀ settings n events «data» area₀ answers₀ i₀ store area answers i = n - i

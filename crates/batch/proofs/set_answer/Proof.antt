@@ -52,7 +52,8 @@ returns : tie.Need-returns
 unfolding outcome-of
 returns c =
     let s = c .before .before .before .args in
-    sym (ap (λ (x : Answer). set (set (s .answers .now) (s .to) (outcome-of x [] [] .code)) (s .to + 1) (outcome-of x [] [] .key)) (c .before .answer .given .1))
+    sym (ap (λ (x : Answer). set (set (s .answers .now) (s .to) (outcome-of x [] [] .code)) (s .to + 1) (outcome-of x [] [] .key))
+    (c .before .answer .given .1))
 
 same-length-2 : tie.Need-same-length-2
 same-length-2 c = search needs
@@ -61,7 +62,8 @@ returns-2 : tie.Need-returns-2
 unfolding outcome-of
 returns-2 c =
     let s = c .before .before .before .args in
-    sym (ap (λ (x : Answer). set (set (s .answers .now) (s .to) (outcome-of x [] [] .code)) (s .to + 1) (outcome-of x [] [] .key)) (c .before .answer2 .given .1))
+    sym (ap (λ (x : Answer). set (set (s .answers .now) (s .to) (outcome-of x [] [] .code)) (s .to + 1) (outcome-of x [] [] .key))
+    (c .before .answer2 .given .1))
 
 pub set-answer-spec : {M : Type 1} → statement M
 set-answer-spec =

@@ -28,7 +28,11 @@ part-fill-block-start c = search needs
 part-fill-block-end : tie.Need-part-fill-block-end
 part-fill-block-end c =
     let s = c .before .before .before .before .before .before .before in
-    omega (arith, leb-true (s .args .at + s .args .settings .size) (length (s .args .area .now)) (sym (c .before .before .reaches .ensures) ∙ c .before .if2 .taken))
+    omega (
+      arith,
+      leb-true (s .args .at + s .args .settings .size) (length (s .args .area .now)) (sym (c .before .before .reaches .ensures)
+          ∙ c .before .if2 .taken),
+    )
 
 fill-block-requires : tie.Need-fill-block-requires
 fill-block-requires c κs = search needs
@@ -41,19 +45,28 @@ same-length-2 c = search needs
 
 returns : tie.Need-returns
 returns c =
-    let s = c .before .before .before .before .before .before .before .before .before .before .before in
+    let at-if2 = c .before .before .before .before .before in
+    let at-reaches = at-if2 .before in
+    let at-if1 = at-reaches .before in
+    let at-slice-known = at-if1 .before .before .before in
+    let s = at-slice-known .before in
     let a = s .args in
-    let y = sym (c .before .before .before .before .before .before .reaches .ensures) ∙ c .before .before .before .before .before .if2 .taken in
-    get-there (a .settings) (a .store .now) (s .pre) (a .kind) (a .a) (a .b) (a .c) (a .at) (block-at (a .settings .size) (a .at) (a .«data» .now)) (a .area .now)
-    (below-of 256 _ (λ i. omega (arith, c .before .before .before .before .before .before .before .before .before .before .slice-known .given i))) (c .before .before .before .before .before .before .before .if1 .taken) y (c .before .before .fill-block .result) _ _ _
-    (block-there (a .settings .size) (a .at) (a .area .now) y _ refl) (c .before .before .fill-block .ensures) (with-there (a .settings .size) (a .at) (a .area .now) y _ refl _)
+    let y = sym (at-reaches .reaches .ensures) ∙ at-if2 .if2 .taken in
+    get-there (a .settings) (a .store .now) (s .pre) (a .kind) (a .a) (a .b) (a .c) (a .at) (block-at (a .settings .size) (a .at) (a .«data» .now))
+    (a .area .now)
+    (below-of 256 _ (λ i. omega (arith, at-slice-known .slice-known .given i))) (at-if1 .if1 .taken) y (c .before .before .fill-block .result) _ _ _
+    (block-there (a .settings .size) (a .at) (a .area .now) y _ refl) (c .before .before .fill-block .ensures) (with-there (a .settings .size) (a .at)
+    (a .area .now) y _ refl _)
 
 returns-2 : tie.Need-returns-2
 returns-2 c =
-    let s = c .before .before .before .before .before .before in
+    let at-slice-known = c .before .before .before .before .before in
+    let s = at-slice-known .before in
     let a = s .args in
-    get-nowhere (a .settings) (a .store .now) (s .pre) (a .kind) (a .a) (a .b) (a .c) (a .at) (block-at (a .settings .size) (a .at) (a .«data» .now)) (a .area .now)
-    (below-of 256 _ (λ i. omega (arith, c .before .before .before .before .before .slice-known .given i))) (c .before .before .if1 .taken) (sym (c .before .reaches .ensures) ∙ c .if2 .left)
+    get-nowhere (a .settings) (a .store .now) (s .pre) (a .kind) (a .a) (a .b) (a .c) (a .at) (block-at (a .settings .size) (a .at) (a .«data» .now))
+    (a .area .now)
+    (below-of 256 _ (λ i. omega (arith, at-slice-known .slice-known .given i))) (c .before .before .if1 .taken) (sym (c .before .reaches .ensures)
+    ∙ c .if2 .left)
 
 block-at-requires : tie.Need-block-at-requires
 block-at-requires c κs = search needs
@@ -87,11 +100,14 @@ same-length-4 c = search needs
 
 returns-3 : tie.Need-returns-3
 returns-3 c =
-    let s = c .before .before .before .before .before .before .before .before .before .before .before .before .before in
+    let at-block-at = c .before .before .before .before .before .before .before .before in
+    let at-if1 = at-block-at .before in
+    let s = at-if1 .before .before .before .before in
     let a = s .args in
     let r = c .before .before .before .before .perform in
-    other-at (a .settings) (a .store .now) (s .pre) (a .kind) (a .a) (a .b) (a .c) (a .at) (block-at (a .settings .size) (a .at) (a .«data» .now)) (a .area .now)
-    (c .before .before .before .before .before .before .before .before .before .if1 .left) (r .result) _ _ _ (r .kept .1 .1 .1 .1 .1 .1 .1 .1 .0) (c .before .before .before .before .before .before .before .before .block-at .ensures) (r .ensures)
+    other-at (a .settings) (a .store .now) (s .pre) (a .kind) (a .a) (a .b) (a .c) (a .at) (block-at (a .settings .size) (a .at) (a .«data» .now))
+    (a .area .now)
+    (at-if1 .if1 .left) (r .result) _ _ _ (r .kept .1 .1 .1 .1 .1 .1 .1 .1 .0) (at-block-at .block-at .ensures) (r .ensures)
 
 pub step-at-spec : {M : Type 1} → statement M
 step-at-spec =

@@ -1,5 +1,4 @@
 use mathlib.Core.Path.{_≡_, refl, sym, ap, _∙_}
-use mathlib.Core.List.{List}
 use mathlib.Core.Bool.{Bool, true, false, cond}
 use native.Mathlib.Omega.{arith}
 use Rattle.lists.specs.Tests.{_and_}
@@ -24,21 +23,25 @@ found c q =
     ap (is-found s) (sym (c .before .before .mapped .ensures)) ∙ sym (c .fill-key .ensures .0) ∙ q
 
 all-asked : (c : tie.After-fill-key) → c .fill-key .result ≡ true
-    → let b = c .before .before .before .before .before .before .before .before in 0 ≡ first-no (get-asks (decode (words (b .args .store .now))) (b .args .proxy) (b .args .block))
+    → let b = c .before .before .before .before .before .before .before .before in 0 ≡ first-no (get-asks (decode (words (b .args .store .now))) (b .args .proxy)
+    (b .args .block))
 unfolding _and_
 all-asked c y =
     let asked = c .before .before .before in
     let b = c .before .before .before .before .before .before .before .before in
-    goes-on (served-asks (decode (words (b .args .store .now))) (b .args .proxy) (b .args .block)) _ refl (asked .before .served-asks .ensures) (asked .if1 .left)
+    goes-on (served-asks (decode (words (b .args .store .now))) (b .args .proxy) (b .args .block)) _ refl (asked .before .served-asks .ensures)
+    (asked .if1 .left)
     (sym (first-yes 11 _ (found c y) ∙ none-asked))
 
 not-found : (c : tie.After-fill-key) → c .fill-key .result ≡ false
-    → let b = c .before .before .before .before .before .before .before .before in 11 ≡ first-no (get-asks (decode (words (b .args .store .now))) (b .args .proxy) (b .args .block))
+    → let b = c .before .before .before .before .before .before .before .before in 11 ≡ first-no (get-asks (decode (words (b .args .store .now))) (b .args .proxy)
+    (b .args .block))
 unfolding _and_
 not-found c n =
     let asked = c .before .before .before in
     let b = c .before .before .before .before .before .before .before .before in
-    goes-on (served-asks (decode (words (b .args .store .now))) (b .args .proxy) (b .args .block)) _ refl (asked .before .served-asks .ensures) (asked .if1 .left)
+    goes-on (served-asks (decode (words (b .args .store .now))) (b .args .proxy) (b .args .block)) _ refl (asked .before .served-asks .ensures)
+    (asked .if1 .left)
     (sym (first-stop 11 _ (found c n)))
 
 index-of-requires : tie.Need-index-of-requires
@@ -65,12 +68,14 @@ same-length c = search needs
 
 returns-2 : tie.Need-returns-2
 returns-2 c =
-    let b = c .before .before .before .before .before .before .before .before .before .before .before in
+    let at-mapped = c .before .before .before .before .before in
+    let b = at-mapped .before .before .before .before .before .before in
     let s = decode (words (b .args .store .now)) in
     let r = c .before .before .before .fill-key in
-    let key = c .before .before .before .before .before .mapped in
+    let key = at-mapped .mapped in
     fills-accepted s (b .args .proxy) (b .args .block)
-    (accepted s (b .args .proxy) (b .args .block) 0 (all-asked (c .before .before .before) (c .if2 .taken)) refl _ (key .ensures) _ refl) refl (b .args .area .now) _
+    (accepted s (b .args .proxy) (b .args .block) 0 (all-asked (c .before .before .before) (c .if2 .taken)) refl _ (key .ensures) _ refl) refl
+    (b .args .area .now) _
     (r .ensures .1 ∙ ap (λ (x : Bool). cond x (key-bytes s (key .result .0)) (b .args .area .now)) (c .if2 .taken))
 
 same-length-2 : tie.Need-same-length-2
@@ -78,11 +83,13 @@ same-length-2 c = search needs
 
 returns-3 : tie.Need-returns-3
 returns-3 c =
-    let b = c .before .before .before .before .before .before .before .before .before .before .before in
+    let at-mapped = c .before .before .before .before .before in
+    let b = at-mapped .before .before .before .before .before .before in
     let s = decode (words (b .args .store .now)) in
     let r = c .before .before .before .fill-key in
-    rw (r .ensures .1 ∙ ap (λ (x : Bool). cond x (key-bytes s (c .before .before .before .before .before .mapped .result .0)) (b .args .area .now)) (c .if2 .left))
-    (fills-refused s (b .args .proxy) (b .args .block) 11 (refused s (b .args .proxy) (b .args .block) 11 (not-found (c .before .before .before) (c .if2 .left)) (λ e. omega arith)) (λ e. omega arith) (b .args .area .now))
+    rw (r .ensures .1 ∙ ap (λ (x : Bool). cond x (key-bytes s (at-mapped .mapped .result .0)) (b .args .area .now)) (c .if2 .left))
+    (fills-refused s (b .args .proxy) (b .args .block) 11 (refused s (b .args .proxy) (b .args .block) 11 (not-found (c .before .before .before) (c .if2 .left))
+    (λ e. omega arith)) (λ e. omega arith) (b .args .area .now))
 
 pub fill-block-spec : {M : Type 1} → statement M
 fill-block-spec =

@@ -24,8 +24,9 @@ copied : (c : tie.After-chunk)
     → let s = c .before .before .before .before .before .before .before .before .before .before in
     c .chunk .result .now ≡ key-bytes (decode (words (s .args .store .now))) (s .args .key .0)
 copied c =
-    let s = c .before .before .before .before .before .before .before .before .before .before in
-    c .chunk .ensures ∙ held-bytes _ (s .args .store .now) (s .pre .0) (s .args .key .0) (c .before .before .before .before .before .before .if1 .left) _ (stands (c .before .before .before) .here)
+    let at-if1 = c .before .before .before .before .before .before in
+    let s = at-if1 .before .before .before .before in
+    c .chunk .ensures ∙ held-bytes _ (s .args .store .now) (s .pre .0) (s .args .key .0) (at-if1 .if1 .left) _ (stands (c .before .before .before) .here)
 
 fill-requires : tie.Need-fill-requires
 fill-requires c κs = search needs
@@ -35,10 +36,12 @@ same-length c = search needs
 
 returns : tie.Need-returns
 returns c =
-    let s = c .before .before .before .before .before .before .before .before .before in (
-      sym (found-zero (decode (words (s .args .store .now))) (s .args .key .0) (c .before .before .before .before .before .if1 .taken)),
-      filled-zeros (s .args .settings .size) (s .args .settings .size / 8) _ _ (omega (arith, s .pre .0 .limits .size-words)) (s .pre .1) (c .before .before .fill .kept .0 ∙ s .pre .1) (c .before .before .fill .ensures)
-          ∙ zero-bytes (s .args .settings) (s .args .store .now) (s .pre .0) (s .args .key .0) (c .before .before .before .before .before .if1 .taken),
+    let at-if1 = c .before .before .before .before .before in
+    let s = at-if1 .before .before .before .before in (
+      sym (found-zero (decode (words (s .args .store .now))) (s .args .key .0) (at-if1 .if1 .taken)),
+      filled-zeros (s .args .settings .size) (s .args .settings .size / 8) _ _ (omega (arith, s .pre .0 .limits .size-words)) (s .pre .1)
+          (c .before .before .fill .kept .0 ∙ s .pre .1) (c .before .before .fill .ensures)
+          ∙ zero-bytes (s .args .settings) (s .args .store .now) (s .pre .0) (s .args .key .0) (at-if1 .if1 .taken),
     )
 
 holder-requires : tie.Need-holder-requires
