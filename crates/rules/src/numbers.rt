@@ -8,12 +8,15 @@ use crate::constants;
 use crate::settings::Settings;
 
 // A virtual disk's block, below 2^51.
+#[repr(C)]
 pub struct BlockNumber(pub u64);
 
 // The id of the brick that made a chunk, times 2^56, plus a sequence number.
+#[repr(C)]
 pub struct ChunkKey(pub u64);
 
 // The number of an agreed view, 32 bits.
+#[repr(C)]
 pub struct ViewNumber(pub u64);
 
 impl BlockNumber {

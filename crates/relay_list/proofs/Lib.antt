@@ -1,0 +1,5 @@
+pub mod Elements
+pub mod Records
+pub mod Shift
+pub mod Shown
+pub mod Words
