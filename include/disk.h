@@ -64,6 +64,9 @@ enum {
 /* A line of text has at most so many bytes, its line feed counted. */
 #define DISK_LONGEST_LINE 16500
 
+/* A bag has at most so many relays. */
+#define DISK_MOST_RELAYS 64
+
 /* What a step answers: its code, and a key. */
 typedef struct {
     uint64_t code;
@@ -100,6 +103,20 @@ typedef struct {
     uint64_t entries;
     uint64_t chunks;
 } disk_settings_answer;
+
+/* A relay on its way from a bucket's primary to its backup: the view in which it was sent, the bucket, its order number, and the entry. */
+typedef struct {
+    uint64_t view;
+    uint64_t bucket;
+    uint64_t order;
+    uint64_t block;
+    uint64_t key;
+} disk_relay;
+
+typedef struct {
+    uint64_t code;
+    size_t count;
+} disk_bag_answer;
 
 /* The bytes to lend for a store of these settings: places 3 to 8; block size 8 to 8,192, a multiple of 8; entries 2 to 1,024 in each bucket copy;
  * chunks 4 to 65,536 in each brick's log. 0 where a setting is outside its limits. */
@@ -202,6 +219,13 @@ static inline uint64_t disk_do_all(uint8_t *store, size_t store_length, const di
 {
     return disk_run(store, store_length, events, 5 * count, data, data_length, area, area_length, answers, 2 * count);
 }
+
+/* The relays that are under way, oldest first: a relay's index is that of deliver and drop. relays_count is the number of records lent, which lie where C
+ * may place a disk_relay; DISK_MOST_RELAYS are always enough.
+ * 0: relays[0 .. count] is the store's bag. The records after it have not changed.
+ * 2: the bytes are no sound store.
+ * 3: fewer records are lent than there are relays in the bag. */
+disk_bag_answer disk_bag(const uint8_t *store, size_t store_length, disk_relay *relays, size_t relays_count);
 
 /* Whether two stores are alike: same settings, view and members and, for each bucket, the same blocks and keys in the primary's memory. They may be the
  * same bytes. The number is no question's but for 2; it is what cmp and diff answer.

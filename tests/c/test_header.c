@@ -21,6 +21,13 @@ _Static_assert(offsetof(disk_settings_answer, code) == 0 && offsetof(disk_settin
                    offsetof(disk_settings_answer, entries) == 24 && offsetof(disk_settings_answer, chunks) == 32,
                "in this order");
 
+_Static_assert(sizeof(disk_relay) == 40, "five words");
+_Static_assert(offsetof(disk_relay, view) == 0 && offsetof(disk_relay, bucket) == 8 && offsetof(disk_relay, order) == 16 &&
+                   offsetof(disk_relay, block) == 24 && offsetof(disk_relay, key) == 32,
+               "in this order");
+_Static_assert(sizeof(disk_bag_answer) == 16, "two words");
+_Static_assert(offsetof(disk_bag_answer, code) == 0 && offsetof(disk_bag_answer, count) == 8, "in this order");
+
 /* The word at the head of a kind's line is the kind's name in the header. */
 static void kinds_have_their_words(void)
 {

@@ -35,6 +35,9 @@ static void store_calls()
     expect(disk_run(store.data(), store.size(), events, 5, data, 0, answer, sizeof answer, told, 2) == DISK_OK && told[0].code == DISK_OK, "run");
     expect(disk_do_all(store.data(), store.size(), events, 2, data, sizeof data, answer, 0, told) == DISK_OK, "do all");
     expect(told[0].code == DISK_BAD_INPUT && told[1].key == ((uint64_t)1 << 56) + 1, "do all");
+    disk_relay relays[DISK_MOST_RELAYS];
+    const disk_bag_answer bag = disk_bag(store.data(), store.size(), relays, DISK_MOST_RELAYS);
+    expect(bag.code == DISK_OK && bag.count == 0, "bag");
     expect(disk_alike(store.data(), store.size(), store.data(), store.size()) == 0, "alike");
 }
 

@@ -23,6 +23,9 @@ static void expect_unsound(lent *lent, area *store)
     uint8_t *old = bytes_of(store), *old_answer = bytes_of(&lent->answer);
     EXPECT(disk_check(store->bytes, store->length) == DISK_UNSOUND);
     EXPECT(disk_alike(store->bytes, store->length, lent->store.bytes, lent->store.length) == DISK_UNSOUND);
+    disk_relay relay = {0, 1, 2, 3, 4};
+    disk_bag_answer bag = disk_bag(store->bytes, store->length, &relay, 1);
+    EXPECT(bag.code == DISK_UNSOUND && bag.count == 0 && relay.view == 0 && relay.bucket == 1 && relay.order == 2 && relay.block == 3 && relay.key == 4);
     for (uint64_t kind = 0; kind <= DISK_COLLECT + 1; kind++) {
         disk_step_answer told = disk_step(store->bytes, store->length, kind, 0, 0, 5, lent->data.bytes, lent->data.length, lent->zero.bytes,
                                           lent->zero.length, lent->answer.bytes, lent->answer.length);

@@ -4,7 +4,7 @@ fn main() {
         format!("{here}/../../target/staticlib")
     });
     println!("cargo:rustc-link-search=native={folder}");
-    for library in ["disk", "bench"] {
+    for library in ["disk", "bench", "list_calls"] {
         println!("cargo:rustc-link-lib=static={library}");
         println!("cargo:rerun-if-changed={folder}/lib{library}.a");
     }

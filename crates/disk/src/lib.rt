@@ -10,12 +10,15 @@ ghost use Rattle.store.specs.Calls.{settings, length-answer, Formatted, check-a
 ghost use Rattle.calls.specs.Outcome.{call-with, outcome};
 ghost use Rattle.alike.specs.Alike.{alike-answer, alike-number};
 ghost use Rattle.batch.specs.Batch.{batch-with, lent, ran, batch-outcome};
+ghost use Rattle.relay_list.specs.Shown.{Shows};
 ghost use Rattle.disk.specs.Answers.{step-outcome, event-answer, line-answer, four-answer};
 use alike::Compared;
 use lent::Answer;
 use parse::Parsed;
 use parse::SettingsLine;
 use print::Printed;
+use relay_list::BagAnswer;
+use relay_list::Relay;
 
 #[repr(C)]
 pub struct StepAnswer {
@@ -112,6 +115,14 @@ pub extern "C" fn disk_run(
         ≡ batch-outcome (batch-with (now (events .entry)) (now («data» .entry))) (lent (now (store .entry)) (now (area .entry)) (now (answers .entry))) ⌝ }
 {
     batch::run(store, events, data, area, answers)
+}
+
+// The relays of the bag, as records.
+#[no_mangle]
+pub extern "C" fn disk_bag(store: &[u8], relays: &mut [Relay]) -> BagAnswer
+    ensures { λ r. ⌜ Shows (now (store .entry)) (now (relays .entry)) r (now (relays .exit)) ⌝ }
+{
+    relay_list::show(store, relays)
 }
 
 // Are two lent stores alike?

@@ -1,3 +1,4 @@
+pub mod Bridges
 pub mod Elements
 pub mod Records
 pub mod Shift

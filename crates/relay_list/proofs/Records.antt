@@ -1,19 +1,19 @@
 -- A slice of records as a bag, and what send, deliver and drop promise of it.
-use mathlib.Core.Path.{_≡_, refl, sym, _∙_, ap}
-use mathlib.Core.Bool.{true, false, cond}
+use mathlib.Core.Path.{_≡_, refl, _∙_, ap}
+use mathlib.Core.Bool.{true, false}
 use mathlib.Core.List.{List, [], _∷_, _++_}
 use Prim.Native.Nat.{ℕ, zero, suc, _<_, _≤_}
 use native.Mathlib.Omega.{arith}
 use borrow.Author.Tests.{ltb-true}
 use lib.ListN.{length, getD, set, take, drop}
 use Rattle.lists.proofs.Tests.{and-l}
-use Rattle.rules.specs.State.{Relay as Held, blank-relay}
+use Rattle.rules.specs.State.{Relay as Held}
 use Rattle.rules.specs.Question.{first-no}
 use Rattle.relay_list.specs.declared.Relay.{Relay}
 use Rattle.relay_list.specs.declared.Sent.the-variants.{Sent as Yes, NoRoom}
 use Rattle.relay_list.specs.declared.Delivered.the-variants.{Is, NoSuch}
 use Rattle.relay_list.specs.declared.Dropped.the-variants.{Dropped as Gone, NoSuch as NoneThere}
-use Rattle.relay_list.specs.Relays.{relay-of, relays-of, bag-of, over, has-room, is-within, relay-at, Sends, Drops, Delivers, Loses}
+use Rattle.relay_list.specs.Relays.{relay-of, relays-of, bag-of, over, has-room, is-within, relay-at, sent-number, delivered-number, delivered-relay, dropped-number, Sends, Drops, Delivers, Loses}
 use Rattle.relay_list.proofs.Elements.{blank}
 
 abbrev put-first : Relay → List Held → List Held
@@ -54,29 +54,29 @@ youngest count r [] h = absurd (omega (arith, h))
 youngest zero r (x ∷ list) h = refl
 youngest (suc count) r (x ∷ list) h = ap (put-first x) (youngest count r list (omega (arith, h)))
 
-pub sent : (count : ℕ) (r : Relay) (list : List Relay) → has-room count list ≡ true → Sends count r list Yes (set list count r)
+pub sent : (count : ℕ) (r : Relay) (list : List Relay) → has-room count list ≡ true → Sends count r list (sent-number Yes) (set list count r)
 unfolding first-no
 sent count r list room = record { number = rw room; records = rw room (youngest count r list (ltb-true count (length list) (and-l _ _ room))) }
 
-pub unsent : (count : ℕ) (r : Relay) (list : List Relay) → has-room count list ≡ false → Sends count r list NoRoom list
+pub unsent : (count : ℕ) (r : Relay) (list : List Relay) → has-room count list ≡ false → Sends count r list (sent-number NoRoom) list
 unfolding first-no
 unsent count r list full = record { number = rw full; records = rw full }
 
 -- ---- a relay leaves, or is not there
 module _ (count index : ℕ) (list : List Relay) where
-  pub dropped : (after : List Relay) → is-within index count list ≡ true → Loses count index list after → Drops count index list Gone after
+  pub dropped : (after : List Relay) → is-within index count list ≡ true → Loses count index list after → Drops count index list (dropped-number Gone) after
   unfolding first-no
   dropped after there e = record { number = rw there; records = rw there e }
 
-  pub undropped : is-within index count list ≡ false → Drops count index list NoneThere list
+  pub undropped : is-within index count list ≡ false → Drops count index list (dropped-number NoneThere) list
   unfolding first-no
   undropped none = record { number = rw none; records = rw none }
 
   pub delivered : (relay : Relay) (after : List Relay) → is-within index count list ≡ true → relay-of relay ≡ relay-at index count list → Loses count index list after
-      → Delivers count index list (Is relay) after
+      → Delivers count index list (delivered-number (Is relay)) (delivered-relay (Is relay)) after
   unfolding first-no
-  delivered relay after there same e = record { number = rw there; relay = rw there same; records = rw there e }
+  delivered relay after there same e = record { number = rw there; given = rw there same; records = rw there e }
 
-  pub undelivered : is-within index count list ≡ false → Delivers count index list NoSuch list
+  pub undelivered : is-within index count list ≡ false → Delivers count index list (delivered-number NoSuch) (delivered-relay NoSuch) list
   unfolding first-no
-  undelivered none = record { number = rw none; relay = rw none; records = rw none }
+  undelivered none = record { number = rw none; given = rw none; records = rw none }

@@ -2,7 +2,7 @@
 use mathlib.Core.Path.{_≡_}
 use mathlib.Core.Bool.{Bool, cond}
 use mathlib.Core.List.{List, [], _∷_, _++_, map}
-use Prim.Native.Nat.{ℕ, _-_, _<_, _≤_}
+use Prim.Native.Nat.{ℕ, _<_, _≤_}
 use lib.Dec.{ltb, leb}
 use lib.ListN.{length, getD, take, drop}
 use Rattle.lists.specs.Tests.{_and_}
@@ -61,8 +61,8 @@ abbrev pub send-asks : ℕ → List Relay → List Question
 send-asks count list = (10 asks has-room count list) ∷ []
 
 -- the relay is then the youngest; where there is no room the records stay
-pub record Sends (count : ℕ) (relay : Relay) (before : List Relay) (answer : Sent) (after : List Relay) : Type 0 where
-  pub number : sent-number answer ≡ first-no (send-asks count before)
+pub record Sends (count : ℕ) (relay : Relay) (before : List Relay) (code : ℕ) (after : List Relay) : Type 0 where
+  pub number : code ≡ first-no (send-asks count before)
   pub records : relays-of after ≡ cond (has-room count before) (over (bag-of count before ++ relay-of relay ∷ []) before) (relays-of before)
 
 -- ---- deliver, drop
@@ -88,13 +88,13 @@ abbrev pub Loses : ℕ → ℕ → List Relay → List Relay → Type 0
 Loses count index before after = relays-of after ≡ without index count before
 
 -- where the index is refused the records stay
-pub record Drops (count index : ℕ) (before : List Relay) (answer : Dropped) (after : List Relay) : Type 0 where
-  pub number : dropped-number answer ≡ first-no (index-asks index count before)
+pub record Drops (count index : ℕ) (before : List Relay) (code : ℕ) (after : List Relay) : Type 0 where
+  pub number : code ≡ first-no (index-asks index count before)
   pub records : relays-of after ≡ cond (is-within index count before) (without index count before) (relays-of before)
 
-pub record Delivers (count index : ℕ) (before : List Relay) (answer : Delivered) (after : List Relay) : Type 0 where
-  pub number : delivered-number answer ≡ first-no (index-asks index count before)
-  pub relay : delivered-relay answer ≡ cond (is-within index count before) (relay-at index count before) blank-relay
+pub record Delivers (count index : ℕ) (before : List Relay) (code : ℕ) (relay : Held) (after : List Relay) : Type 0 where
+  pub number : code ≡ first-no (index-asks index count before)
+  pub given : relay ≡ cond (is-within index count before) (relay-at index count before) blank-relay
   pub records : relays-of after ≡ cond (is-within index count before) (without index count before) (relays-of before)
 
 -- ---- the bag's flat words as records, and back

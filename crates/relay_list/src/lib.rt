@@ -8,7 +8,7 @@ ghost use Rattle.rules.specs.Limits.{max-relays};
 ghost use Rattle.tables.specs.Tables.{IsTable};
 ghost use Rattle.layout.specs.Layout.{bag-words};
 ghost use Rattle.bag.specs.Relays.{relay-words};
-ghost use Rattle.relay_list.specs.Relays.{Within, Sends, Delivers, Drops, Loses, Loads, Stores};
+ghost use Rattle.relay_list.specs.Relays.{Within, sent-number, delivered-number, delivered-relay, dropped-number, Sends, Delivers, Drops, Loses, Loads, Stores};
 ghost use Rattle.relay_list.specs.Shown.{Shows};
 use rules::constants::MAX_RELAYS;
 use rules::numbers::BlockNumber;
@@ -51,7 +51,7 @@ pub struct BagAnswer {
 
 // A relay more, as the youngest, where the slice and the bag have room for it.
 pub fn send(list: &mut [Relay], count: usize, relay: Relay) -> Sent
-    ensures { λ r. ⌜ Sends count relay (now (list .entry)) r (now (list .exit)) ⌝ }
+    ensures { λ r. ⌜ Sends count relay (now (list .entry)) (sent-number r) (now (list .exit)) ⌝ }
 {
     if (count < list.len()) & (count < MAX_RELAYS) {
         list[count] = relay;
@@ -62,7 +62,7 @@ pub fn send(list: &mut [Relay], count: usize, relay: Relay) -> Sent
 
 // The relay at an index leaves the bag, and is given back.
 pub fn deliver(list: &mut [Relay], count: usize, index: usize) -> Delivered
-    ensures { λ r. ⌜ Delivers count index (now (list .entry)) r (now (list .exit)) ⌝ }
+    ensures { λ r. ⌜ Delivers count index (now (list .entry)) (delivered-number r) (delivered-relay r) (now (list .exit)) ⌝ }
 {
     if (index < count) & (count <= list.len()) {
         let relay = list[index];
@@ -74,7 +74,7 @@ pub fn deliver(list: &mut [Relay], count: usize, index: usize) -> Delivered
 
 // The relay at an index is lost.
 pub fn drop(list: &mut [Relay], count: usize, index: usize) -> Dropped
-    ensures { λ r. ⌜ Drops count index (now (list .entry)) r (now (list .exit)) ⌝ }
+    ensures { λ r. ⌜ Drops count index (now (list .entry)) (dropped-number r) (now (list .exit)) ⌝ }
 {
     if (index < count) & (count <= list.len()) {
         close_gap(list, count, index);

@@ -1,5 +1,6 @@
 //! The proved calls behind safe functions, and an independent implementation of each to compare them with.
 pub mod lent;
+pub mod lists;
 pub mod moves;
 pub mod random;
 pub mod store;

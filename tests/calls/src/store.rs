@@ -2,6 +2,7 @@
 pub mod model;
 pub mod random;
 
+use crate::lists::Relay;
 use crate::text::model::Event;
 
 /// What a step answers.
@@ -32,8 +33,17 @@ pub fn answers_in(words: &[u64]) -> Vec<Answer> {
     words.chunks(2).map(|two| Answer { code: two[0], key: two[1] }).collect()
 }
 
+/// What the call for the bag answers.
+#[repr(C)]
+#[derive(Clone, Copy, Debug, PartialEq, Eq)]
+pub struct BagAnswer {
+    pub code: u64,
+    pub count: usize,
+}
+
 mod calls {
-    use super::Answer;
+    use super::{Answer, BagAnswer};
+    use crate::lists::Relay;
 
     extern "C" {
         pub fn disk_length(places: u64, size: u64, entries: u64, chunks: u64) -> u64;
@@ -65,6 +75,7 @@ mod calls {
             answers: *mut u64,
             answer_words: usize,
         ) -> u64;
+        pub fn disk_bag(store: *const u8, length: usize, relays: *mut Relay, count: usize) -> BagAnswer;
         pub fn disk_alike(store: *const u8, length: usize, other: *const u8, other_length: usize) -> u64;
     }
 }
@@ -116,6 +127,10 @@ pub fn run(store: &mut [u8], events: &[u64], data: &[u8], area: &mut [u8], answe
             answers.len(),
         )
     }
+}
+
+pub fn bag(store: &[u8], relays: &mut [Relay]) -> BagAnswer {
+    unsafe { calls::disk_bag(store.as_ptr(), store.len(), relays.as_mut_ptr(), relays.len()) }
 }
 
 pub fn alike(store: &[u8], other: &[u8]) -> u64 {

@@ -206,23 +206,23 @@ module _ {M : Type 1} (𝓤 : URA M) (H : Heap 𝓤) (A : Atoms 𝓤) (W : Given
     more i zs X small so-far same k =
         qed W (At i zs) ∵ exec ! C Λ En Mir.turn-1 (anyQ (afterTurn 𝓤 H X Left)) $
         assigns ! (bin ! (load ! (from ! (stop !)) (look ! 1 refl)) (load ! (from ! (stop !)) (look ! 10 refl)) tt) (from ! (stop !)) (init ! 2 refl (tt, tt)) $ rewrite ! 2 (λ (t : Bool). ‵ (fat fullShare tyBool l₈ 0 (vbool t))) (less i count small) refl $ stays ! (load ! (from ! (stop !)) (look ! 2 refl)) $
-        assigns ! (addr ! (from ! (fld ! refl (hop ! (look-in ! 11 (sub ! 0 refl (whole !))) (stop !))))) (from ! (stop !)) (init ! 4 refl (tt, tt)) $ assigns ! (agg ! (and-then ! (load ! (from ! (stop !)) (look ! 4 refl)) (and-then ! (load ! (from ! (fld ! refl (stop !))) (look-in ! 11 (sub ! 1 refl (whole !)))) (no-more !)))) (from ! (stop !)) (init ! 5 refl (tt, (tt, (record { fits = part-room .0 }, tt)))) $ assigns ! (bin ! (load ! (from ! (stop !)) (look ! 1 refl)) (lit ! tt) (scaled-fits i n bytes i-in (room .1))) (from ! (stop !)) (init ! 6 refl (tt, scaled-fits i n bytes i-in (room .1))) $ assigns ! (bin ! (load ! (from ! (fld ! refl (stop !))) (look-in ! 9 (sub ! 0 refl (whole !)))) (load ! (from ! (stop !)) (look ! 6 refl)) tt) (from ! (stop !)) (init ! 7 refl (tt, tt)) $ rewrite ! 7 (λ (a : ℕ). ‵ (fat fullShare tyPtr l₁₃ 0 (vptr b a))) (sym (place-is bytes o i)) refl $ 
+        assigns ! (addr ! (from ! (fld ! refl (hop ! (look-in ! 11 (sub ! 0 refl (whole !))) (stop !))))) (from ! (stop !)) (init ! 4 refl (tt, tt)) $ assigns ! (agg ! (and-then ! (load ! (from ! (stop !)) (look ! 4 refl)) (and-then ! (load ! (from ! (fld ! refl (stop !))) (look-in ! 11 (sub ! 1 refl (whole !)))) (no-more !)))) (from ! (stop !)) (init ! 5 refl (tt, (tt, (record { fits = part-room .0 }, tt)))) $ assigns ! (bin ! (load ! (from ! (stop !)) (look ! 1 refl)) (lit ! tt) (scaled-fits i n bytes i-in (room .1))) (from ! (stop !)) (init ! 6 refl (tt, scaled-fits i n bytes i-in (room .1))) $ assigns ! (bin ! (load ! (from ! (fld ! refl (stop !))) (look-in ! 9 (sub ! 0 refl (whole !)))) (load ! (from ! (stop !)) (look ! 6 refl)) tt) (from ! (stop !)) (init ! 7 refl (tt, tt)) $ rewrite ! 7 (λ (a : ℕ). ‵ (fat fullShare tyPtr l₁₃ 0 (vptr b a))) (sym (place-is bytes o i)) refl $
         -- the record's cell is read: a copy of what list owns is looked into
-        move ! (17 ∷ []) $ use1 W (‵ Records ⊛ ‵ Records) (shr-slice-copy 𝓤 H A W (named 0) κ R .twice x (lv ∷ [])) $ split ! $ fsplit ! $ leave ! $ fsplit ! $ leave ! $ move ! (0 ∷ 18 ∷ []) $ 
-        looks-slice ! tt R (Is R) (shows 𝓤 H A R) machs tells (copies 𝓤 H A W) ys b o (λ s. elem-out ! R (Is R) (shows 𝓤 H A R) machs tells s ys i blank b o i-in (λ g. 
-        assigns ! (of-opd ! (load ! (from ! (hop ! (look ! 13 refl) (stop !))) (look-raw ! 0 refl))) (from ! (stop !)) (init ! 14 refl (lawful 𝓤 H A W .typed (getD ys i blank) _ g .0)) $ elem-back ! R s ys i blank (machs (getD ys i blank)) b o i-in $ shuts-slice ! tt R s ys b o $ 
+        move ! (17 ∷ []) $ use1 W (‵ Records ⊛ ‵ Records) (shr-slice-copy 𝓤 H A W (named 0) κ R .twice x (lv ∷ [])) $ split ! $ fsplit ! $ leave ! $ fsplit ! $ leave ! $ move ! (0 ∷ 18 ∷ []) $
+        looks-slice ! tt R (Is R) (shows 𝓤 H A R) machs tells (copies 𝓤 H A W) ys b o (λ s. elem-out ! R (Is R) (shows 𝓤 H A R) machs tells s ys i blank b o i-in (λ g.
+        assigns ! (of-opd ! (load ! (from ! (hop ! (look ! 13 refl) (stop !))) (look-raw ! 0 refl))) (from ! (stop !)) (init ! 14 refl (lawful 𝓤 H A W .typed (getD ys i blank) _ g .0)) $ elem-back ! R s ys i blank (machs (getD ys i blank)) b o i-in $ shuts-slice ! tt R s ys b o $
         -- the words are lent for a lifetime ν of the call
-        lft-new ! tt (λ ν. move ! (4 ∷ []) $ use1 W (later (some (λ (δ : GName). ‵ (MutSlice (named 0) (ν ∷ []) u8 .own (p δ zs) (pv (length zs) ∷ [])) ⊛ ‵ (flent (ν ∷ []) (Held u8 (length zs) pb po δ))))) (lends-slice 𝓤 H A W u8 (named 0) (ν ∷ []) zs pb po here-room) $ await ! tt $ pick ! (λ δ. split ! $ 
-        rewrite ! 0 (λ (m : ℕ). ‵ (MutSlice (named 0) (ν ∷ []) u8 .own (p δ zs) (pv m ∷ []))) same refl $ move ! (2 ∷ 0 ∷ []) $ use2 W (raw (Append 𝓤 H A memory run .pre (to-append ν δ zs (getD ys i blank)))) (asks-append ν δ zs (getD ys i blank) g asked) $ 
-        calls-at ! (fmOf 𝓤 H (W .laws) 𝓣) (Append 𝓤 H A memory run) known (to-append ν δ zs (getD ys i blank)) (and-then ! (load ! (from ! (stop !)) (look ! 9 refl)) (and-then ! (load ! (from ! (stop !)) (look ! 12 refl)) (no-more !))) (λ w. 
+        lft-new ! tt (λ ν. move ! (4 ∷ []) $ use1 W (later (some (λ (δ : GName). ‵ (MutSlice (named 0) (ν ∷ []) u8 .own (p δ zs) (pv (length zs) ∷ [])) ⊛ ‵ (flent (ν ∷ []) (Held u8 (length zs) pb po δ))))) (lends-slice 𝓤 H A W u8 (named 0) (ν ∷ []) zs pb po here-room) $ await ! tt $ pick ! (λ δ. split ! $
+        rewrite ! 0 (λ (m : ℕ). ‵ (MutSlice (named 0) (ν ∷ []) u8 .own (p δ zs) (pv m ∷ []))) same refl $ move ! (2 ∷ 0 ∷ []) $ use2 W (raw (Append 𝓤 H A memory run .pre (to-append ν δ zs (getD ys i blank)))) (asks-append ν δ zs (getD ys i blank) g asked) $
+        calls-at ! (fmOf 𝓤 H (W .laws) 𝓣) (Append 𝓤 H A memory run) known (to-append ν δ zs (getD ys i blank)) (and-then ! (load ! (from ! (stop !)) (look ! 9 refl)) (and-then ! (load ! (from ! (stop !)) (look ! 12 refl)) (no-more !))) (λ w.
         -- what `append` ensures, at some last list
-        use1 W (later (some (λ (r : Unit {0}). ((‵ (flft (ν ∷ []) fullShare) ⊛ ‵ ftrue) ⊛ ‵ (unit .own r (w ∷ []))) ⊛ raw (ensured 𝓤 H A append.ended (append.clauses 𝓤 H A memory run) (ν ∷ [], tt) (p δ zs, (getD ys i blank, tt)) tt r)))) (id⊢ 𝓤 _) $ await ! tt $ pick ! (λ r. 
-        split ! $ move ! (1 ∷ []) $ use1 W (some (λ (vs : List ℕ × (Unit {0} × Unit {0})). ‵ (lasts append.ended (ν ∷ [], tt) (p δ zs, (getD ys i blank, tt)) vs) ⊛ raw (fact 𝓤 (Appended i zs (vs .0))))) (id⊢ 𝓤 _) $ pick ! (λ vs. 
-        split ! $ move ! (1 ∷ []) $ heard ! (Appended i zs (vs .0)) (λ e. fsplit ! $ fsplit ! $ move ! (1 ∷ []) $ feqL ! (λ l. 
-        move ! (2 ∷ []) $ split ! $ move ! (1 ∷ []) $ peeks ! unit (Is unit) (shows 𝓤 H A unit) r (w ∷ []) (λ is. land ! (from ! (stop !)) (init ! 10 refl (nothing-lawful 𝓤 H A W .typed r _ is .0)) $ 
+        use1 W (later (some (λ (r : Unit {0}). ((‵ (flft (ν ∷ []) fullShare) ⊛ ‵ ftrue) ⊛ ‵ (unit .own r (w ∷ []))) ⊛ raw (ensured 𝓤 H A append.ended (append.clauses 𝓤 H A memory run) (ν ∷ [], tt) (p δ zs, (getD ys i blank, tt)) tt r)))) (id⊢ 𝓤 _) $ await ! tt $ pick ! (λ r.
+        split ! $ move ! (1 ∷ []) $ use1 W (some (λ (vs : List ℕ × (Unit {0} × Unit {0})). ‵ (lasts append.ended (ν ∷ [], tt) (p δ zs, (getD ys i blank, tt)) vs) ⊛ raw (fact 𝓤 (Appended i zs (vs .0))))) (id⊢ 𝓤 _) $ pick ! (λ vs.
+        split ! $ move ! (1 ∷ []) $ heard ! (Appended i zs (vs .0)) (λ e. fsplit ! $ fsplit ! $ move ! (1 ∷ []) $ feqL ! (λ l.
+        move ! (2 ∷ []) $ split ! $ move ! (1 ∷ []) $ peeks ! unit (Is unit) (shows 𝓤 H A unit) r (w ∷ []) (λ is. land ! (from ! (stop !)) (init ! 10 refl (nothing-lawful 𝓤 H A W .typed r _ is .0)) $
         -- the lifetime is ended, and the words come back
-        move ! (1 ∷ []) $ split ! $ lft-end ! tt $ move ! (0 ∷ 5 ∷ 3 ∷ []) $ use3 W (later (‵ (Lie (vs .0)))) (mut-back 𝓤 H A W u8 (ν ∷ []) δ (vs .0) (length zs) pb po) $ await ! tt $ 
-        keep ! (0 ∷ 7 ∷ 8 ∷ 9 ∷ 10 ∷ 11 ∷ 12 ∷ 13 ∷ 14 ∷ 15 ∷ 16 ∷ 17 ∷ 18 ∷ 19 ∷ 20 ∷ 21 ∷ 4 ∷ 6 ∷ 22 ∷ 23 ∷ 24 ∷ 25 ∷ 26 ∷ 27 ∷ 28 ∷ 29 ∷ 30 ∷ 31 ∷ 32 ∷ 33 ∷ 34 ∷ 35 ∷ 36 ∷ 37 ∷ 38 ∷ 39 ∷ []) $ 
+        move ! (1 ∷ []) $ split ! $ lft-end ! tt $ move ! (0 ∷ 5 ∷ 3 ∷ []) $ use3 W (later (‵ (Lie (vs .0)))) (mut-back 𝓤 H A W u8 (ν ∷ []) δ (vs .0) (length zs) pb po) $ await ! tt $
+        keep ! (0 ∷ 7 ∷ 8 ∷ 9 ∷ 10 ∷ 11 ∷ 12 ∷ 13 ∷ 14 ∷ 15 ∷ 16 ∷ 17 ∷ 18 ∷ 19 ∷ 20 ∷ 21 ∷ 4 ∷ 6 ∷ 22 ∷ 23 ∷ 24 ∷ 25 ∷ 26 ∷ 27 ∷ 28 ∷ 29 ∷ 30 ∷ 31 ∷ 32 ∷ 33 ∷ 34 ∷ 35 ∷ 36 ∷ 37 ∷ 38 ∷ 39 ∷ []) $
         assigns-last ! (bin ! (load ! (from ! (stop !)) (look ! 1 refl)) (lit ! tt) (record { fits = next-fits })) (from ! (stop !)) (store ! 1 refl (tt, record { fits = next-fits })) $ rewrite ! 1 (λ (j : ℕ). ‵ (fat fullShare word l₄ 0 (vint w64 j))) one-more refl $ forget ! 2 refl $ forget ! 3 refl $ forget ! 4 refl $ forget ! 5 refl $ forget ! 6 refl $ forget ! 7 refl $ forget ! 8 refl $ by ! (k (vs .0) e l)))))))))))
       where
         i-in : i < n
@@ -248,12 +248,12 @@ module _ {M : Type 1} (𝓤 : URA M) (H : Heap 𝓤) (A : Atoms 𝓤) (W : Given
     unfolding afterTurn
     ends i zs f X =
         qed W (At i zs) ∵ exec ! C Λ En Mir.turn-1 (anyQ (afterTurn 𝓤 H X Left)) $
-        assigns ! (bin ! (load ! (from ! (stop !)) (look ! 1 refl)) (load ! (from ! (stop !)) (look ! 10 refl)) tt) (from ! (stop !)) (init ! 2 refl (tt, tt)) $ rewrite ! 2 (λ (t : Bool). ‵ (fat fullShare tyBool l₈ 0 (vbool t))) (not-less i count (omega (arith, f .0))) refl $ 
-        leaves-loop ! (load ! (from ! (stop !)) (look ! 2 refl)) $ exec ! C Λ En Mir.t-6 (atRet En Post) $ assigns ! (of-opd ! (unit-lit !)) (from ! (stop !)) (init ! 12 refl (tt, tt)) $ 
-        use1 W (‵ (row u8 fullShare zs pb po)) (whole-out 𝓤 H A W u8 zs pb po) $ move ! (0 ∷ 18 ∷ 19 ∷ 20 ∷ []) $ closes-slice ! tt u8 bs zs (f .2) pb po $ 
+        assigns ! (bin ! (load ! (from ! (stop !)) (look ! 1 refl)) (load ! (from ! (stop !)) (look ! 10 refl)) tt) (from ! (stop !)) (init ! 2 refl (tt, tt)) $ rewrite ! 2 (λ (t : Bool). ‵ (fat fullShare tyBool l₈ 0 (vbool t))) (not-less i count (omega (arith, f .0))) refl $
+        leaves-loop ! (load ! (from ! (stop !)) (look ! 2 refl)) $ exec ! C Λ En Mir.t-6 (atRet En Post) $ assigns ! (of-opd ! (unit-lit !)) (from ! (stop !)) (init ! 12 refl (tt, tt)) $
+        use1 W (‵ (row u8 fullShare zs pb po)) (whole-out 𝓤 H A W u8 zs pb po) $ move ! (0 ∷ 18 ∷ 19 ∷ 20 ∷ []) $ closes-slice ! tt u8 bs zs (f .2) pb po $
         -- [obs; the borrow; the token; …]
-        returns ! (look ! 14 refl) $ forget ! 14 refl $ forget ! 11 refl $ forget ! 12 refl $ forget ! 13 refl $ forget ! 3 refl $ forget ! 4 refl $ 
-        move ! (14 ∷ 20 ∷ []) $ free1 ! $ move ! (11 ∷ 19 ∷ []) $ free1 ! $ move ! (11 ∷ 18 ∷ []) $ free1 ! $ move ! (11 ∷ 17 ∷ []) $ free1 ! $ move ! (3 ∷ 16 ∷ []) $ free1 ! $ move ! (10 ∷ 15 ∷ []) $ free1 ! $ move ! (10 ∷ 14 ∷ []) $ free1 ! $ move ! (10 ∷ 13 ∷ []) $ free1 ! $ move ! (3 ∷ 12 ∷ []) $ free1 ! $ move ! (3 ∷ 11 ∷ []) $ free1 ! $ move ! (3 ∷ 10 ∷ []) $ free1 ! $ move ! (3 ∷ 9 ∷ []) $ free1 ! $ move ! (3 ∷ 8 ∷ []) $ free1 ! $ move ! (3 ∷ 7 ∷ []) $ free1 ! $ move ! (3 ∷ 6 ∷ []) $ free1 ! $ free0 ! $ 
+        returns ! (look ! 14 refl) $ forget ! 14 refl $ forget ! 11 refl $ forget ! 12 refl $ forget ! 13 refl $ forget ! 3 refl $ forget ! 4 refl $
+        move ! (14 ∷ 20 ∷ []) $ free1 ! $ move ! (11 ∷ 19 ∷ []) $ free1 ! $ move ! (11 ∷ 18 ∷ []) $ free1 ! $ move ! (11 ∷ 17 ∷ []) $ free1 ! $ move ! (3 ∷ 16 ∷ []) $ free1 ! $ move ! (10 ∷ 15 ∷ []) $ free1 ! $ move ! (10 ∷ 14 ∷ []) $ free1 ! $ move ! (10 ∷ 13 ∷ []) $ free1 ! $ move ! (3 ∷ 12 ∷ []) $ free1 ! $ move ! (3 ∷ 11 ∷ []) $ free1 ! $ move ! (3 ∷ 10 ∷ []) $ free1 ! $ move ! (3 ∷ 9 ∷ []) $ free1 ! $ move ! (3 ∷ 8 ∷ []) $ free1 ! $ move ! (3 ∷ 7 ∷ []) $ free1 ! $ move ! (3 ∷ 6 ∷ []) $ free1 ! $ free0 ! $
         keep ! (0 ∷ 1 ∷ 2 ∷ 3 ∷ 4 ∷ []) $ by ! (exits zs (f .2) (subst (λ (k : ℕ). words zs ≡ bag-codec .enc (bag-of k ys) (words bs)) all (f .1)))
       where
         all : i ≡ count
@@ -281,20 +281,20 @@ module _ {M : Type 1} (𝓤 : URA M) (H : Heap 𝓤) (A : Atoms 𝓤) (W : Given
   walk 𝓣 clears known =
       qed W ((‵ (flft κ q) ⊛ ‵ (flft κ′ q′) ⊛ ‵ ftrue) ∷ ‵ (owns (ShrSlice (named 0) κ R ∷ usize ∷ MutSlice (named 1) κ′ u8 ∷ []) (x, (count, (p γ′ bs, tt))) at) ∷ []) ∵ enter ! (𝓣 .C) (𝓣 .Λ) code.function (lv ∷ vint w64 count ∷ pv (length bs) ∷ []) _ $
       alloc1 ! (λ l₀. alloc1 ! (λ l₁. alloc1 ! (λ l₂. alloc1 ! (λ l₃. alloc1 ! (λ l₄. alloc1 ! (λ l₅. alloc1 ! (λ l₆. alloc1 ! (λ l₇. alloc1 ! (λ l₈. alloc1 ! (λ l₉. alloc1 ! (λ l₁₀. alloc1 ! (λ l₁₁. alloc1 ! (λ l₁₂. alloc1 ! (λ l₁₃. alloc1 ! (λ l₁₄. alloc0 ! $ params1 ! $
-      pass1 ! (init ! 26 refl (tt, (tt, (record { fits = room .0 }, tt)))) $ pass1 ! (init ! 24 refl (tt, record { fits = count-fits })) $ pass1 ! (init ! 22 refl (tt, (tt, (record { fits = part-room .0 }, tt)))) $ pass0 ! $ 
-      assigns ! (addr ! (from ! (fld ! refl (hop ! (look-in ! 22 (sub ! 0 refl (whole !))) (stop !))))) (from ! (stop !)) (init ! 16 refl (tt, tt)) $ assigns ! (agg ! (and-then ! (load ! (from ! (stop !)) (look ! 16 refl)) (and-then ! (load ! (from ! (fld ! refl (stop !))) (look-in ! 22 (sub ! 1 refl (whole !)))) (no-more !)))) (from ! (stop !)) (init ! 14 refl (tt, (tt, (record { fits = part-room .0 }, tt)))) $ 
+      pass1 ! (init ! 26 refl (tt, (tt, (record { fits = room .0 }, tt)))) $ pass1 ! (init ! 24 refl (tt, record { fits = count-fits })) $ pass1 ! (init ! 22 refl (tt, (tt, (record { fits = part-room .0 }, tt)))) $ pass0 ! $
+      assigns ! (addr ! (from ! (fld ! refl (hop ! (look-in ! 22 (sub ! 0 refl (whole !))) (stop !))))) (from ! (stop !)) (init ! 16 refl (tt, tt)) $ assigns ! (agg ! (and-then ! (load ! (from ! (stop !)) (look ! 16 refl)) (and-then ! (load ! (from ! (fld ! refl (stop !))) (look-in ! 22 (sub ! 1 refl (whole !)))) (no-more !)))) (from ! (stop !)) (init ! 14 refl (tt, (tt, (record { fits = part-room .0 }, tt)))) $
       -- what the parameters own, and the borrow of part, opened
-      move ! (31 ∷ []) $ fsplit ! $ move ! (1 ∷ []) $ fsplit ! $ leave ! $ fsplit ! $ move ! (33 ∷ []) $ split ! $ move ! (1 ∷ []) $ split ! $ move ! (3 ∷ []) $ fsplit ! $ move ! (1 ∷ []) $ fsplit ! $ move ! (0 ∷ 1 ∷ 3 ∷ []) $ opens-slice ! tt u8 bs pb po $ use1 W (‵ (Lie bs)) (whole-in 𝓤 H A W u8 bs pb po) $ 
-      lft-new ! tt (λ ν. move ! (1 ∷ []) $ use1 W (later (some (λ (δ : GName). ‵ (MutSlice (named 0) (ν ∷ []) u8 .own (p δ bs) (pv (length bs) ∷ [])) ⊛ ‵ (flent (ν ∷ []) (Held u8 (length bs) pb po δ))))) (lends-slice 𝓤 H A W u8 (named 0) (ν ∷ []) bs pb po part-room) $ await ! tt $ pick ! (λ δ. split ! $ move ! (2 ∷ 0 ∷ []) $ use2 W (raw (Clear 𝓤 H A memory run .pre (to-clear ν δ))) (asks-clear ν δ) $ 
-      calls-at ! (fmOf 𝓤 H (W .laws) 𝓣) (Clear 𝓤 H A memory run) clears (to-clear ν δ) (and-then ! (load ! (from ! (stop !)) (look ! 24 refl)) (no-more !)) (λ w. 
+      move ! (31 ∷ []) $ fsplit ! $ move ! (1 ∷ []) $ fsplit ! $ leave ! $ fsplit ! $ move ! (33 ∷ []) $ split ! $ move ! (1 ∷ []) $ split ! $ move ! (3 ∷ []) $ fsplit ! $ move ! (1 ∷ []) $ fsplit ! $ move ! (0 ∷ 1 ∷ 3 ∷ []) $ opens-slice ! tt u8 bs pb po $ use1 W (‵ (Lie bs)) (whole-in 𝓤 H A W u8 bs pb po) $
+      lft-new ! tt (λ ν. move ! (1 ∷ []) $ use1 W (later (some (λ (δ : GName). ‵ (MutSlice (named 0) (ν ∷ []) u8 .own (p δ bs) (pv (length bs) ∷ [])) ⊛ ‵ (flent (ν ∷ []) (Held u8 (length bs) pb po δ))))) (lends-slice 𝓤 H A W u8 (named 0) (ν ∷ []) bs pb po part-room) $ await ! tt $ pick ! (λ δ. split ! $ move ! (2 ∷ 0 ∷ []) $ use2 W (raw (Clear 𝓤 H A memory run .pre (to-clear ν δ))) (asks-clear ν δ) $
+      calls-at ! (fmOf 𝓤 H (W .laws) 𝓣) (Clear 𝓤 H A memory run) clears (to-clear ν δ) (and-then ! (load ! (from ! (stop !)) (look ! 24 refl)) (no-more !)) (λ w.
       -- what `clear` ensures, at some last list
-      use1 W (later (some (λ (r : Unit {0}). ((‵ (flft (ν ∷ []) fullShare) ⊛ ‵ ftrue) ⊛ ‵ (unit .own r (w ∷ []))) ⊛ raw (ensured 𝓤 H A clear.ended (clear.clauses 𝓤 H A memory run) (ν ∷ [], tt) (p δ bs, tt) tt r)))) (id⊢ 𝓤 _) $ await ! tt $ pick ! (λ r. 
-      split ! $ move ! (1 ∷ []) $ use1 W (some (λ (vs : List ℕ × Unit {0}). ‵ (lasts clear.ended (ν ∷ [], tt) (p δ bs, tt) vs) ⊛ raw (fact 𝓤 (words (vs .0) ≡ bag-codec .enc [] (words bs))))) (id⊢ 𝓤 _) $ pick ! (λ vs. 
-      split ! $ move ! (1 ∷ []) $ heard ! (words (vs .0) ≡ bag-codec .enc [] (words bs)) (λ e. fsplit ! $ fsplit ! $ move ! (1 ∷ []) $ feqL ! (λ l. 
-      move ! (2 ∷ []) $ split ! $ move ! (1 ∷ []) $ peeks ! unit (Is unit) (shows 𝓤 H A unit) r (w ∷ []) (λ is. land ! (from ! (stop !)) (init ! 31 refl (nothing-lawful 𝓤 H A W .typed r _ is .0)) $ 
+      use1 W (later (some (λ (r : Unit {0}). ((‵ (flft (ν ∷ []) fullShare) ⊛ ‵ ftrue) ⊛ ‵ (unit .own r (w ∷ []))) ⊛ raw (ensured 𝓤 H A clear.ended (clear.clauses 𝓤 H A memory run) (ν ∷ [], tt) (p δ bs, tt) tt r)))) (id⊢ 𝓤 _) $ await ! tt $ pick ! (λ r.
+      split ! $ move ! (1 ∷ []) $ use1 W (some (λ (vs : List ℕ × Unit {0}). ‵ (lasts clear.ended (ν ∷ [], tt) (p δ bs, tt) vs) ⊛ raw (fact 𝓤 (words (vs .0) ≡ bag-codec .enc [] (words bs))))) (id⊢ 𝓤 _) $ pick ! (λ vs.
+      split ! $ move ! (1 ∷ []) $ heard ! (words (vs .0) ≡ bag-codec .enc [] (words bs)) (λ e. fsplit ! $ fsplit ! $ move ! (1 ∷ []) $ feqL ! (λ l.
+      move ! (2 ∷ []) $ split ! $ move ! (1 ∷ []) $ peeks ! unit (Is unit) (shows 𝓤 H A unit) r (w ∷ []) (λ is. land ! (from ! (stop !)) (init ! 31 refl (nothing-lawful 𝓤 H A W .typed r _ is .0)) $
       -- the lifetime is ended, and the words come back
-      move ! (1 ∷ []) $ split ! $ lft-end ! tt $ move ! (0 ∷ 5 ∷ 3 ∷ []) $ use3 W (later (‵ (Lie (vs .0)))) (mut-back 𝓤 H A W u8 (ν ∷ []) δ (vs .0) (length bs) pb po) $ await ! tt $ 
-      assigns ! (of-opd ! (lit ! tt)) (from ! (stop !)) (init ! 32 refl (tt, record { fits = lit< tt })) $ forget ! 30 refl $ forget ! 28 refl $ forget ! 26 refl $ 
+      move ! (1 ∷ []) $ split ! $ lft-end ! tt $ move ! (0 ∷ 5 ∷ 3 ∷ []) $ use3 W (later (‵ (Lie (vs .0)))) (mut-back 𝓤 H A W u8 (ν ∷ []) δ (vs .0) (length bs) pb po) $ await ! tt $
+      assigns ! (of-opd ! (lit ! tt)) (from ! (stop !)) (init ! 32 refl (tt, record { fits = lit< tt })) $ forget ! 30 refl $ forget ! 28 refl $ forget ! 26 refl $
       keep ! (0 ∷ 32 ∷ 24 ∷ 22 ∷ 20 ∷ 18 ∷ 16 ∷ 14 ∷ 12 ∷ 38 ∷ 36 ∷ 34 ∷ 40 ∷ 30 ∷ 28 ∷ 26 ∷ 9 ∷ 11 ∷ 4 ∷ 5 ∷ 6 ∷ 41 ∷ 39 ∷ 37 ∷ 35 ∷ 33 ∷ 31 ∷ 29 ∷ 27 ∷ 25 ∷ 23 ∷ 21 ∷ 19 ∷ 17 ∷ 15 ∷ 13 ∷ []) $ by ! (loops 𝓣 known l₀ l₁ l₂ l₃ l₄ l₅ l₆ l₇ l₈ l₉ l₁₀ l₁₁ l₁₂ l₁₃ l₁₄ (vs .0) e l))))))))))))))))))))))))
 
 module _ {M : Type 1} (𝓤 : URA M) (H : Heap 𝓤) (A : Atoms 𝓤) (W : Given 𝓤 H A) (memory : Memory → SProp 𝓤) (run : Routine → Fun 𝓤) where
