@@ -41,10 +41,13 @@ one-fewer (x ∷ bag) zero h = refl
 one-fewer (x ∷ bag) (suc index) h = ap suc (one-fewer bag index (omega (arith, h)))
 
 -- what is stored of records that begin with a bag
-stored-of : (bag : List Held) (n : ℕ) (left list : List Relay) (ws after : List ℕ) → length bag ≡ n → relays-of left ≡ over bag list → Stores left n ws after → after ≡ bag-codec .enc bag ws
-stored-of bag n left list ws after many e stored = stored ∙ ap (λ (m : ℕ). bag-codec .enc (bag-of m left) ws) (sym many) ∙ ap (λ (l : List Held). bag-codec .enc l ws) (bag-over bag left list e)
+stored-of : (bag : List Held) (n : ℕ) (left list : List Relay) (ws after : List ℕ) → length bag ≡ n → relays-of left ≡ over bag list → Stores left n ws after
+    → after ≡ bag-codec .enc bag ws
+stored-of bag n left list ws after many e stored = stored ∙ ap (λ (m : ℕ). bag-codec .enc (bag-of m left) ws) (sym many) ∙ ap
+    (λ (l : List Held). bag-codec .enc l ws) (bag-over bag left list e)
 
-module _ (part : List ℕ) (before list : List Relay) (count : ℕ) (table : IsTable relay-words max-relays (words part) (length part)) (loaded : Loads (words part) before count list) where
+module _ (part : List ℕ) (before list : List Relay) (count : ℕ) (table : IsTable relay-words max-relays (words part) (length part))
+    (loaded : Loads (words part) before count list) where
   abbrev ws : List ℕ
   ws = words part
 
@@ -67,21 +70,25 @@ module _ (part : List ℕ) (before list : List Relay) (count : ℕ) (table : IsT
   inside index small = both (ltb index count) (leb count (length list)) (lt-ltb index count small) (le-leb count (length list) (enough count list many))
 
   -- the relay at an index is gone, and the records are stored
-  gone : (index : ℕ) (left : List Relay) (after : List ℕ) → index < count → relays-of left ≡ cond (is-within index count list) (without index count list) (relays-of list) → Stores left (count - 1) ws after
+  gone : (index : ℕ) (left : List Relay) (after : List ℕ) → index < count → relays-of left ≡ cond (is-within index count list) (without index count list)
+      (relays-of list) → Stores left (count - 1) ws after
       → after ≡ change bag-codec (λ l. remove-at l index) ws
   gone index left after small e stored =
-      stored-of (remove-at bag index) (count - 1) left list ws after (let fewer = one-fewer bag index (omega (arith, many, small)) in omega (arith, fewer, many)) (rw (inside index small) at e) stored
+      stored-of (remove-at bag index) (count - 1) left list ws after
+      (let fewer = one-fewer bag index (omega (arith, many, small)) in omega (arith, fewer, many)) (rw (inside index small) at e) stored
       ∙ ap (λ (l : List Held). bag-codec .enc (remove-at l index) ws) same
 
   pub as-on-words : AsOnWords ws list count
   unfolding first-no
   as-on-words = record {
     loads = same;
-    stores = λ after stored. ap (bag-codec .dec) (stored ∙ table-is relay-row max-relays bag ws (omega (arith, many, few))) ∙ typed-back relay-exact max-relays ws whole bag;
+    stores = λ after stored. ap (bag-codec .dec) (stored ∙ table-is relay-row max-relays bag ws (omega (arith, many, few)))
+        ∙ typed-back relay-exact max-relays ws whole bag;
     sends = λ relay code left after small there said stored.
         let room = both (ltb count (length list)) (ltb count max-relays) (lt-ltb count (length list) there) (lt-ltb count max-relays small) in (
           rw room at (said .number),
-          stored-of (bag ++ relay-of relay ∷ []) (suc count) left list ws after (length-append bag (relay-of relay ∷ []) ∙ omega (arith, many)) (rw room at (said .records)) stored
+          stored-of (bag ++ relay-of relay ∷ []) (suc count) left list ws after (length-append bag (relay-of relay ∷ []) ∙ omega (arith, many))
+              (rw room at (said .records)) stored
               ∙ ap (λ (l : List Held). bag-codec .enc (l ++ relay-of relay ∷ []) ws) same,
         );
     drops = λ index code left after small said stored. (rw (inside index small) at (said .number), gone index left after small (said .records) stored);

@@ -4,16 +4,16 @@ use mathlib.Core.Bool.{true, false}
 use mathlib.Core.List.{List, [], _∷_, _++_}
 use Prim.Native.Nat.{ℕ, zero, suc, _<_, _≤_}
 use native.Mathlib.Omega.{arith}
-use borrow.Author.Tests.{ltb-true}
+use borrow.Author.Tests.{ltb-true, leb-true}
 use lib.ListN.{length, getD, set, take, drop}
-use Rattle.lists.proofs.Tests.{and-l}
+use Rattle.lists.proofs.Tests.{and-l, and-r}
 use Rattle.rules.specs.State.{Relay as Held}
 use Rattle.rules.specs.Question.{first-no}
 use Rattle.relay_list.specs.declared.Relay.{Relay}
 use Rattle.relay_list.specs.declared.Sent.the-variants.{Sent as Yes, NoRoom}
 use Rattle.relay_list.specs.declared.Delivered.the-variants.{Is, NoSuch}
 use Rattle.relay_list.specs.declared.Dropped.the-variants.{Dropped as Gone, NoSuch as NoneThere}
-use Rattle.relay_list.specs.Relays.{relay-of, relays-of, bag-of, over, has-room, is-within, relay-at, sent-number, delivered-number, delivered-relay, dropped-number, Sends, Drops, Delivers, Loses}
+use Rattle.relay_list.specs.Relays.{relay-of, relays-of, bag-of, over, has-room, is-within, relay-at, sent-number, delivered-number, delivered-relay, dropped-number, Sends, Drops, Delivers, Loses, Within}
 use Rattle.relay_list.proofs.Elements.{blank}
 
 abbrev put-first : Relay → List Held → List Held
@@ -63,6 +63,9 @@ unfolding first-no
 unsent count r list full = record { number = rw full; records = rw full }
 
 -- ---- a relay leaves, or is not there
+pub within-is : (index count : ℕ) (list : List Relay) → is-within index count list ≡ true → Within index count list
+within-is index count list there = (ltb-true index count (and-l _ _ there), leb-true count (length list) (and-r _ _ there))
+
 module _ (count index : ℕ) (list : List Relay) where
   pub dropped : (after : List Relay) → is-within index count list ≡ true → Loses count index list after → Drops count index list (dropped-number Gone) after
   unfolding first-no
@@ -72,7 +75,8 @@ module _ (count index : ℕ) (list : List Relay) where
   unfolding first-no
   undropped none = record { number = rw none; records = rw none }
 
-  pub delivered : (relay : Relay) (after : List Relay) → is-within index count list ≡ true → relay-of relay ≡ relay-at index count list → Loses count index list after
+  pub delivered : (relay : Relay) (after : List Relay) → is-within index count list ≡ true → relay-of relay ≡ relay-at index count list
+      → Loses count index list after
       → Delivers count index list (delivered-number (Is relay)) (delivered-relay (Is relay)) after
   unfolding first-no
   delivered relay after there same e = record { number = rw there; given = rw there same; records = rw there e }

@@ -42,4 +42,5 @@ pub lost : (count index : ℕ) (l : List Relay) → index < count → count ≤ 
 lost count index l within few =
     let all : suc (count - 1) ≡ count = omega (arith, within) in
     let left : index + (count - 1 - index) ≡ count - 1 = omega (arith, within) in
-    subst (λ (m : ℕ). Loses m index l (shift (count - 1 - index) index l)) all (gap-closed index (count - 1 - index) (count - 1) l left (omega (arith, within, few)))
+    subst (λ (m : ℕ). Loses m index l (shift (count - 1 - index) index l)) all
+    (gap-closed index (count - 1 - index) (count - 1) l left (omega (arith, within, few)))

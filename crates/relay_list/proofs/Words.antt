@@ -17,7 +17,8 @@ use Rattle.lists.specs.Rows.{table-enc}
 use Rattle.relay_list.specs.declared.Relay.{Relay}
 use Rattle.relay_list.specs.Relays.{relay-of, relays-of, over, Loads}
 
-pub made : (r : Relay) (h : Held) → r .view .0 ≡ h .view → r .bucket ≡ h .bucket → r .order ≡ h .order → r .block .0 ≡ h .block → r .key .0 ≡ h .key → relay-of r ≡ h
+pub made : (r : Relay) (h : Held) → r .view .0 ≡ h .view → r .bucket ≡ h .bucket → r .order ≡ h .order → r .block .0 ≡ h .block → r .key .0 ≡ h .key
+    → relay-of r ≡ h
 made r h view bucket order block key = λ i. record { view = view i; bucket = bucket i; order = order i; block = block i; key = key i }
 
 -- ---- records are filled one after the other with the relays that are held
@@ -26,7 +27,8 @@ read-set [] i r = refl
 read-set (x ∷ l) zero r = refl
 read-set (x ∷ l) (suc i) r = ap (λ (k : List Held). relay-of x ∷ k) (read-set l i r)
 
-fills : (i : ℕ) (held : List Held) (list : List Relay) → i < length held → length held ≤ length list → set (over (take i held) list) i (getD held i blank-relay) ≡ over (take (suc i) held) list
+fills : (i : ℕ) (held : List Held) (list : List Relay) → i < length held → length held ≤ length list → set (over (take i held) list) i
+    (getD held i blank-relay) ≡ over (take (suc i) held) list
 fills i [] list h g = absurd (omega (arith, h))
 fills i (x ∷ held) [] h g = absurd (omega (arith, g))
 fills zero (x ∷ held) (r ∷ list) h g = refl
@@ -34,12 +36,14 @@ fills (suc i) (x ∷ held) (r ∷ list) h g = ap (λ (k : List Held). x ∷ k) (
 
 pub one-more : (i : ℕ) (r : Relay) (list before : List Relay) (held : List Held) → i < length held → length held ≤ length before
     → relays-of list ≡ over (take i held) before → relay-of r ≡ getD held i blank-relay → relays-of (set list i r) ≡ over (take (suc i) held) before
-one-more i r list before held here room e same = read-set list i r ∙ ap (λ (l : List Held). set l i (relay-of r)) e ∙ ap (set (over (take i held) before) i) same ∙ fills i held before here room
+one-more i r list before held here room e same = read-set list i r ∙ ap (λ (l : List Held). set l i (relay-of r)) e ∙ ap
+    (set (over (take i held) before) i) same ∙ fills i held before here room
 
 pub held-count : (ws : List ℕ) → length ws ≡ bag-words → getD ws 0 0 ≤ max-relays → length (bag-codec .dec ws) ≡ getD ws 0 0
 held-count ws hl few = typed-length relay-exact max-relays ws hl few
 
-pub loaded : (ws : List ℕ) (before after : List Relay) → length ws ≡ bag-words → getD ws 0 0 ≤ max-relays → relays-of after ≡ over (take (getD ws 0 0) (bag-codec .dec ws)) before
+pub loaded : (ws : List ℕ) (before after : List Relay) → length ws ≡ bag-words → getD ws 0 0 ≤ max-relays → relays-of after ≡ over
+    (take (getD ws 0 0) (bag-codec .dec ws)) before
     → Loads ws before (getD ws 0 0) after
 loaded ws before after hl few e =
     let count = held-count ws hl few in

@@ -14,7 +14,8 @@ use ghost.Atoms.{Atoms}
 use sound.Loop.{loop-rule}
 use types.Kit.{Given, Item, ⋆}
 
-module _ {M : Type 1} (𝓤 : URA M) (H : Heap 𝓤) (A : Atoms 𝓤) (W : Given 𝓤 H A) (𝓣 : Tables 𝓤 H) (En : Env 𝓤 H) (turn : Body) (Left : Out → SProp 𝓤) (X : Type 0) (At : X → List (Item 𝓤)) (Facts : ℕ → X → Type 0) where
+module _ {M : Type 1} (𝓤 : URA M) (H : Heap 𝓤) (A : Atoms 𝓤) (W : Given 𝓤 H A) (𝓣 : Tables 𝓤 H) (En : Env 𝓤 H) (turn : Body) (Left : Out → SProp 𝓤) (X : Type 0)
+    (At : X → List (Item 𝓤)) (Facts : ℕ → X → Type 0) where
   abbrev had : X → SProp 𝓤
   had x = ⋆ 𝓤 H A (At x)
 
@@ -32,9 +33,11 @@ module _ {M : Type 1} (𝓤 : URA M) (H : Heap 𝓤) (A : Atoms 𝓤) (W : Given
   Below t = ex 𝓤 (λ (u : ℕ). guard 𝓤 (u < t) (Inv u))
 
   below : (t : ℕ) (x : X) → Facts t x → ent 𝓤 (had x) (Below (suc t))
-  below t x f = via 𝓤 (Inv t) (into t x f) (via 𝓤 (guard 𝓤 (t < suc t) (Inv t)) (guardI 𝓤 (t < suc t) (Inv t) (lt-suc-self t)) (exI 𝓤 (λ (u : ℕ). guard 𝓤 (u < suc t) (Inv u)) t))
+  below t x f = via 𝓤 (Inv t) (into t x f) (via 𝓤 (guard 𝓤 (t < suc t) (Inv t)) (guardI 𝓤 (t < suc t) (Inv t) (lt-suc-self t))
+      (exI 𝓤 (λ (u : ℕ). guard 𝓤 (u < suc t) (Inv u)) t))
 
-  module _ (ends : (x : X) → Facts zero x → (P : SProp 𝓤) → Turn x P) (more : (t : ℕ) (x : X) → Facts (suc t) x → (P : SProp 𝓤) → ((y : X) → Facts t y → ent 𝓤 (had y) P) → Turn x P) where
+  module _ (ends : (x : X) → Facts zero x → (P : SProp 𝓤) → Turn x P)
+      (more : (t : ℕ) (x : X) → Facts (suc t) x → (P : SProp 𝓤) → ((y : X) → Facts t y → ent 𝓤 (had y) P) → Turn x P) where
     turn-at : (t : ℕ) (x : X) → Facts t x → Turn x (Below t)
     turn-at zero x f = ends x f (Below zero)
     turn-at (suc t) x f = more t x f (Below (suc t)) (below t)

@@ -1,3 +1,4 @@
 pub mod Counted
 pub mod Lending
+pub mod Numbers
 pub mod Outcomes

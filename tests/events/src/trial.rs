@@ -4,7 +4,8 @@ use crate::damage::Damage;
 use crate::decode::decode;
 use crate::encode::encode;
 use crate::history::History;
-use crate::model::{kind, step, Answer, Call, Settings, State};
+use crate::model::{kind, step, Answer, Call, Settings, State, MOST_RELAYS};
+use call_tests::lists::Relay;
 use call_tests::store;
 use call_tests::text::model::Event;
 
@@ -64,6 +65,17 @@ pub fn proved_step(bytes: &mut [u8], call: &Call) -> Result<Answer, String> {
     Ok(Answer { code: told.code, key: told.key, data: is_read.then_some(area) })
 }
 
+/// The bag that the proved call hands out; none where it refuses.
+fn proved_bag(bytes: &[u8]) -> Option<Vec<Relay>> {
+    let mut relays = [[0; 5]; MOST_RELAYS];
+    let told = store::bag(bytes, &mut relays);
+    (told.code == 0).then(|| relays[..told.count].to_vec())
+}
+
+fn bag(state: &State) -> Vec<Relay> {
+    state.bag.iter().map(|r| [r.view.0, r.bucket as u64, r.order, r.block.0, r.key.0]).collect()
+}
+
 impl Trial {
     pub fn new(start: &Start) -> Result<Self, String> {
         let (state, proved, history) = match start {
@@ -106,6 +118,9 @@ impl Trial {
         same("answer", &told, &answer)?;
         same_bytes(&self.proved, &self.expected)?;
         same("check", store::check(&self.proved), 0)?;
+        if matches!(call.kind, kind::SEND | kind::DELIVER | kind::DROP) {
+            same("bag", proved_bag(&self.proved), Some(bag(&self.state)))?;
+        }
         if let Some(history) = &mut self.history {
             history.watch(call, &answer, whole)?;
         }
@@ -120,6 +135,7 @@ impl Trial {
         let mut expected = proved.clone();
         let damaged = decode(&expected);
         same("check of a damaged store", store::check(&proved), if damaged.is_some() { 0 } else { 2 })?;
+        same("bag of a damaged store", proved_bag(&proved), damaged.as_ref().map(bag))?;
         let alike = damaged.as_ref().map_or(2, |state| !state.is_alike(&self.state) as u64);
         same("alike", store::alike(&self.proved, &proved), alike)?;
         same("alike", store::alike(&proved, &self.proved), alike)?;

@@ -15,7 +15,8 @@ returns : tie.Need-returns
 returns c = unsound _ _ (sym (c .before .is-sound .ensures) ∙ not-true _ (c .if1 .taken))
 
 settings-requires : tie.Need-settings-requires
-settings-requires c κs = let yes = sym (c .before .is-sound .ensures) ∙ not-false _ (c .if1 .left) in record { size = bytes-size _ yes; sound = bytes-sound _ yes }
+settings-requires c κs = let yes = sym (c .before .is-sound .ensures) ∙ not-false _
+    (c .if1 .left) in record { size = bytes-size _ yes; sound = bytes-sound _ yes }
 
 relay-count-requires : tie.Need-relay-count-requires
 relay-count-requires c κs = search needs
