@@ -22,7 +22,7 @@ use Rattle.log.proofs.Codec.{dec-length}
 use Rattle.log.proofs.Check.{good-over, is-log, good-in-order, row-far, row-flag, row-fine, row-key-by, order-all}
 use Rattle.layout.specs.Layout.{log-codec, log-words}
 use Rattle.checks.specs.Rows.{key-below}
-use Rattle.checks.specs.Chunks.{Descent, key-before, row-passes, log-good}
+use Rattle.checks.specs.Chunks.{Descent, KeyUnder, key-before, row-passes, log-good}
 
 -- ---- keys of one id
 module _ (limits : List ℕ) (key : ℕ) (y : key-below limits key ≡ true) where
@@ -168,23 +168,38 @@ module _ (L n : ℕ) (ws : List ℕ) (floor i : ℕ) where
   both-flags : (a b : ℕ) → a ≤ 1 → b ≤ 1 → bitOr a b ≤ 1
   both-flags a b h l = let t : bitOr a b < 2 = or-lt 1 a b (omega arith) (omega arith) in omega arith
 
-  pub descent-turn : (j next key flags flag : ℕ) → Descent L n ws floor i j next flags → 0 < j → position-at L ws (j - 1) < n → key ≡ key-by L ws (j - 1)
-      → floor < key → key < next → flag ≡ row-saved ws (position-at L ws (j - 1)) → Descent L n ws floor i (j - 1) key (bitOr flags flag)
-  descent-turn j next key flags flag v p g e h l ef =
-      let back : suc (j - 1) ≡ j = omega arith in
-      let down : key-by L ws (j - 1) < key-by L ws j = omega (arith, v .here, e) in
+  descent-turn : (j k next key before flags : ℕ) → suc k ≡ j → Descent L n ws floor i j next before → floor < key
+      → KeyUnder L n ws k next before key flags → Descent L n ws floor i k key flags
+  descent-turn j k next key before flags back v h u =
+      let flag : ℕ = row-saved ws (position-at L ws k) in
+      let down : key-by L ws k < key-by L ws j = omega (arith, v .here, u .here, u .below) in
       record {
         inside = omega (arith, v .inside);
-        here = e;
+        here = u .here;
         above = h;
-        under = omega (arith, v .under);
-        rows = λ k a b. by-eq k (j - 1) (λ _ q. rw q g) (λ _ q. v .rows k (omega arith) b);
-        rises = λ k a b. by-eq k (j - 1) (λ _ q. rw (q, back) down) (λ _ q. v .rises k (omega arith) b);
-        range = λ k a b. by-eq k (j - 1) (λ _ q. rw q (omega (arith, e), omega (arith, v .here, v .under))) (λ _ q. v .range k (omega arith) b);
-        clean = λ o k a b. let two = either-flag flags flag o in
-            by-eq k (j - 1) (λ _ q. rw (q, ← ef) (two .1)) (λ _ q. v .clean (two .0) k (omega arith) b);
-        dirty = λ o. both-flags flags flag (v .dirty (λ k a b. o k (omega arith) b)) (rw ef (o (j - 1) (omega arith) (omega (arith, v .inside))));
+        under = omega (arith, v .under, u .below);
+        rows = λ m a b. by-eq m k (λ _ q. rw q (u .row)) (λ _ q. v .rows m (omega arith) b);
+        rises = λ m a b. by-eq m k (λ _ q. rw (q, back) down) (λ _ q. v .rises m (omega arith) b);
+        range = λ m a b. by-eq m k (λ _ q. rw q (omega (arith, u .here), omega (arith, v .here, v .under, down))) (λ _ q. v .range m (omega arith) b);
+        clean = λ o m a b. let two = either-flag before flag (rw (u .gathered) at o) in
+            by-eq m k (λ _ q. rw q (two .1)) (λ _ q. v .clean (two .0) m (omega arith) b);
+        dirty = λ o. rw (u .gathered) (both-flags before flag (v .dirty (λ m a b. o m (omega arith) b)) (o k (omega arith) (omega (arith, v .inside))));
       }
+
+  -- four keys, each below the one before it: the last is above the floor, so all are
+  pub descent-four : (j next k1 k2 k3 k4 before f1 f2 f3 f4 : ℕ) → 3 < j → Descent L n ws floor i j next before → floor < k4
+      → (0 < k1 → KeyUnder L n ws (j - 1) next before k1 f1) → (0 < k2 → KeyUnder L n ws (j - 2) k1 f1 k2 f2)
+      → (0 < k3 → KeyUnder L n ws (j - 3) k2 f2 k3 f3) → (0 < k4 → KeyUnder L n ws (j - 4) k3 f3 k4 f4)
+      → Descent L n ws floor i (j - 4) k4 f4
+  descent-four j next k1 k2 k3 k4 before f1 f2 f3 f4 p v h g1 g2 g3 g4 =
+      let u4 = g4 (omega arith) in
+      let u3 = g3 (omega (arith, u4 .below)) in
+      let u2 = g2 (omega (arith, u3 .below)) in
+      let u1 = g1 (omega (arith, u2 .below)) in
+      let v1 = descent-turn j (j - 1) next k1 before f1 (omega arith) v (omega (arith, u4 .below, u3 .below, u2 .below)) u1 in
+      let v2 = descent-turn (j - 1) (j - 2) k1 k2 f1 f2 (omega arith) v1 (omega (arith, u4 .below, u3 .below)) u2 in
+      let v3 = descent-turn (j - 2) (j - 3) k2 k3 f2 f3 (omega arith) v2 (omega (arith, u4 .below)) u3 in
+      descent-turn (j - 3) (j - 4) k3 k4 f3 f4 (omega arith) v3 h u4
 
 abbrev no-chunk : Chunk
 no-chunk = chunk 0 false []

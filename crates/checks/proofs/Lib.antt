@@ -1,4 +1,5 @@
 pub mod RowLaws
+pub mod StretchLaws
 pub mod ChunkLaws
 pub mod CopyLaws
 pub mod BagLaws

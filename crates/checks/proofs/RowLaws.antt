@@ -40,7 +40,7 @@ entry-at ws i =
 
 -- ---- a block, and the one after it in its table
 module _ (b n : ℕ) where
-  below-ceiling : (whose : Whose) → floor-after whose b ≤ n → b < blocks → b < ceiling-below whose n
+  pub below-ceiling : (whose : Whose) → floor-after whose b ≤ n → b < blocks → b < ceiling-below whose n
   unfolding floor-after ceiling-below
   below-ceiling (Bucket g) l h = omega arith
   below-ceiling (Proxy p) l h = omega arith
@@ -52,7 +52,7 @@ module _ (b n : ℕ) where
   above-floor (Proxy p) h = omega arith
   above-floor Anyone h = omega arith
 
-  ceiling-range : (whose : Whose) → b < blocks → ceiling-below whose b ≤ blocks
+  pub ceiling-range : (whose : Whose) → b < blocks → ceiling-below whose b ≤ blocks
   unfolding ceiling-below
   ceiling-range (Bucket g) h = omega arith
   ceiling-range (Proxy p) h = omega arith

@@ -4,6 +4,7 @@ use mathlib.Core.List.{List}
 use mathlib.Core.Bool.{Bool}
 use Prim.Native.Nat.{ℕ, zero, suc, _+_, _*_, _≤_, _<_}
 use lib.Dec.{ltb}
+use lib.Bits.{bitOr}
 use lib.ListN.{length, getD}
 use Rattle.lists.specs.Tests.{_and_, every}
 use Rattle.rules.specs.declared.settings.Settings.{Settings}
@@ -27,6 +28,19 @@ row-passes good chunks n ws j = row-good chunks n ws j and ltb (key-before chunk
 -- the log's linear test, and a test of each key
 unfoldable pub log-good : Settings → (ℕ → Bool) → List ℕ → Bool
 log-good c good ws = good-log (c .chunks) ws and every (λ x. good (x .key)) (log-codec c .dec ws)
+
+-- position k is that of a row in use with this key, below the next, and its flag is gathered with those before
+pub record KeyUnder (chunks n : ℕ) (ws : List ℕ) (k next before key flags : ℕ) : Type 0 where
+  pub row : position-at chunks ws k < n
+  pub here : key ≡ key-by chunks ws k
+  pub below : key < next
+  pub gathered : flags ≡ bitOr before (row-saved ws (position-at chunks ws k))
+
+pub record KeyFit (bytes chunks n k : ℕ) : Type 0 where
+  pub few : n ≤ chunks
+  pub small : chunks ≤ max-chunks
+  pub room : 8 * (1 + 3 * chunks) ≤ bytes
+  pub inside : k < n
 
 -- the positions from r to below i are those of rows in use, and from the key at i down to that at r keys descend and stay above the floor; the flags of
 -- those rows are 0 or 1 just where their bits together are

@@ -1,4 +1,5 @@
 pub mod Rows
+pub mod Stretches
 pub mod Copies
 pub mod Chunks
 pub mod Agreed

@@ -1,10 +1,11 @@
 // A brick's chunk log.
 ghost use mathlib.Core.Path.{_≡_};
+ghost use Prim.Native.Nat.{_<_};
 ghost use lib.ListN.{length};
 ghost use Rattle.words.specs.Words.{words};
 ghost use Rattle.lists.specs.Tests.{all-below};
 ghost use Rattle.checks.specs.Rows.{key-below};
-ghost use Rattle.checks.specs.Chunks.{Descent, row-passes, log-good, DescendFit, PassFit, LogFit};
+ghost use Rattle.checks.specs.Chunks.{Descent, KeyUnder, row-passes, log-good, KeyFit, DescendFit, PassFit, LogFit};
 use crate::rows;
 use rules::constants;
 use rules::numbers::ChunkKey;
@@ -13,6 +14,32 @@ use rules::settings::Settings;
 // the highest key that a word can hold
 const HIGHEST: u64 = 0xffff_ffff_ffff_ffff;
 
+// A key, and the bits of the flags that were gathered on the way to it.
+struct Gathered {
+    key: u64,
+    flags: u64,
+}
+
+// The key at position k, if that names a row in use and the key is below the next; else 0.
+fn key_under(log: &[u8], chunks: usize, n: usize, k: usize, next: Gathered) -> Gathered
+    requires { ⌜ KeyFit (length (now log)) chunks n k ⌝ }
+    ensures { λ r. ⌜ (0 < r .key → KeyUnder chunks n (words (now (log .entry))) k (next .key) (next .flags) (r .key) (r .flags)) ⌝ }
+{
+    let at = words::read(log, 1 + 2 * chunks + k);
+    if n as u64 <= at {
+        return Gathered { key: 0, flags: 0 };
+    }
+    let p = at as usize;
+    let key = words::read(log, 1 + 2 * p);
+    if next.key <= key {
+        return Gathered { key: 0, flags: 0 };
+    }
+    Gathered {
+        key: key,
+        flags: next.flags | words::read(log, 2 + 2 * p),
+    }
+}
+
 // A position that was reached, the key there, and the bits of the flags on the way.
 struct Reached {
     at: usize,
@@ -20,47 +47,33 @@ struct Reached {
     flags: u64,
 }
 
-// From position i down, as long as rows in use have keys that descend and stay above the floor: those have the id of the key at i.
+// From position i down, four at a time, as long as rows in use have keys that descend and stay above the floor: those have the id of the key at i. One that
+// fails makes those below it fail, so the last of the four tells of all.
 fn descend(log: &[u8], chunks: usize, n: usize, i: usize, floor: u64, key: u64) -> Reached
     requires { ⌜ DescendFit (now log) chunks n i floor key ⌝ }
     ensures { λ r. ⌜ Descent chunks n (words (now (log .entry))) floor i (r .at) (r .key) (r .flags) ⌝ }
 {
-    let mut next = key;
-    let mut flags = 0;
+    let mut next = Gathered { key: key, flags: 0 };
     let mut j = i;
-    while 0 < j {
-        let at = words::read(log, 2 * chunks + j);
-        if n as u64 <= at {
+    while 3 < j {
+        let one = key_under(log, chunks, n, j - 1, next);
+        let two = key_under(log, chunks, n, j - 2, one);
+        let three = key_under(log, chunks, n, j - 3, two);
+        let four = key_under(log, chunks, n, j - 4, three);
+        if four.key <= floor {
             return Reached {
                 at: j,
-                key: next,
-                flags: flags,
+                key: next.key,
+                flags: next.flags,
             };
         }
-        let p = at as usize;
-        let key = words::read(log, 1 + 2 * p);
-        if key <= floor {
-            return Reached {
-                at: j,
-                key: next,
-                flags: flags,
-            };
-        }
-        if next <= key {
-            return Reached {
-                at: j,
-                key: next,
-                flags: flags,
-            };
-        }
-        flags = flags | words::read(log, 2 + 2 * p);
-        next = key;
-        j -= 1;
+        next = four;
+        j -= 4;
     }
     Reached {
         at: j,
-        key: next,
-        flags: flags,
+        key: next.key,
+        flags: next.flags,
     }
 }
 
