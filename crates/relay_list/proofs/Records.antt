@@ -1,7 +1,7 @@
 -- A slice of records as a bag, and what send, deliver and drop promise of it.
-use mathlib.Core.Path.{_≡_, refl, _∙_, ap}
+use mathlib.Core.Path.{_≡_, refl, sym, _∙_, ap}
 use mathlib.Core.Bool.{true, false}
-use mathlib.Core.List.{List, [], _∷_, _++_}
+use mathlib.Core.List.{List, [], _∷_, _++_, map}
 use Prim.Native.Nat.{ℕ, zero, suc, _<_, _≤_}
 use native.Mathlib.Omega.{arith}
 use borrow.Author.Tests.{ltb-true, leb-true}
@@ -19,6 +19,18 @@ use Rattle.relay_list.proofs.Elements.{blank}
 abbrev put-first : Relay → List Held → List Held
 put-first x l = relay-of x ∷ l
 
+-- ---- a record is no more than the relay that it stands for
+abbrev record-of : Held → Relay
+record-of h = record { view = record { 0 = h .view }; bucket = h .bucket; order = h .order; block = record { 0 = h .block }; key = record { 0 = h .key } }
+
+records-back : (list : List Relay) → map record-of (relays-of list) ≡ list
+records-back [] = refl
+records-back (r ∷ list) = ap (λ (l : List Relay). r ∷ l) (records-back list)
+
+pub same-records : (one other : List Relay) → relays-of one ≡ relays-of other → one ≡ other
+same-records one other e = sym (records-back one) ∙ ap (map record-of) e ∙ records-back other
+
+-- ---- the bag
 pub bag-length : (count : ℕ) (list : List Relay) → count ≤ length list → length (bag-of count list) ≡ count
 bag-length zero list h = refl
 bag-length (suc count) [] h = absurd (omega (arith, h))

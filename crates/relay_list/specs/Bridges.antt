@@ -17,11 +17,12 @@ use Rattle.relay_list.specs.Relays.{relay-of, bag-of, Sends, Drops, Deli
 pub record AsOnWords (ws : List ℕ) (list : List Relay) (count : ℕ) : Type 0 where
   pub loads : bag-of count list ≡ bag-codec .dec ws
   pub stores : (after : List ℕ) → Stores list count ws after → bag-codec .dec after ≡ bag-of count list
-  pub sends : (relay : Relay) (code : ℕ) (left : List Relay) (after : List ℕ) → count < max-relays → count < length list → Sends count relay list code left
-      → Stores left (suc count) ws after
+  pub sends : (relay : Relay) (code : ℕ) (left : List Relay) (after : List ℕ) → count < max-relays → count < length list
+      → Sends count relay list code left → Stores left (suc count) ws after
       → (code ≡ 0) × (after ≡ change bag-codec (λ bag. bag ++ relay-of relay ∷ []) ws)
-  pub drops : (index code : ℕ) (left : List Relay) (after : List ℕ) → index < count → Drops count index list code left → Stores left (count - 1) ws after
+  pub drops : (index code : ℕ) (left : List Relay) (after : List ℕ) → index < count
+      → Drops count index list code left → Stores left (count - 1) ws after
       → (code ≡ 0) × (after ≡ change bag-codec (λ bag. remove-at bag index) ws)
-  pub delivers : (index code : ℕ) (relay : Held) (left : List Relay) (after : List ℕ) → index < count → Delivers count index list code relay left → Stores left
-      (count - 1) ws after
+  pub delivers : (index code : ℕ) (relay : Held) (left : List Relay) (after : List ℕ) → index < count
+      → Delivers count index list code relay left → Stores left (count - 1) ws after
       → (code ≡ 0) × (relay ≡ relay-at ws index) × (after ≡ change bag-codec (λ bag. remove-at bag index) ws)

@@ -23,7 +23,7 @@ use Rattle.relay_list.specs.declared.Dropped.the-variants.{Dropped as Go
 abbrev pub relay-of : Relay → Held
 relay-of r = record { view = r .view .0; bucket = r .bucket; order = r .order; block = r .block .0; key = r .key .0 }
 
--- all records, as the rules have them
+-- all records, as the rules have them; lists of records that read as the same relays are the same (`same-records`)
 abbrev pub relays-of : List Relay → List Held
 relays-of list = map relay-of list
 
@@ -35,7 +35,7 @@ bag-of count list = map relay-of (take count list)
 abbrev pub over : List Held → List Relay → List Held
 over bag list = bag ++ drop (length bag) (relays-of list)
 
--- ---- the answers: the number of each, and the relay of a delivery
+-- ---- the answers: the number of each, and the relay of a delivery, all 0 where there is none
 abbrev pub sent-number : Sent → ℕ
 sent-number Yes = 0
 sent-number NoRoom = 10
@@ -60,7 +60,7 @@ has-room count list = ltb count (length list) and ltb count max-relays
 abbrev pub send-asks : ℕ → List Relay → List Question
 send-asks count list = (10 asks has-room count list) ∷ []
 
--- the relay is then the youngest; where there is no room the records stay
+-- a relay is sent: it is then the youngest. Where there is no room the records stay
 pub record Sends (count : ℕ) (relay : Relay) (before : List Relay) (code : ℕ) (after : List Relay) : Type 0 where
   pub number : code ≡ first-no (send-asks count before)
   pub records : relays-of after ≡ cond (has-room count before) (over (bag-of count before ++ relay-of relay ∷ []) before) (relays-of before)
@@ -77,17 +77,18 @@ is-within index count list = ltb index count and leb count (length list)
 abbrev pub index-asks : ℕ → ℕ → List Relay → List Question
 index-asks index count list = (3 asks is-within index count list) ∷ []
 
--- `relay-at` and `remove-at` of the rules
+-- the rules' `relay-at`, on records
 abbrev pub relay-at : ℕ → ℕ → List Relay → Held
 relay-at index count list = getD (bag-of count list) index blank-relay
 
+-- the relay at an index has left, by the rules' `remove-at`
 abbrev pub without : ℕ → ℕ → List Relay → List Held
 without index count list = over (remove-at (bag-of count list) index) list
 
 abbrev pub Loses : ℕ → ℕ → List Relay → List Relay → Type 0
 Loses count index before after = relays-of after ≡ without index count before
 
--- where the index is refused the records stay
+-- a relay is dropped, or delivered: it is given and has left. Where the index is refused the records stay
 pub record Drops (count index : ℕ) (before : List Relay) (code : ℕ) (after : List Relay) : Type 0 where
   pub number : code ≡ first-no (index-asks index count before)
   pub records : relays-of after ≡ cond (is-within index count before) (without index count before) (relays-of before)
@@ -98,9 +99,11 @@ pub record Delivers (count index : ℕ) (before : List Relay) (code : ℕ) (rela
   pub records : relays-of after ≡ cond (is-within index count before) (without index count before) (relays-of before)
 
 -- ---- the bag's flat words as records, and back
+-- the records begin with the bag that the words hold, and the count is its length
 pub record Loads (ws : List ℕ) (before : List Relay) (count : ℕ) (after : List Relay) : Type 0 where
   pub number : count ≡ length (bag-codec .dec ws)
   pub records : relays-of after ≡ over (bag-codec .dec ws) before
 
+-- the records in use are the bag that the words hold, the other words as they were
 abbrev pub Stores : List Relay → ℕ → List ℕ → List ℕ → Type 0
 Stores list count before after = after ≡ bag-codec .enc (bag-of count list) before
