@@ -30,13 +30,11 @@ copies-good c good g up k =
 unfoldable pub copies-at-good : Settings → (ℕ → Bool) → Bool → List ℕ → ℕ → Bool
 copies-at-good c good up ws g = copies-good c good g up (copies-codec c .dec (part (copies-words c) g ws))
 
--- the copy in memory passes
-pub record DiskFit (c : Settings) (limits : List ℕ) (g : ℕ) (memory : List ℕ) (bytes : ℕ) : Type 0 where
-  pub known : length limits ≡ ids
-  pub few : c .entries ≤ max-entries
-  pub memory-size : length memory ≡ 8 * copy-words c
-  pub passed : table-good c (key-below limits) (Bucket g) (c .entries) (copy-codec c .dec (words memory)) ≡ true
-  pub size : bytes ≡ 8 * copy-words c
+-- n words after the first in each of three tables
+pub record AlikeFit (one second third n : ℕ) : Type 0 where
+  pub first-room : 8 * (1 + n) ≤ one
+  pub second-room : 8 * (1 + n) ≤ second
+  pub third-room : 8 * (1 + n) ≤ third
 
 -- the copy of bucket g in memory at place q, in the words of a store
 abbrev pub memory-of : Settings → List ℕ → ℕ → ℕ → List ℕ
@@ -72,19 +70,22 @@ pub record EarlierFit (c : Settings) (bytes p from : ℕ) : Type 0 where
   pub inside : p < c .places
   pub start : from < place-words c
 
-pub record KnownFit (c : Settings) (g bytes p : ℕ) (memory : List ℕ) : Type 0 where
+pub record ComparedFit (c : Settings) (g bytes p : ℕ) (memory disk : List ℕ) : Type 0 where
   pub small : Limits c
   pub size : bytes ≡ 8 * store-words c
   pub inside : p < c .places
   pub bucket : g < buckets c
   pub few : getD (words memory) 0 0 ≤ c .entries
   pub memory-size : length memory ≡ 8 * copy-words c
+  pub disk-few : getD (words disk) 0 0 ≤ c .entries
+  pub disk-size : length disk ≡ 8 * copy-words c
 
-pub record MemoryFit (c : Settings) (limits : List ℕ) (g : ℕ) (store : List ℕ) (p bytes : ℕ) : Type 0 where
-  pub known : length limits ≡ ids
-  pub bucket : g < buckets c
-  pub passed : Passed c limits store p
-  pub size : bytes ≡ 8 * copy-words c
+-- a copy that is known passes
+pub record MemoryFit (c : Settings) (limits : List ℕ) (g : ℕ) (known : Bool) (memory : List ℕ) : Type 0 where
+  pub limits-size : length limits ≡ ids
+  pub few : c .entries ≤ max-entries
+  pub passed : known ≡ true → table-good c (key-below limits) (Bucket g) (c .entries) (copy-codec c .dec (words memory)) ≡ true
+  pub size : length memory ≡ 8 * copy-words c
 
 pub record CopiesFit (c : Settings) (limits : List ℕ) (g : ℕ) (store : List ℕ) (p bytes : ℕ) : Type 0 where
   pub known : length limits ≡ ids

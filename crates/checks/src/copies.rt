@@ -5,52 +5,73 @@ ghost use lib.ListN.{length};
 ghost use Rattle.lists.specs.Tests.{all-below};
 ghost use Rattle.words.specs.Words.{words};
 ghost use Rattle.rules.specs.Limits.{buckets};
-ghost use Rattle.layout.specs.Layout.{copy-codec, copies-codec};
+ghost use Rattle.rules.specs.Sound.{same-entries};
+ghost use Rattle.tables.specs.Tables.{same-at, IsTable};
+ghost use Rattle.entries.specs.Words.{entry-words};
+ghost use Rattle.layout.specs.Layout.{entries-codec, copy-codec, copies-codec};
 ghost use Rattle.checks.specs.declared.rows.Whose.the-variants.{Bucket};
 ghost use Rattle.checks.specs.Rows.{key-below, table-good};
-ghost use Rattle.checks.specs.Copies.{disk-good, copies-good, copies-at-good, Earlier, Known};
-ghost use Rattle.checks.specs.Copies.{DiskFit, EarlierFit, KnownFit, MemoryFit, CopiesFit, AllCopiesFit};
+ghost use Rattle.checks.specs.Copies.{copies-good, copies-at-good, Earlier, Known};
+ghost use Rattle.checks.specs.Copies.{AlikeFit, EarlierFit, ComparedFit, MemoryFit, CopiesFit, AllCopiesFit};
 use crate::rows;
 use crate::rows::Whose;
 use layout::sizes;
 use rules::settings::Settings;
 
-// The copy on disk, beside one in memory that passes. They nearly always have the same entries, and then the test of one is the test of both.
-fn disk_good(
-    settings: Settings,
-    limits: &[u64],
-    bucket: u64,
-    up: bool,
-    memory: &[u8],
-    disk: &[u8],
-) -> bool
-    requires { ⌜ DiskFit settings (now limits) bucket (now memory) (length (now disk)) ⌝ }
-    ensures { λ r. ⌜ r ≡ disk-good settings (key-below (now (limits .entry))) bucket up (copy-codec settings .dec (words (now (memory .entry))))
-        (copy-codec settings .dec (words (now (disk .entry)))) ⌝ }
-{
-    if (settings.entries as u64) < words::read(disk, 0) {
-        return false;
-    }
-    if entries::same(memory, disk, settings.entries) {
-        return true;
-    }
-    if !up {
-        return false;
-    }
-    rows::table_good(
-        settings,
-        limits,
-        Whose::Bucket(bucket),
-        disk,
-        settings.entries,
-    )
+// What the comparison of a copy in memory tells: a place below has the same one, and the disk has.
+struct Alike {
+    known: bool,
+    saved: bool,
 }
 
-// The last place below p that holds a brick and has n rows in the table at this word of it; p where there is none.
+// Are the n words after the first of one table those of a second, and those of a third? Each word of the first is read once for both. All are looked at: the
+// compiler compares several at a time in a loop with no other way out.
+fn compare_words(one: &[u8], second: &[u8], third: &[u8], n: usize) -> Alike
+    requires { ⌜ AlikeFit (length (now one)) (length (now second)) (length (now third)) n ⌝ }
+    ensures { λ r. ⌜ r .known ≡ all-below n (same-at (words (now (one .entry))) (words (now (second .entry)))) ⌝ }
+    ensures { λ r. ⌜ r .saved ≡ all-below n (same-at (words (now (one .entry))) (words (now (third .entry)))) ⌝ }
+{
+    let mut other = 0;
+    let mut unsaved = 0;
+    let mut i = 0;
+    while i < n {
+        let word = words::read(one, 1 + i);
+        other = other | (word ^ words::read(second, 1 + i));
+        unsaved = unsaved | (word ^ words::read(third, 1 + i));
+        i += 1;
+    }
+    Alike {
+        known: other == 0,
+        saved: unsaved == 0,
+    }
+}
+
+// Has one table the same entries as a second, and as a third?
+fn same_three(one: &[u8], second: &[u8], third: &[u8], most: usize) -> Alike
+    requires { ⌜ IsTable entry-words most (words (now one)) (length (now one)) ⌝ }
+    requires { ⌜ IsTable entry-words most (words (now second)) (length (now second)) ⌝ }
+    requires { ⌜ IsTable entry-words most (words (now third)) (length (now third)) ⌝ }
+    ensures { λ r. ⌜ r .known ≡ same-entries (entries-codec most .dec (words (now (one .entry)))) (entries-codec most .dec (words (now (second .entry)))) ⌝ }
+    ensures { λ r. ⌜ r .saved ≡ same-entries (entries-codec most .dec (words (now (one .entry)))) (entries-codec most .dec (words (now (third .entry)))) ⌝ }
+{
+    let n = words::read(one, 0);
+    let second_rows = words::read(second, 0);
+    let third_rows = words::read(third, 0);
+    let same = compare_words(one, second, third, n as usize * sizes::ENTRY_WORDS);
+    Alike {
+        known: (n == second_rows) & same.known,
+        saved: (n == third_rows) & same.saved,
+    }
+}
+
+// The last place below p that holds a brick and has n rows in the table at this word of it; p where there is none. An empty table is sooner tested than sought.
 fn earlier(settings: Settings, store: &[u8], p: usize, from: usize, n: u64) -> usize
     requires { ⌜ EarlierFit settings (length (now store)) p from ⌝ }
     ensures { λ r. ⌜ Earlier settings (words (now (store .entry))) p from n r ⌝ }
 {
+    if n == 0 {
+        return p;
+    }
     let mut q = p;
     while 0 < q {
         q -= 1;
@@ -64,43 +85,40 @@ fn earlier(settings: Settings, store: &[u8], p: usize, from: usize, n: u64) -> u
     p
 }
 
-// Has a place below p the same copy of the bucket in memory? Then it passed already. An empty copy is sooner tested than sought.
-fn known(settings: Settings, bucket: u64, store: &[u8], p: usize, memory: &[u8]) -> bool
-    requires { ⌜ KnownFit settings bucket (length (now store)) p (now memory) ⌝ }
-    ensures { λ r. ⌜ (r ≡ true → Known settings bucket (words (now (store .entry))) p (copy-codec settings .dec (words (now (memory .entry))))) ⌝ }
-{
-    let n = words::read(memory, 0);
-    if n == 0 {
-        return false;
-    }
-    let size = sizes::copies_words(settings);
-    let from = sizes::COPIES_AT + words::offset(bucket as usize, size, sizes::BUCKETS);
-    let q = earlier(settings, store, p, from, n);
-    if p <= q {
-        return false;
-    }
-    let a = 8 * (sizes::place_at(settings, q) + from);
-    let e = a + 8 * sizes::copy_words(settings);
-    entries::same(&store[a..e], memory, settings.entries)
-}
-
-// The copy in memory. The backup's nearly always has the same entries as the primary's, and then the test of one is the test of both.
-fn memory_good(
+// Has a place below p the same copy of the bucket in memory, which passed already, and has the disk the same?
+fn compared(
     settings: Settings,
-    limits: &[u64],
     bucket: u64,
     store: &[u8],
     p: usize,
     memory: &[u8],
-) -> bool
-    requires { ⌜ MemoryFit settings (now limits) bucket (now store) p (length (now memory)) ⌝ }
+    disk: &[u8],
+) -> Alike
+    requires { ⌜ ComparedFit settings bucket (length (now store)) p (now memory) (now disk) ⌝ }
+    ensures { λ r. ⌜ (r .known ≡ true → Known settings bucket (words (now (store .entry))) p (copy-codec settings .dec (words (now (memory .entry))))) ⌝ }
+    ensures { λ r. ⌜ r .saved ≡ same-entries (copy-codec settings .dec (words (now (memory .entry)))) (copy-codec settings .dec (words (now (disk .entry)))) ⌝ }
+{
+    let size = sizes::copies_words(settings);
+    let from = sizes::COPIES_AT + words::offset(bucket as usize, size, sizes::BUCKETS);
+    let q = earlier(settings, store, p, from, words::read(memory, 0));
+    if p <= q {
+        return Alike {
+            known: false,
+            saved: entries::same(memory, disk, settings.entries),
+        };
+    }
+    let a = 8 * (sizes::place_at(settings, q) + from);
+    let e = a + 8 * sizes::copy_words(settings);
+    same_three(memory, &store[a..e], disk, settings.entries)
+}
+
+// The copy in memory, where it is known whether it passed already.
+fn memory_good(settings: Settings, limits: &[u64], bucket: u64, known: bool, memory: &[u8]) -> bool
+    requires { ⌜ MemoryFit settings (now limits) bucket known (now memory) ⌝ }
     ensures { λ r. ⌜ r ≡ table-good settings (key-below (now (limits .entry))) (Bucket bucket) (settings .entries)
         (copy-codec settings .dec (words (now (memory .entry)))) ⌝ }
 {
-    if (settings.entries as u64) < words::read(memory, 0) {
-        return false;
-    }
-    if known(settings, bucket, store, p, memory) {
+    if known {
         return true;
     }
     rows::table_good(
@@ -112,7 +130,8 @@ fn memory_good(
     )
 }
 
-// The copies of one bucket, in memory and on disk.
+// The copies of one bucket, in memory and on disk. They nearly always have the same entries, and those of the place below, and then the test of one is the
+// test of all.
 fn copies_good(
     settings: Settings,
     limits: &[u64],
@@ -127,11 +146,30 @@ fn copies_good(
 {
     let half = 8 * sizes::copy_words(settings);
     let memory = &copies[0..half];
-    if !memory_good(settings, limits, bucket, store, p, memory) {
+    let disk = &copies[half..half + half];
+    if (settings.entries as u64) < words::read(memory, 0) {
         return false;
     }
-    let disk = &copies[half..half + half];
-    disk_good(settings, limits, bucket, up, memory, disk)
+    if (settings.entries as u64) < words::read(disk, 0) {
+        return false;
+    }
+    let found = compared(settings, bucket, store, p, memory, disk);
+    if !memory_good(settings, limits, bucket, found.known, memory) {
+        return false;
+    }
+    if found.saved {
+        return true;
+    }
+    if !up {
+        return false;
+    }
+    rows::table_good(
+        settings,
+        limits,
+        Whose::Bucket(bucket),
+        disk,
+        settings.entries,
+    )
 }
 
 // The copies of all buckets at place p; the places below it passed.

@@ -3,6 +3,7 @@ use mathlib.Core.List.{List}
 use Prim.Native.Nat.{ℕ, _+_, _*_, _<_}
 use native.Mathlib.Omega.{arith}
 use lib.ListN.{getD}
+use borrow.Author.Needs.{needs}
 use Rattle.lists.proofs.Tests.{impossible}
 use Rattle.lists.proofs.Runs.{run-at}
 use Rattle.words.specs.Words.{words}
@@ -10,12 +11,12 @@ use Rattle.rules.specs.Limits.{buckets}
 use Rattle.rules.proofs.SoundTest.{same-entries-test}
 use Rattle.layout.specs.Layout.{copy-codec, copy-words, place-at, copies-at, all-copies-at}
 use Rattle.layout.proofs.Lent.{lent}
-use borrow.Author.Needs.{needs}
-use Rattle.checks.proofs.copies.known.Statement.{statement}
-use Rattle.checks.proofs.copies.known.Tie as tie
-use Rattle.checks.proofs.copies.known.Reads as reads
-use Rattle.checks.proofs.copies.known.Lts as lts
+use Rattle.checks.proofs.copies.compared.Statement.{statement}
+use Rattle.checks.proofs.copies.compared.Tie as tie
+use Rattle.checks.proofs.copies.compared.Reads as reads
+use Rattle.checks.proofs.copies.compared.Lts as lts
 use Rattle.checks.proofs.copies.earlier.Reads as earlier-reads
+use Rattle.checks.proofs.copies.same_three.Reads as same-three-reads
 use Rattle.entries.proofs.same.Reads as same-reads
 use Rattle.layout.proofs.sizes.copies_words.Reads as copies-words-reads
 use Rattle.layout.proofs.sizes.copy_words.Reads as copy-words-reads
@@ -23,151 +24,152 @@ use Rattle.layout.proofs.sizes.place_at.Reads as place-at-reads
 use Rattle.words.proofs.offset.Reads as offset-reads
 use Rattle.words.proofs.read.Reads as read-reads
 
--- src/copies.rt:72:9
-read-requires : tie.Need-read-requires
-unfolding buckets
-read-requires c κs = search needs
-
--- src/copies.rt:74:9
-returns : tie.Need-returns
-unfolding buckets
-returns c = λ e. impossible e
-
--- src/copies.rt:76:9
+-- src/copies.rt:101:9
 copies-words-requires : tie.Need-copies-words-requires
 unfolding buckets
 copies-words-requires c κs = search needs
 
--- src/copies.rt:77:35
+-- src/copies.rt:102:35
 offset-requires : tie.Need-offset-requires
 unfolding buckets
 offset-requires c κs = search needs
 
--- src/copies.rt:77:16
+-- src/copies.rt:102:16
 add-from : tie.Need-add-from
 unfolding buckets
 add-from c = search needs
 
--- src/copies.rt:78:9
+-- src/copies.rt:103:47
+read-requires : tie.Need-read-requires
+unfolding buckets
+read-requires c κs = search needs
+
+-- src/copies.rt:103:9
 earlier-requires : tie.Need-earlier-requires
 unfolding buckets
-earlier-requires c κs =
-    let s = c .before .before .before .before .before .before in record { small = s .pre .small; size = s .pre .size; inside = s .pre .inside; start = omega (arith, c .offset .ensures) }
+earlier-requires c κs = let s = c .before .before .before .before .before .before in record { small = s .pre .small; size = s .pre .size; inside = s .pre .inside; start = omega (arith, c .before .offset .ensures) }
 
--- src/copies.rt:80:9
-returns-2 : tie.Need-returns-2
+-- src/copies.rt:107:20
+same-requires : tie.Need-same-requires
 unfolding buckets
-returns-2 c = λ e. impossible e
+same-requires c κs = search needs
 
--- src/copies.rt:82:18
+-- src/copies.rt:105:9
+returns : tie.Need-returns
+unfolding buckets
+returns c = (λ e. impossible e, c .same .ensures)
+
+-- src/copies.rt:110:18
 place-at-requires : tie.Need-place-at-requires
 unfolding buckets
 place-at-requires c κs = search needs
 
--- src/copies.rt:82:18
+-- src/copies.rt:110:18
 add-a : tie.Need-add-a
 unfolding buckets
 add-a c = search needs
 
--- src/copies.rt:82:13
+-- src/copies.rt:110:13
 mul-a : tie.Need-mul-a
 unfolding buckets
 mul-a c = search needs
 
--- src/copies.rt:83:21
+-- src/copies.rt:111:21
 copy-words-requires : tie.Need-copy-words-requires
 unfolding buckets
 copy-words-requires c κs = search needs
 
--- src/copies.rt:83:17
+-- src/copies.rt:111:17
 mul-e : tie.Need-mul-e
 unfolding buckets
 mul-e c = search needs
 
--- src/copies.rt:83:13
+-- src/copies.rt:111:13
 add-e : tie.Need-add-e
 unfolding buckets
 add-e c = search needs
 
--- src/copies.rt:84:19
-sub-same : tie.Need-sub-same
+-- src/copies.rt:112:24
+sub-same-three : tie.Need-sub-same-three
 unfolding buckets
-sub-same c = search needs
+sub-same-three c = search needs
 
--- src/copies.rt:84:19
-part-same-start : tie.Need-part-same-start
+-- src/copies.rt:112:24
+part-same-three-start : tie.Need-part-same-three-start
 unfolding buckets
-part-same-start c = search needs
+part-same-three-start c = search needs
 
--- src/copies.rt:84:19
-part-same-end : tie.Need-part-same-end
+-- src/copies.rt:112:24
+part-same-three-end : tie.Need-part-same-three-end
 unfolding buckets
-part-same-end c = omega arith
+part-same-three-end c = omega arith
 
--- src/copies.rt:84:5
-same-requires : tie.Need-same-requires
+-- src/copies.rt:112:5
+same-three-requires : tie.Need-same-three-requires
 unfolding buckets
-same-requires c κs =
+same-three-requires c κs =
     let s = c .before .before .before .before .before .before .before .before .before .before .before in
     let n = s .args .settings in
     let g = s .args .bucket in
     let bs = s .args .store .now in
     let place = c .before .before .place-at in
-    let from = all-copies-at + c .before .before .before .before .before .offset .result in
-    let at = c .before .before .before .before .before .offset .ensures .0 ∙ ap (λ (k : ℕ). g * k) (c .before .before .before .before .before .before .copies-words .ensures) in
+    let from = all-copies-at + c .before .before .before .before .before .before .offset .result in
+    let at = c .before .before .before .before .before .before .offset .ensures .0 ∙ ap (λ (k : ℕ). g * k) (c .before .before .before .before .before .before .before .copies-words .ensures) in
     let half = c .before .copy-words .result in
     let q = c .before .before .before .before .earlier in
     let below : q .result < s .args .p = omega arith in
     let m = lent bs (8 * (place .result + from)) (8 * (place .result + from) + 8 * half) (place-at n (q .result) + copies-at n g) (copy-words n)
     (omega (arith, at, place .ensures .0)) (omega arith) (omega (arith, at, place .ensures, s .pre .size)) in
     let first = ap (λ (w : List ℕ). getD w 0 0) m ∙ run-at (place-at n (q .result) + copies-at n g) (copy-words n) 0 (words bs) (omega arith) in
-    let count = first ∙ ap (λ (k : ℕ). getD (words bs) k 0) {x = place-at n (q .result) + copies-at n g + 0} {y = place-at n (q .result) + from} (omega (arith, at)) ∙ q .ensures .rows below ∙ c .before .before .before .before .before .before .before .before .read .ensures in (
-      record { few = omega (arith, count, s .pre .few); size = search needs },
+    let count = first ∙ ap (λ (k : ℕ). getD (words bs) k 0) {x = place-at n (q .result) + copies-at n g + 0} {y = place-at n (q .result) + from} (omega (arith, at)) ∙ q .ensures .rows below ∙ c .before .before .before .before .before .read .ensures in (
       record { few = s .pre .few; size = s .pre .memory-size },
+      (record { few = omega (arith, count, s .pre .few); size = search needs }, record { few = s .pre .disk-few; size = s .pre .disk-size }),
     )
 
--- src/copies.rt:68:1
-returns-3 : tie.Need-returns-3
+-- src/copies.rt:89:1
+returns-2 : tie.Need-returns-2
 unfolding buckets
-returns-3 c =
+returns-2 c =
     let s = c .before .before .before .before .before .before .before .before .before .before .before .before in
     let n = s .args .settings in
     let g = s .args .bucket in
     let bs = s .args .store .now in
     let place = c .before .before .before .place-at in
-    let from = all-copies-at + c .before .before .before .before .before .before .offset .result in
-    let at = c .before .before .before .before .before .before .offset .ensures .0 ∙ ap (λ (k : ℕ). g * k) (c .before .before .before .before .before .before .before .copies-words .ensures) in
+    let from = all-copies-at + c .before .before .before .before .before .before .before .offset .result in
+    let at = c .before .before .before .before .before .before .before .offset .ensures .0 ∙ ap (λ (k : ℕ). g * k) (c .before .before .before .before .before .before .before .before .copies-words .ensures) in
     let half = c .before .before .copy-words .result in
     let q = c .before .before .before .before .before .earlier in
     let below : q .result < s .args .p = omega arith in
     let m = lent bs (8 * (place .result + from)) (8 * (place .result + from) + 8 * half) (place-at n (q .result) + copies-at n g) (copy-words n)
-    (omega (arith, at, place .ensures .0)) (omega arith) (omega (arith, at, place .ensures, s .pre .size)) in λ y.
-    record {
-      place = q .result;
-      below = below;
-      brick = q .ensures .brick below;
-      same = ap (copy-codec n .dec) (sym m) ∙ same-entries-test _ _ .0 (sym (c .same .ensures) ∙ y);
-    }
+    (omega (arith, at, place .ensures .0)) (omega arith) (omega (arith, at, place .ensures, s .pre .size)) in (
+      λ y. record {
+        place = q .result;
+        below = below;
+        brick = q .ensures .brick below;
+        same = ap (copy-codec n .dec) (sym m) ∙ sym (same-entries-test _ _ .0 (sym (c .same-three .ensures .0) ∙ y));
+      },
+      c .same-three .ensures .1,
+    )
 
-pub known-spec : {M : Type 1} → statement M
-known-spec =
+pub compared-spec : {M : Type 1} → statement M
+compared-spec =
     tie.close
     (tie.spec
-    read-requires
-    returns
     copies-words-requires
     offset-requires
     add-from
+    read-requires
     earlier-requires
-    returns-2
+    same-requires
+    returns
     place-at-requires
     add-a
     mul-a
     copy-words-requires
     mul-e
     add-e
-    sub-same
-    part-same-start
-    part-same-end
-    same-requires
-    returns-3)
+    sub-same-three
+    part-same-three-start
+    part-same-three-end
+    same-three-requires
+    returns-2)
