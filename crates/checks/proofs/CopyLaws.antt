@@ -8,7 +8,7 @@ use lib.Dec.{eqb}
 use lib.Bits.{bitOr, bitXor, or-add-and, xor-add-and, and-le-l, and-le-r, xor-self}
 use lib.ListN.{length, take, drop, length-drop}
 use borrow.Author.Tests.{eqb-true, eq-eqb}
-use Rattle.lists.specs.Tests.{_and_}
+use Rattle.lists.specs.Tests.{_and_, _or_}
 use Rattle.lists.proofs.Tests.{and-l, and-r, both, same-test, no-first, no-second, yes-second, or-l, or-r, or-no}
 use Rattle.lists.specs.Runs.{run, part}
 use Rattle.lists.proofs.Runs.{run-all}
@@ -22,7 +22,7 @@ use Rattle.layout.specs.Layout.{copy-codec, copies-codec, copies-words}
 use Rattle.layout.proofs.Lent.{lent}
 use Rattle.checks.specs.declared.rows.Whose.the-variants.{Bucket}
 use Rattle.checks.specs.Rows.{table-good}
-use Rattle.checks.specs.Copies.{disk-good, copies-good, copies-at-good}
+use Rattle.checks.specs.Copies.{copies-good, copies-at-good}
 
 -- ---- words compared: none is another just where none was before and these two are the same
 pub no-other : (o x y : ℕ) → eqb (bitOr o (bitXor x y)) 0 ≡ (eqb o 0 and eqb x y)
@@ -34,7 +34,10 @@ no-other o x y =
     both _ _ (eq-eqb o 0 (n .0)) (eq-eqb x y (omega (arith, n .1, xor-add-and x y, and-le-l x y, and-le-r x y))))
     (λ t. eq-eqb _ _ (ap (λ (k : ℕ). bitOr k z) (eqb-true o 0 (and-l _ _ t)) ∙ ap (λ (k : ℕ). bitXor k y) (eqb-true x y (and-r _ _ t)) ∙ xor-self y))
 
--- ---- the copy on disk, beside one in memory
+-- ---- the copy on disk, beside one in memory: of a down brick they are the same
+unfoldable pub disk-good : Settings → (ℕ → Bool) → ℕ → Bool → List Entry → List Entry → Bool
+disk-good c good g up memory disk = table-good c good (Bucket g) (c .entries) disk and (up or same-entries memory disk)
+
 module _ (c : Settings) (good : ℕ → Bool) (g : ℕ) (up : Bool) (memory disk : List Entry) where
   pub disk-bad : table-good c good (Bucket g) (c .entries) disk ≡ false → disk-good c good g up memory disk ≡ false
   unfolding disk-good

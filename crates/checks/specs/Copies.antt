@@ -17,10 +17,6 @@ use Rattle.checks.specs.declared.rows.Whose.the-variants.{Bucket}
 use Rattle.rules.proofs.Limits.{Limits}
 use Rattle.checks.specs.Rows.{ids, key-below, table-good}
 
--- the copy on disk beside one in memory: of a down brick they are the same
-unfoldable pub disk-good : Settings → (ℕ → Bool) → ℕ → Bool → List Entry → List Entry → Bool
-disk-good c good g up memory disk = table-good c good (Bucket g) (c .entries) disk and (up or same-entries memory disk)
-
 -- of one bucket: both tables, and of a down brick they are the same
 unfoldable pub copies-good : Settings → (ℕ → Bool) → ℕ → Bool → Copies → Bool
 copies-good c good g up k =

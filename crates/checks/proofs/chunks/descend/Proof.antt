@@ -25,7 +25,9 @@ sub-key-under c = search needs
 
 -- src/chunks.rt:59:13
 key-under-requires : tie.Need-key-under-requires Inv-loop μ-loop
-key-under-requires c κs = record { few = c .before .before .before .pre .few; small = c .before .before .before .pre .small; room = c .before .before .before .pre .room; inside = omega (arith, c .before .before .before .pre .inside, c .before .loop .inv .inside) }
+key-under-requires c κs =
+    let s = c .before .before .before in
+    record { few = s .pre .few; small = s .pre .small; room = s .pre .room; inside = omega (arith, s .pre .inside, c .before .loop .inv .inside) }
 
 -- src/chunks.rt:60:45
 sub-key-under-2 : tie.Need-sub-key-under-2 Inv-loop μ-loop
@@ -33,7 +35,9 @@ sub-key-under-2 c = search needs
 
 -- src/chunks.rt:60:13
 key-under-requires-2 : tie.Need-key-under-requires-2 Inv-loop μ-loop
-key-under-requires-2 c κs = record { few = c .before .before .before .before .pre .few; small = c .before .before .before .before .pre .small; room = c .before .before .before .before .pre .room; inside = omega (arith, c .before .before .before .before .pre .inside, c .before .before .loop .inv .inside) }
+key-under-requires-2 c κs =
+    let s = c .before .before .before .before in
+    record { few = s .pre .few; small = s .pre .small; room = s .pre .room; inside = omega (arith, s .pre .inside, c .before .before .loop .inv .inside) }
 
 -- src/chunks.rt:61:47
 sub-key-under-3 : tie.Need-sub-key-under-3 Inv-loop μ-loop
@@ -41,7 +45,9 @@ sub-key-under-3 c = search needs
 
 -- src/chunks.rt:61:13
 key-under-requires-3 : tie.Need-key-under-requires-3 Inv-loop μ-loop
-key-under-requires-3 c κs = record { few = c .before .before .before .before .before .pre .few; small = c .before .before .before .before .before .pre .small; room = c .before .before .before .before .before .pre .room; inside = omega (arith, c .before .before .before .before .before .pre .inside, c .before .before .before .loop .inv .inside) }
+key-under-requires-3 c κs =
+    let s = c .before .before .before .before .before in
+    record { few = s .pre .few; small = s .pre .small; room = s .pre .room; inside = omega (arith, s .pre .inside, c .before .before .before .loop .inv .inside) }
 
 -- src/chunks.rt:62:46
 sub-key-under-4 : tie.Need-sub-key-under-4 Inv-loop μ-loop
@@ -49,7 +55,9 @@ sub-key-under-4 c = search needs
 
 -- src/chunks.rt:62:13
 key-under-requires-4 : tie.Need-key-under-requires-4 Inv-loop μ-loop
-key-under-requires-4 c κs = record { few = c .before .before .before .before .before .before .pre .few; small = c .before .before .before .before .before .before .pre .small; room = c .before .before .before .before .before .before .pre .room; inside = omega (arith, c .before .before .before .before .before .before .pre .inside, c .before .before .before .before .loop .inv .inside) }
+key-under-requires-4 c κs =
+    let s = c .before .before .before .before .before .before in
+    record { few = s .pre .few; small = s .pre .small; room = s .pre .room; inside = omega (arith, s .pre .inside, c .before .before .before .before .loop .inv .inside) }
 
 -- src/chunks.rt:64:13
 returns : tie.Need-returns Inv-loop μ-loop
@@ -66,8 +74,11 @@ loop-less c = search needs
 -- src/chunks.rt:58:5
 loop-again : tie.Need-loop-again Inv-loop μ-loop
 loop-again c =
-    let l = c .before .before .before .before .before .before .before .loop in
-    descent-four _ _ _ _ _ (l .j) (l .next .key) _ _ _ _ (l .next .flags) _ _ _ _ (omega arith) (l .inv) (c .if1 .left) (c .before .before .before .before .before .key-under .ensures) (c .before .before .before .before .key-under2 .ensures)
+    let at-key-under = c .before .before .before .before .before in
+    let at-loop = at-key-under .before .before in
+    let l = at-loop .loop in
+    descent-four _ _ _ _ _ (l .j) (l .next .key) _ _ _ _ (l .next .flags) _ _ _ _ (omega arith) (l .inv) (c .if1 .left) (at-key-under .key-under .ensures)
+    (c .before .before .before .before .key-under2 .ensures)
     (c .before .before .before .key-under3 .ensures) (c .before .before .key-under4 .ensures)
 
 -- src/chunks.rt:52:1

@@ -1,5 +1,5 @@
-use mathlib.Core.Path.{_≡_, refl, ap, _∙_}
-use Prim.Native.Nat.{ℕ, _-_, _≤_}
+use mathlib.Core.Path.{_≡_, refl, _∙_}
+use Prim.Native.Nat.{_-_, _≤_}
 use native.Mathlib.Numerals.{add-one}
 use native.Mathlib.Omega.{arith}
 use lib.Dec.{eqb}
@@ -15,7 +15,8 @@ use Rattle.checks.proofs.copies.compare_words.Lts as lts
 use Rattle.words.proofs.read.Reads as read-reads
 
 abbrev Inv-loop : tie.InvT-loop
-Inv-loop one second third n other₀ unsaved₀ i₀ other unsaved i = (i ≤ n) × (eqb other 0 ≡ all-below i (same-at (words one) (words second))) × (eqb unsaved 0 ≡ all-below i (same-at (words one) (words third)))
+Inv-loop one second third n other₀ unsaved₀ i₀ other unsaved i =
+    (i ≤ n) × (eqb other 0 ≡ all-below i (same-at (words one) (words second))) × (eqb unsaved 0 ≡ all-below i (same-at (words one) (words third)))
 
 abbrev μ-loop : tie.MeasureT-loop
 μ-loop one second third n other₀ unsaved₀ i₀ other unsaved i = n - i
@@ -63,8 +64,10 @@ unfolding all-below
 loop-again c =
     let l = c .before .before .before .before .loop in (
       search needs,
-      no-other (l .other) (c .before .before .read .result) (c .before .read2 .result) ∙ rw (add-one (l .i), l .inv .1, c .before .before .read .ensures, c .before .read2 .ensures),
-      no-other (l .unsaved) (c .before .before .read .result) (c .read3 .result) ∙ rw (add-one (l .i), l .inv .2, c .before .before .read .ensures, c .read3 .ensures),
+      no-other (l .other) (c .before .before .read .result) (c .before .read2 .result)
+          ∙ rw (add-one (l .i), l .inv .1, c .before .before .read .ensures, c .before .read2 .ensures),
+      no-other (l .unsaved) (c .before .before .read .result) (c .read3 .result)
+          ∙ rw (add-one (l .i), l .inv .2, c .before .before .read .ensures, c .read3 .ensures),
     )
 
 -- src/copies.rt:29:1

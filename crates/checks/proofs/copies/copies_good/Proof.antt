@@ -63,7 +63,8 @@ returns : tie.Need-returns
 returns c =
     let s = c .before .before .before .before .before .before .before .before in
     let a = s .args in
-    let e = copies-lent (a .settings) (key-below (a .limits .now)) (a .up) (a .bucket) (8 * c .before .before .before .before .copy-words .result) (a .copies .now) (s .pre .size)
+    let e = copies-lent (a .settings) (key-below (a .limits .now)) (a .up) (a .bucket) (8 * c .before .before .before .before .copy-words .result)
+    (a .copies .now) (s .pre .size)
     (omega (arith, c .before .before .before .before .copy-words .ensures)) in
     sym (e ∙ no-first _ _ (table-over _ _ _ _ _ (c .before .read .result) (c .before .read .ensures) (c .if1 .taken)))
 
@@ -74,11 +75,13 @@ read-requires-2 c κs = search needs
 -- src/copies.rt:154:9
 returns-2 : tie.Need-returns-2
 returns-2 c =
-    let s = c .before .before .before .before .before .before .before .before .before .before in
+    let at-copy-words = c .before .before .before .before .before .before in
+    let s = at-copy-words .before .before .before .before in
     let a = s .args in
-    let e = copies-lent (a .settings) (key-below (a .limits .now)) (a .up) (a .bucket) (8 * c .before .before .before .before .before .before .copy-words .result) (a .copies .now) (s .pre .size)
-    (omega (arith, c .before .before .before .before .before .before .copy-words .ensures)) in
-    sym (e ∙ no-second _ _ (disk-bad (a .settings) _ (a .bucket) (a .up) _ _ (table-over _ _ _ _ _ (c .before .read2 .result) (c .before .read2 .ensures) (c .if2 .taken))))
+    let e = copies-lent (a .settings) (key-below (a .limits .now)) (a .up) (a .bucket) (8 * at-copy-words .copy-words .result) (a .copies .now) (s .pre .size)
+    (omega (arith, at-copy-words .copy-words .ensures)) in
+    sym (e ∙ no-second _ _ (disk-bad (a .settings) _ (a .bucket) (a .up) _ _ (table-over _ _ _ _ _ (c .before .read2 .result) (c .before .read2 .ensures)
+    (c .if2 .taken))))
 
 -- src/copies.rt:156:9
 compared-requires : tie.Need-compared-requires
@@ -101,31 +104,35 @@ memory-good-requires c κs =
 -- src/copies.rt:158:9
 returns-3 : tie.Need-returns-3
 returns-3 c =
-    let s = c .before .before .before .before .before .before .before .before .before .before .before .before .before in
+    let at-copy-words = c .before .before .before .before .before .before .before .before .before in
+    let s = at-copy-words .before .before .before .before in
     let a = s .args in
-    let e = copies-lent (a .settings) (key-below (a .limits .now)) (a .up) (a .bucket) (8 * c .before .before .before .before .before .before .before .before .before .copy-words .result) (a .copies .now) (s .pre .size)
-    (omega (arith, c .before .before .before .before .before .before .before .before .before .copy-words .ensures)) in
+    let e = copies-lent (a .settings) (key-below (a .limits .now)) (a .up) (a .bucket) (8 * at-copy-words .copy-words .result) (a .copies .now) (s .pre .size)
+    (omega (arith, at-copy-words .copy-words .ensures)) in
     sym (e ∙ no-first _ _ (sym (c .before .memory-good .ensures) ∙ not-true _ (c .if3 .taken)))
 
 -- src/copies.rt:161:9
 returns-4 : tie.Need-returns-4
 returns-4 c =
-    let s = c .before .before .before .before .before .before .before .before .before .before .before .before .before .before in
+    let at-copy-words = c .before .before .before .before .before .before .before .before .before .before in
+    let s = at-copy-words .before .before .before .before in
     let a = s .args in
-    let e = copies-lent (a .settings) (key-below (a .limits .now)) (a .up) (a .bucket) (8 * c .before .before .before .before .before .before .before .before .before .before .copy-words .result) (a .copies .now) (s .pre .size)
-    (omega (arith, c .before .before .before .before .before .before .before .before .before .before .copy-words .ensures)) in
+    let e = copies-lent (a .settings) (key-below (a .limits .now)) (a .up) (a .bucket) (8 * at-copy-words .copy-words .result) (a .copies .now) (s .pre .size)
+    (omega (arith, at-copy-words .copy-words .ensures)) in
     let passed = sym (c .before .before .memory-good .ensures) ∙ not-false _ (c .before .if3 .left) in
     sym (e ∙ both _ _ passed (disk-same (a .settings) _ (a .bucket) (a .up) _ _ passed (sym (c .before .before .before .compared .ensures .1) ∙ c .if4 .taken)))
 
 -- src/copies.rt:164:9
 returns-5 : tie.Need-returns-5
 returns-5 c =
-    let s = c .before .before .before .before .before .before .before .before .before .before .before .before .before .before .before in
+    let at-copy-words = c .before .before .before .before .before .before .before .before .before .before .before in
+    let s = at-copy-words .before .before .before .before in
     let a = s .args in
-    let e = copies-lent (a .settings) (key-below (a .limits .now)) (a .up) (a .bucket) (8 * c .before .before .before .before .before .before .before .before .before .before .before .copy-words .result) (a .copies .now) (s .pre .size)
-    (omega (arith, c .before .before .before .before .before .before .before .before .before .before .before .copy-words .ensures)) in
+    let e = copies-lent (a .settings) (key-below (a .limits .now)) (a .up) (a .bucket) (8 * at-copy-words .copy-words .result) (a .copies .now) (s .pre .size)
+    (omega (arith, at-copy-words .copy-words .ensures)) in
     let passed = sym (c .before .before .before .memory-good .ensures) ∙ not-false _ (c .before .before .if3 .left) in
-    sym (e ∙ no-second _ _ (disk-other (a .settings) _ (a .bucket) (a .up) _ _ (sym (c .before .before .before .before .compared .ensures .1) ∙ c .before .if4 .left) (not-true _ (c .if5 .taken))))
+    sym (e ∙ no-second _ _ (disk-other (a .settings) _ (a .bucket) (a .up) _ _ (sym (c .before .before .before .before .compared .ensures .1)
+    ∙ c .before .if4 .left) (not-true _ (c .if5 .taken))))
 
 -- src/copies.rt:166:5
 table-good-requires : tie.Need-table-good-requires
@@ -134,10 +141,11 @@ table-good-requires c κs = search needs
 -- src/copies.rt:135:1
 returns-6 : tie.Need-returns-6
 returns-6 c =
-    let s = c .before .before .before .before .before .before .before .before .before .before .before .before .before .before .before .before in
+    let at-copy-words = c .before .before .before .before .before .before .before .before .before .before .before .before in
+    let s = at-copy-words .before .before .before .before in
     let a = s .args in
-    let e = copies-lent (a .settings) (key-below (a .limits .now)) (a .up) (a .bucket) (8 * c .before .before .before .before .before .before .before .before .before .before .before .before .copy-words .result) (a .copies .now) (s .pre .size)
-    (omega (arith, c .before .before .before .before .before .before .before .before .before .before .before .before .copy-words .ensures)) in
+    let e = copies-lent (a .settings) (key-below (a .limits .now)) (a .up) (a .bucket) (8 * at-copy-words .copy-words .result) (a .copies .now) (s .pre .size)
+    (omega (arith, at-copy-words .copy-words .ensures)) in
     let passed = sym (c .before .before .before .before .memory-good .ensures) ∙ not-false _ (c .before .before .before .if3 .left) in
     c .table-good .ensures ∙ sym (e ∙ yes-first _ _ passed ∙ disk-alone (a .settings) _ (a .bucket) (a .up) _ _ (not-false _ (c .before .if5 .left)))
 

@@ -52,14 +52,17 @@ compare-words-requires c κs = search needs
 returns : tie.Need-returns
 unfolding _and_
 returns c =
-    let s = c .before .before .before .before .before .before .before .before .before in
+    let at-read = c .before .before .before .before .before in
+    let s = at-read .before .before .before .before in
     let a = s .args in
     let words-of : ((x : List ℕ) → length x ≡ 8 * table-words 2 (a .most) → length (words x) ≡ table-words 2 (a .most)) = λ x h. length-words x ∙ omega arith in
     let one = words-of (a .one .now) (s .pre .0 .size) in
-    let n = c .before .before .before .before .before .read in
+    let n = at-read .read in
     let same = c .before .before .compare-words .ensures in (
-      rows-same (a .most) _ _ one (words-of (a .second .now) (s .pre .1 .0 .size)) (s .pre .0 .few) (s .pre .1 .0 .few) _ _ _ (n .ensures) (c .before .before .before .before .read2 .ensures) (same .0),
-      rows-same (a .most) _ _ one (words-of (a .third .now) (s .pre .1 .1 .size)) (s .pre .0 .few) (s .pre .1 .1 .few) _ _ _ (n .ensures) (c .before .before .before .read3 .ensures) (same .1),
+      rows-same (a .most) _ _ one (words-of (a .second .now) (s .pre .1 .0 .size)) (s .pre .0 .few) (s .pre .1 .0 .few) _ _ _ (n .ensures)
+          (c .before .before .before .before .read2 .ensures) (same .0),
+      rows-same (a .most) _ _ one (words-of (a .third .now) (s .pre .1 .1 .size)) (s .pre .0 .few) (s .pre .1 .1 .few) _ _ _ (n .ensures)
+          (c .before .before .before .read3 .ensures) (same .1),
     )
 
 pub same-three-spec : {M : Type 1} → statement M

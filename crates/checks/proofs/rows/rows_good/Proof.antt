@@ -100,7 +100,15 @@ keys-below-requires c κs = search needs
 
 -- src/rows.rt:156:13
 stretch-requires : tie.Need-stretch-requires Inv-loop μ-loop
-stretch-requires c κs = record { room = omega (arith, c .before .before .before .before .before .before .before .before .before .before .pre .room, c .before .before .before .before .before .before .before .loop .inv .0); here = c .before .before .before .before .before .read .ensures; keys = c .keys-below .ensures .room }
+stretch-requires c κs =
+    let at-read = c .before .before .before .before .before in
+    let at-loop = at-read .before .before in
+    record {
+      room = omega
+          (arith, c .before .before .before .before .before .before .before .before .before .before .pre .room, at-loop .loop .inv .0);
+      here = at-read .read .ensures;
+      keys = c .keys-below .ensures .room;
+    }
 
 -- src/rows.rt:158:9
 ceiling-below-requires : tie.Need-ceiling-below-requires Inv-loop μ-loop

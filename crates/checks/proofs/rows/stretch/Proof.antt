@@ -25,7 +25,8 @@ sub-block-under c = search needs
 
 -- src/rows.rt:118:13
 block-under-requires : tie.Need-block-under-requires Inv-loop μ-loop
-block-under-requires c κs = record { room = omega (arith, c .before .before .before .pre .room, c .before .loop .inv .inside); keys = c .before .before .before .pre .keys }
+block-under-requires c κs =
+    record { room = omega (arith, c .before .before .before .pre .room, c .before .loop .inv .inside); keys = c .before .before .before .pre .keys }
 
 -- src/rows.rt:119:38
 sub-block-under-2 : tie.Need-sub-block-under-2 Inv-loop μ-loop
@@ -33,7 +34,12 @@ sub-block-under-2 c = search needs
 
 -- src/rows.rt:119:13
 block-under-requires-2 : tie.Need-block-under-requires-2 Inv-loop μ-loop
-block-under-requires-2 c κs = record { room = omega (arith, c .before .before .before .before .pre .room, c .before .before .loop .inv .inside); keys = c .before .before .before .before .pre .keys }
+block-under-requires-2 c κs =
+    record {
+      room = omega
+          (arith, c .before .before .before .before .pre .room, c .before .before .loop .inv .inside);
+      keys = c .before .before .before .before .pre .keys;
+    }
 
 -- src/rows.rt:120:40
 sub-block-under-3 : tie.Need-sub-block-under-3 Inv-loop μ-loop
@@ -41,7 +47,12 @@ sub-block-under-3 c = search needs
 
 -- src/rows.rt:120:13
 block-under-requires-3 : tie.Need-block-under-requires-3 Inv-loop μ-loop
-block-under-requires-3 c κs = record { room = omega (arith, c .before .before .before .before .before .pre .room, c .before .before .before .loop .inv .inside); keys = c .before .before .before .before .before .pre .keys }
+block-under-requires-3 c κs =
+    record {
+      room = omega
+          (arith, c .before .before .before .before .before .pre .room, c .before .before .before .loop .inv .inside);
+      keys = c .before .before .before .before .before .pre .keys;
+    }
 
 -- src/rows.rt:121:39
 sub-block-under-4 : tie.Need-sub-block-under-4 Inv-loop μ-loop
@@ -49,7 +60,12 @@ sub-block-under-4 c = search needs
 
 -- src/rows.rt:121:13
 block-under-requires-4 : tie.Need-block-under-requires-4 Inv-loop μ-loop
-block-under-requires-4 c κs = record { room = omega (arith, c .before .before .before .before .before .before .pre .room, c .before .before .before .before .loop .inv .inside); keys = c .before .before .before .before .before .before .pre .keys }
+block-under-requires-4 c κs =
+    record {
+      room = omega
+          (arith, c .before .before .before .before .before .before .pre .room, c .before .before .before .before .loop .inv .inside);
+      keys = c .before .before .before .before .before .before .pre .keys;
+    }
 
 -- src/rows.rt:123:13
 returns : tie.Need-returns Inv-loop μ-loop
@@ -66,8 +82,10 @@ loop-less c = search needs
 -- src/rows.rt:117:5
 loop-again : tie.Need-loop-again Inv-loop μ-loop
 loop-again c =
-    let l = c .before .before .before .before .before .before .loop in
-    stretch-four _ _ _ _ _ (l .j) (l .next) _ _ _ _ (omega arith) (l .inv) (c .if1 .left) (c .before .before .before .before .block-under .ensures) (c .before .before .before .block-under2 .ensures)
+    let at-loop = c .before .before .before .before .before .before in
+    let l = at-loop .loop in
+    stretch-four _ _ _ _ _ (l .j) (l .next) _ _ _ _ (omega arith) (l .inv) (c .if1 .left) (c .before .before .before .before .block-under .ensures)
+    (c .before .before .before .block-under2 .ensures)
     (c .before .before .block-under3 .ensures) (c .before .block-under4 .ensures)
 
 -- src/rows.rt:111:1
