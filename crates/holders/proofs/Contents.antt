@@ -1,13 +1,11 @@
 -- The bytes of a chunk: where they lie in its log, and how many they are.
-use mathlib.Core.Path.{_≡_, refl, sym, ap, subst, _∙_}
-use mathlib.Core.List.{List, [], _∷_}
-use mathlib.Core.Bool.{true, false}
+use mathlib.Core.Path.{_≡_, sym, ap, subst, _∙_}
+use mathlib.Core.List.{List}
+use mathlib.Core.Bool.{true}
 use Prim.Native.Nat.{ℕ}
-use lib.Dec.{eqb}
 use lib.ListN.{length}
 use borrow.Author.Tests.{eqb-true}
-use Rattle.lists.specs.Tests.{some}
-use Rattle.lists.proofs.Tests.{by, clash, and-l, or-l, or-no}
+use Rattle.lists.proofs.Tests.{and-l}
 use Rattle.words.specs.Words.{words}
 use Rattle.rules.specs.declared.settings.Settings.{Settings}
 use Rattle.rules.specs.Numbers.{is-data}
@@ -22,13 +20,6 @@ use Rattle.layout.specs.Store.{decode}
 use Rattle.lent.specs.Parts.{LogPart}
 use Rattle.lent.specs.Stores.{StoreOf}
 use Rattle.lent.proofs.Stores.{settings-are, facts}
-
--- a log that does not hold the key has no bytes of it
-pub none-bytes : (l : List Chunk) (k : ℕ) → held l k ≡ false → bytes-in l k ≡ []
-unfolding held some bytes-in
-none-bytes [] k n = refl
-none-bytes (x ∷ l) k n =
-    by (eqb k (x .key)) (λ y. clash n (or-l _ _ y)) (λ z. rw z (none-bytes l k (sym (or-no _ _ z) ∙ n)))
 
 -- those of the row that look-up has found
 pub row-bytes : (c : Settings) (l : List Chunk) (bs : List ℕ) → LogPart c l bs → (k row : ℕ) → FoundAt (log-codec c .dec (words bs)) k row → keys-apart l ≡ true

@@ -1,5 +1,5 @@
 -- Who holds a chunk, sought member by member.
-use mathlib.Core.Path.{_≡_, refl, sym, ap, _∙_}
+use mathlib.Core.Path.{_≡_, refl, sym, ap, subst, _∙_}
 use mathlib.Core.List.{List, [], _∷_, _++_, List·Memᴰ, List·Memᴰ·head, List·Memᴰ·tail}
 use mathlib.Core.Bool.{true, false}
 use Prim.Native.Nat.{ℕ, suc, _+_, _≤_, _<_}
@@ -16,9 +16,8 @@ use Rattle.rules.specs.Parts.{members, circle, seek, holder}
 use Rattle.rules.proofs.Parts.{ids-in}
 use Rattle.layout.specs.Store.{decode}
 use Rattle.lent.specs.Stores.{StoreOf}
-use Rattle.lent.specs.Places.{Stands}
 use Rattle.lent.proofs.Stores.{facts}
-use Rattle.holders.specs.Members.{ids, between, NextAt}
+use Rattle.holders.specs.Members.{ids, between, NextAt, LiesAt}
 use Rattle.rules.proofs.Ids.{none-between}
 use Rattle.holders.proofs.Members.{circle-is}
 
@@ -88,11 +87,10 @@ module _ (c : Settings) (bs : List ℕ) (v : StoreOf c bs) (k home : ℕ) (e : h
       ap (λ (h : ℕ). seek (decode (words bs) .bricks) k (circle (decode (words bs)) h)) (sym e)
       ∙ ap (seek (decode (words bs) .bricks) k) (circle-is (decode (words bs)) home ids (omega (arith, facts c bs v .bricks .few)))
 
-  pub holder-above : (p : ℕ) → Stands c (decode (words bs)) (seek (decode (words bs) .bricks) k upper) p
-      → Stands c (decode (words bs)) (holder (decode (words bs)) k) p
-  holder-above p h =
-      let same = whole ∙ seek-first (decode (words bs) .bricks) k upper lower (h .some) in
-      record { inside = h .inside; some = rw same (h .some); here = h .here ∙ sym same }
+  pub holder-above : (p r : ℕ) → LiesAt c (decode (words bs)) (seek (decode (words bs) .bricks) k upper) k p r
+      → LiesAt c (decode (words bs)) (holder (decode (words bs)) k) k p r
+  holder-above p r h =
+      subst (λ (i : ℕ). LiesAt c (decode (words bs)) i k p r) (sym (whole ∙ seek-first (decode (words bs) .bricks) k upper lower (h .stands .some))) h
 
   pub holder-below : seek (decode (words bs) .bricks) k upper ≡ 0 → seek (decode (words bs) .bricks) k lower ≡ holder (decode (words bs)) k
   holder-below z =

@@ -13,6 +13,9 @@ use Rattle.rules.specs.Parts.{members}
 use Rattle.lent.specs.declared.brick.Found.{Found}
 use Rattle.lent.specs.declared.brick.Found.the-variants.{At, Nowhere}
 use Rattle.lent.specs.Places.{Stands}
+use Rattle.log.specs.Answers.{FoundAt}
+use Rattle.holders.specs.declared.Lies.{Lies}
+use Rattle.holders.specs.declared.Lies.the-variants as lies
 
 -- ids are below this
 abbrev pub ids : ℕ
@@ -43,6 +46,15 @@ NextIn settings s from to (Nowhere) = between s from to ≡ []
 abbrev pub Chosen : Settings → State → ℕ → Found → Type 0
 Chosen settings s id (At place) = Stands settings s id place
 Chosen settings s id (Nowhere) = id ≡ 0
+
+-- the brick with an id stands at the place, and the chunk lies in this row of its log
+pub record LiesAt (settings : Settings) (s : State) (id key place row : ℕ) : Type 0 where
+  pub stands : Stands settings s id place
+  pub found : FoundAt (s .bricks .log id) key row
+
+abbrev pub LiesWith : Settings → State → ℕ → ℕ → Lies → Type 0
+LiesWith settings s id key (lies.At place row) = LiesAt settings s id key place row
+LiesWith settings s id key (lies.Nowhere) = id ≡ 0
 
 -- the place has a member that has the chunk saved
 abbrev pub member-saved : State → ℕ → ℕ → Bool

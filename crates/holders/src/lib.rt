@@ -5,13 +5,15 @@ ghost use lib.Dec.{ltb};
 ghost use lib.ListN.{length};
 ghost use Rattle.words.specs.Words.{words};
 ghost use Rattle.rules.specs.Numbers.{home-of};
-ghost use Rattle.rules.specs.Chunks.{held, saved-in, bytes-in};
+ghost use Rattle.rules.specs.Chunks.{held, saved-in};
 ghost use Rattle.rules.specs.Parts.{circle, seek, holder, saved-at};
 ghost use Rattle.rules.specs.Upkeep.{of-first-two};
 ghost use Rattle.rules.specs.Writes.{target};
 ghost use Rattle.layout.specs.Store.{decode};
+ghost use Rattle.log.specs.Log.{chunk-at};
+ghost use Rattle.log.specs.Answers.{FoundIn};
 ghost use Rattle.lent.specs.Stores.{StoreOf};
-ghost use Rattle.holders.specs.Members.{between, member-within, NextIn, Chosen, member-saved, round, begins-with};
+ghost use Rattle.holders.specs.Members.{between, member-within, NextIn, Chosen, LiesWith, member-saved, round, begins-with};
 use layout::sizes;
 use lent::brick::Found;
 use lent::place;
@@ -56,6 +58,25 @@ pub fn next_member(store: &[u8], settings: Settings, from: u64, to: u64) -> Foun
 
 // ---- chunks
 
+// Where a chunk lies: the place of a brick that holds it, and the row of its log.
+pub enum Lies {
+    At(usize, usize),
+    Nowhere,
+}
+
+// The chunk in the log of the brick at the place.
+pub fn find_at(store: &[u8], settings: Settings, place: usize, key: ChunkKey) -> log::Found
+    requires { ⌜ StoreOf settings (now store) × (place < settings .places) × (0 < decode (words (now store)) .ids place) ⌝ }
+    ensures { λ r. ⌜ FoundIn (decode (words (now (store .entry))) .bricks .log (decode (words (now (store .entry))) .ids place)) (key .0) r ⌝ }
+{
+    log::find(
+        place::log(store, settings, place),
+        settings.chunks,
+        settings.size / sizes::WORD_BYTES,
+        key,
+    )
+}
+
 // Does the brick at the place hold the chunk?
 pub fn holds_at(store: &[u8], settings: Settings, place: usize, key: ChunkKey) -> bool
     requires { ⌜ StoreOf settings (now store) × (place < settings .places) × (0 < decode (words (now store)) .ids place) ⌝ }
@@ -82,50 +103,44 @@ pub fn saved_at(store: &[u8], settings: Settings, place: usize, key: ChunkKey) -
     )
 }
 
-// Its bytes in the log of the brick at the place: a part of the store, empty where there is no such chunk.
-pub fn chunk<'a>(store: &'a [u8], settings: Settings, place: usize, key: ChunkKey) -> &'a [u8]
-    requires { ⌜ StoreOf settings (now store) × (place < settings .places) × (0 < decode (words (now store)) .ids place) ⌝ }
-    ensures { λ r. ⌜ now r ≡ bytes-in (decode (words (now (store .entry))) .bricks .log (decode (words (now (store .entry))) .ids place)) (key .0) ⌝ }
+// The bytes of the chunk in a row of the log of the brick at the place: a part of the store.
+pub fn chunk<'a>(store: &'a [u8], settings: Settings, place: usize, row: usize) -> &'a [u8]
+    requires { ⌜ StoreOf settings (now store) × (place < settings .places) × (0 < decode (words (now store)) .ids place)
+        × (row < length (decode (words (now store)) .bricks .log (decode (words (now store)) .ids place))) ⌝ }
+    ensures { λ r. ⌜ now r ≡ chunk-at (decode (words (now (store .entry))) .bricks .log (decode (words (now (store .entry))) .ids place)) row .bytes ⌝ }
 {
     let log = place::log(store, settings, place);
-    match log::find(log, settings.chunks, settings.size / sizes::WORD_BYTES, key) {
-        log::Found::At(row) => {
-            return log::bytes_at(log, settings.chunks, settings.size / sizes::WORD_BYTES, row);
-        }
-        log::Found::Nothing => {
-            return &log[0..0];
-        }
-    }
+    log::bytes_at(log, settings.chunks, settings.size / sizes::WORD_BYTES, row)
 }
 
-// The place of the first member between two ids that holds the chunk.
-fn seek(store: &[u8], settings: Settings, key: ChunkKey, from: u64, to: u64) -> Found
+// Where the chunk lies with the first member between two ids that holds it.
+fn seek(store: &[u8], settings: Settings, key: ChunkKey, from: u64, to: u64) -> Lies
     requires { ⌜ StoreOf settings (now store) ⌝ }
-    ensures { λ r. ⌜ Chosen settings (decode (words (now (store .entry))))
-        (seek (decode (words (now (store .entry))) .bricks) (key .0) (between (decode (words (now (store .entry)))) from to)) r ⌝ }
+    ensures { λ r. ⌜ LiesWith settings (decode (words (now (store .entry))))
+        (seek (decode (words (now (store .entry))) .bricks) (key .0) (between (decode (words (now (store .entry)))) from to)) (key .0) r ⌝ }
 {
     let mut low = from;
     while low < to {
         let Found::At(place) = next_member(store, settings, low, to) else {
-            return Found::Nowhere;
+            return Lies::Nowhere;
         };
-        if holds_at(store, settings, place, key) {
-            return Found::At(place);
+        if let log::Found::At(row) = find_at(store, settings, place, key) {
+            return Lies::At(place, row);
         }
         low = place::id(store, settings, place) + 1;
     }
-    Found::Nowhere
+    Lies::Nowhere
 }
 
-// The place where the chunk is found: sought from the home id upward, circularly, among members.
-pub fn holder(store: &[u8], settings: Settings, key: ChunkKey) -> Found
+// Where the chunk is found: sought from the home id upward, circularly, among members.
+pub fn holder(store: &[u8], settings: Settings, key: ChunkKey) -> Lies
     requires { ⌜ StoreOf settings (now store) ⌝ }
-    ensures { λ r. ⌜ Chosen settings (decode (words (now (store .entry)))) (holder (decode (words (now (store .entry)))) (key .0)) r ⌝ }
+    ensures { λ r. ⌜ LiesWith settings (decode (words (now (store .entry)))) (holder (decode (words (now (store .entry)))) (key .0)) (key .0) r ⌝ }
 {
     let home = key.home();
     match seek(store, settings, key, home, IDS) {
-        Found::At(place) => Found::At(place),
-        Found::Nowhere => seek(store, settings, key, 0, home),
+        Lies::At(place, row) => Lies::At(place, row),
+        Lies::Nowhere => seek(store, settings, key, 0, home),
     }
 }
 

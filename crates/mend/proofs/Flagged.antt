@@ -1,5 +1,5 @@
 -- The flags of rows and places: one goes up, the others stay; so they tell the chunks apart that a place lacks.
-use mathlib.Core.Path.{_≡_, refl, sym, ap, subst, _∙_}
+use mathlib.Core.Path.{_≡_, refl, sym, ap, _∙_}
 use mathlib.Core.List.{List}
 use mathlib.Core.Bool.{Bool, true, false, not}
 use Prim.Native.Nat.{ℕ, _+_, _/_, _%_, _≤_, _<_}
@@ -14,25 +14,22 @@ use Rattle.lists.specs.Runs.{Below}
 use Rattle.lists.proofs.Runs.{below-at}
 use Rattle.words.specs.Words.{words}
 use Rattle.rules.specs.declared.settings.Settings.{Settings}
-use Rattle.rules.specs.Chunks.{Chunk, held}
+use Rattle.rules.specs.Chunks.{held}
 use Rattle.rules.specs.State.{State}
-use Rattle.rules.specs.Limits.{max-chunks}
-use Rattle.rules.specs.Numbers.{home-of}
-use Rattle.rules.specs.Parts.{circle, holder}
-use Rattle.rules.proofs.Parts.{seek-held}
+use Rattle.rules.specs.Limits.{max-places, max-chunks}
+use Rattle.rules.specs.Parts.{holder}
 use Rattle.log.specs.Log.{chunk-at}
 use Rattle.log.specs.Answers.{FoundAt}
 use Rattle.log.proofs.Rules.{apart-at}
-use Rattle.layout.specs.Layout.{log-codec}
 use Rattle.layout.specs.Store.{decode}
-use Rattle.lent.specs.Parts.{LogPart}
 use Rattle.lent.specs.Places.{Stands}
 use Rattle.lent.specs.Stores.{StoreOf}
 use Rattle.lent.proofs.Stores.{settings-are, facts}
 use Rattle.named.proofs.Names.{or-none}
 use Rattle.mend.specs.Keys.{wants, lacks}
 use Rattle.mend.specs.Acts.{Lacking}
-use Rattle.mend.specs.Flags.{bits, is-on, with-on, flag, raised, LiesAt, HoldsAt, Raises, Met, Meets}
+use Rattle.mend.specs.Flags.{bits, is-on, with-on, flag, raised, Met, Meets}
+use Rattle.holders.specs.Members.{LiesAt}
 
 -- ---- bits of a byte, tried one by one
 same-bit : Bool → Bool → Bool
@@ -113,9 +110,6 @@ pub met-by : (c : Settings) (s : State) (id : ℕ) (met next : ℕ → Bool) (fl
 met-by c s id met next flags e m = record { long = m .long; says = λ k p r y a. m .says k p r y a ∙ e k }
 
 -- ---- a chunk's place and row are its own
-pub found-in : (c : Settings) (l : List Chunk) (part : List ℕ) → LogPart c l part → (k r : ℕ) → FoundAt (log-codec c .dec (words part)) k r → FoundAt l k r
-found-in c l part h k r f = subst (λ (x : List Chunk). FoundAt x k r) (h .same) f
-
 module _ (c : Settings) (bs : List ℕ) (v : StoreOf c bs) where
   abbrev s : State
   s = decode (words bs)
@@ -130,7 +124,7 @@ module _ (c : Settings) (bs : List ℕ) (v : StoreOf c bs) where
       (λ _ l. by-lt q r (λ _ m. absurd (apart q r m (a .in-use) (b .same ∙ sym (a .same)))) (λ _ m. omega arith))
 
   -- and another chunk's are others
-  two-keys : (k j p r : ℕ) → LiesAt c s k p r → LiesAt c s j p r → k ≡ j
+  two-keys : (k j p r : ℕ) → LiesAt c s (holder s k) k p r → LiesAt c s (holder s j) j p r → k ≡ j
   two-keys k j p r a b =
       let same : holder s k ≡ holder s j = sym (a .stands .here) ∙ b .stands .here in
       sym (a .found .same) ∙ ap (λ (i : ℕ). chunk-at (s .bricks .log i) r .key) same ∙ b .found .same
@@ -138,7 +132,7 @@ module _ (c : Settings) (bs : List ℕ) (v : StoreOf c bs) where
   pub log-room : (i : ℕ) → length (s .bricks .log i) ≤ c .chunks
   log-room i = rw (settings-are c bs v) at (facts c bs v .log-room i)
 
-  low : (k p r : ℕ) → LiesAt c s k p r → (p < 8) × (r < 65536)
+  low : (k p r : ℕ) → LiesAt c s (holder s k) k p r → (p < 8) × (r < 65536)
   low k p r a =
       (omega (arith, a .stands .inside, v .limits .places-to), omega (arith, a .found .in-use, log-room (holder s k), v .limits .chunks-to))
 
@@ -152,7 +146,7 @@ module _ (c : Settings) (bs : List ℕ) (v : StoreOf c bs) where
     }
 
     -- one whose chunk is: its flag goes up
-    module _ (p r : ℕ) (y : lacks s id k ≡ true) (a : LiesAt c s k p r) (bytes : Below 256 flags) where
+    module _ (p r : ℕ) (y : lacks s id k ≡ true) (a : LiesAt c s (holder s k) k p r) (bytes : Below 256 flags) where
       in-flags : r < length flags
       in-flags = omega (arith, low k p r a .1, m .long)
 
@@ -166,7 +160,7 @@ module _ (c : Settings) (bs : List ℕ) (v : StoreOf c bs) where
       row-else t q n = ap (λ (x : ℕ). is-on x q) (getD-set-other flags r t _ 0 n)
 
       -- of another chunk
-      apart : (j q t : ℕ) → LiesAt c s j q t → (j ≡ k → ⊥) → flag (raised flags r p) t q ≡ flag flags t q
+      apart : (j q t : ℕ) → LiesAt c s (holder s j) j q t → (j ≡ k → ⊥) → flag (raised flags r p) t q ≡ flag flags t q
       apart j q t d n =
           by-eq t r
           (λ _ e. by-eq p q (λ _ h. absurd (n (two-keys j k p r (rw (h, sym e) d) a))) (λ h _. rw e (row-now q (low j q t d .0) ∙ or-no _ _ h)))
@@ -180,7 +174,7 @@ module _ (c : Settings) (bs : List ℕ) (v : StoreOf c bs) where
             (λ h e. apart j q t d e ∙ m .says j q t z d ∙ sym (ap (λ b. met j or b) h ∙ or-none (met j)));
       }
         where
-          mine : (q t : ℕ) → LiesAt c s k q t → flag (raised flags r p) t q ≡ true
+          mine : (q t : ℕ) → LiesAt c s (holder s k) k q t → flag (raised flags r p) t q ≡ true
           mine q t d =
               let ep : q ≡ p = one-place (holder s k) q p (d .stands) (a .stands) in
               let er : t ≡ r = one-row (holder s k) k t r (d .found) (a .found) in
@@ -203,23 +197,17 @@ module _ (c : Settings) (bs : List ℕ) (v : StoreOf c bs) where
   pub meets-held : (id k : ℕ) (flags : List ℕ) → held (s .bricks .log id) k ≡ true → Meets c s id k flags flags false
   meets-held id k flags y = meets-not id k flags (unfold lacks in no-second _ _ (ap not y))
 
-  pub holds-it : (k p : ℕ) → Stands c s (holder s k) p → HoldsAt c bs p k
-  holds-it k p at = record {
-    store = v;
-    inside = at .inside;
-    some = omega (arith, at .some, at .here);
-    holds = ap (λ (i : ℕ). held (s .bricks .log i) k) (at .here) ∙ (unfold holder in seek-held (s .bricks) k (circle s (home-of k)) (at .some));
-  }
+  -- the flag of the row where a lacking chunk lies
+  module _ (id k p r : ℕ) (o : Lacking c s id k p r) where
+    pub row-flagged : (flags : List ℕ) → length flags ≡ max-chunks → (r < length flags) × (p < max-places)
+    row-flagged flags e = (omega (arith, low k p r (o .from) .1, e), low k p r (o .from) .0)
 
-  pub meets-it : (id k p : ℕ) → Lacking c s id k p → (flags after : List ℕ) (r : Bool) → Below 256 flags → Raises s p k flags after r
-      → Meets c s id k flags after r
-  meets-it id k p o flags after r b h = record {
-    new = λ met m. h .new ∙ ap not (m .says k p (h .row) lacking lies) ∙ sym (yes-first _ _ lacking);
-    met = λ met m. rw (h .same) (met-now id met flags m k p (h .row) lacking lies b);
-  }
-    where
-      lacking : lacks s id k ≡ true
-      lacking = unfold lacks in both _ _ (o .wanted) (ap not (o .missing))
-
-      lies : LiesAt c s k p (h .row)
-      lies = record { stands = o .from; found = subst (λ (i : ℕ). FoundAt (s .bricks .log i) k (h .row)) (o .from .here) (h .found) }
+    pub meets-it : (flags after : List ℕ) (new : Bool) → Below 256 flags → new ≡ not (flag flags r p) → after ≡ raised flags r p
+        → Meets c s id k flags after new
+    meets-it flags after new b told same = record {
+      new = λ met m. told ∙ ap not (m .says k p r lacking (o .from)) ∙ sym (yes-first _ _ lacking);
+      met = λ met m. rw same (met-now id met flags m k p r lacking (o .from) b);
+    }
+      where
+        lacking : lacks s id k ≡ true
+        lacking = unfold lacks in both _ _ (o .wanted) (ap not (o .missing))

@@ -1,5 +1,5 @@
 -- What becomes of one key, as the code decides it.
-use mathlib.Core.Path.{_≡_, sym, ap, _∙_}
+use mathlib.Core.Path.{_≡_, sym, ap, subst, _∙_}
 use mathlib.Core.Bool.{true, false}
 use mathlib.Core.List.{List, [], _∷_}
 use Prim.Native.Nat.{ℕ}
@@ -10,6 +10,7 @@ use Rattle.words.specs.Words.{words}
 use Rattle.rules.specs.declared.settings.Settings.{Settings}
 use Rattle.rules.specs.Chunks.{Chunk, chunk, held, bytes-in, append, save-key}
 use Rattle.rules.specs.State.{State}
+use Rattle.log.specs.Answers.{FoundAt}
 use Rattle.layout.specs.Store.{decode, render}
 use Rattle.lent.proofs.Logs.{log-changed}
 use Rattle.transfer.specs.Brings.{Brings, brought}
@@ -17,7 +18,6 @@ use Rattle.mend.specs.Fit.{with-log-at, log-of, Mends, key-mended}
 use Rattle.mend.specs.Keys.{wants}
 use Rattle.mend.specs.Acts.{Lacking}
 use Rattle.mend.proofs.Mending.{key-none, key-saved, key-added}
-use Rattle.mend.proofs.Flagged.{holds-it}
 use Rattle.mend.proofs.OnStore.{stands, log-still}
 
 module _ (c : Settings) (bs : List ℕ) (p k : ℕ) (m : Mends c bs p k) where
@@ -35,22 +35,23 @@ module _ (c : Settings) (bs : List ℕ) (p k : ℕ) (m : Mends c bs p k) where
       → vs ≡ with-log-at c p (key-mended p k (words bs)) (words bs)
   saved w h vs q = q ∙ ap (λ (l : List Chunk). with-log-at c p l (words bs)) (sym (key-saved s (s .ids p) log k w h))
 
-  module _ (from : ℕ) (o : Lacking c s (s .ids p) k from) where
+  module _ (from row : ℕ) (o : Lacking c s (s .ids p) k from row) where
     abbrev bytes : List ℕ
     bytes = bytes-in (log-of from (words bs)) k
 
     grown : key-mended p k (words bs) ≡ append log (chunk k true bytes)
     grown =
         key-added s (s .ids p) log k (o .wanted) (o .missing)
-        ∙ ap (λ (i : ℕ). append log (chunk k true (bytes-in (s .bricks .log i) k))) (sym (o .from .here))
+        ∙ ap (λ (i : ℕ). append log (chunk k true (bytes-in (s .bricks .log i) k))) (sym (o .from .stands .here))
 
-    pub brings : Brings c bs from p k
+    pub brings : Brings c bs from row p k
     brings = record {
       store = m .there .store;
-      from-in = o .from .inside;
+      from-in = o .from .stands .inside;
+      from-filled = rw (o .from .stands .here) (o .from .stands .some);
+      found = subst (λ (i : ℕ). FoundAt (s .bricks .log i) k row) (sym (o .from .stands .here)) (o .from .found);
       to-in = m .there .inside;
       to-filled = stands c bs p (m .there);
-      held = holds-it c bs (m .there .store) k from (o .from) .holds;
       room = omega (arith, m .room, ap length grown ∙ length-append log (chunk k true bytes ∷ []));
     }
 

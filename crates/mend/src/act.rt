@@ -4,7 +4,7 @@ ghost use Rattle.words.specs.Words.{words};
 ghost use Rattle.layout.specs.Store.{decode};
 ghost use Rattle.mend.specs.Fit.{UpAt};
 ghost use Rattle.mend.specs.Acts.{ActOf};
-use lent::brick::Found;
+use holders::Lies;
 use lent::place;
 use rules::numbers::ChunkKey;
 use rules::settings::Settings;
@@ -13,8 +13,8 @@ pub enum Act {
     Nothing,
     // its own chunk becomes saved
     Save,
-    // the chunk comes from this place
-    Bring(usize),
+    // the chunk comes from this place, where it lies in this row
+    Bring(usize, usize),
 }
 
 pub fn for_key(store: &[u8], settings: Settings, place: usize, key: ChunkKey) -> Act
@@ -29,7 +29,7 @@ pub fn for_key(store: &[u8], settings: Settings, place: usize, key: ChunkKey) ->
         return Act::Save;
     }
     match holders::holder(store, settings, key) {
-        Found::At(from) => Act::Bring(from),
-        Found::Nowhere => Act::Nothing,
+        Lies::At(from, row) => Act::Bring(from, row),
+        Lies::Nowhere => Act::Nothing,
     }
 }

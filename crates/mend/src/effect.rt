@@ -35,7 +35,7 @@ fn mend_key(store: &mut [u8], settings: Settings, place: usize, key: ChunkKey)
     match act::for_key(store, settings, place, key) {
         Act::Nothing => {}
         Act::Save => save_at(store, settings, place, key),
-        Act::Bring(from) => transfer::bring(store, settings, from, place, key, true),
+        Act::Bring(from, row) => transfer::bring(store, settings, from, row, place, key, true),
     }
 }
 

@@ -12,7 +12,7 @@ ghost use Rattle.rules.specs.Upkeep.{mended};
 ghost use Rattle.layout.specs.Store.{decode};
 ghost use Rattle.named.specs.Tables.{named, AllNamed};
 ghost use Rattle.mend.specs.Fit.{UpAt};
-ghost use Rattle.mend.specs.Flags.{flag, raised, HoldsAt, Raises, Met, Meets};
+ghost use Rattle.mend.specs.Flags.{flag, raised, Met, Meets};
 ghost use Rattle.mend.specs.Keys.{before, added-in, added};
 ghost use Rattle.mend.specs.Counts.{TableFit, Counts, CountAt, named-below};
 use crate::act;
@@ -42,18 +42,6 @@ fn raise(flags: &mut [u8], row: usize, place: usize) -> bool
 
 // ---- chunks that are added
 
-// The flag of the row where the chunk lies at another place goes up. Was it down?
-fn raise_at(store: &[u8], settings: Settings, flags: &mut [u8], place: usize, key: ChunkKey) -> bool
-    requires { ⌜ HoldsAt settings (now store) place (key .0) × (length (now flags) ≡ max-chunks) ⌝ }
-    ensures { λ r. ⌜ Raises (decode (words (now (store .entry)))) place (key .0) (now (flags .entry)) (now (flags .exit)) r ⌝ }
-{
-    let log = place::log(store, settings, place);
-    match log::find(log, settings.chunks, settings.size / sizes::WORD_BYTES, key) {
-        log::Found::At(row) => raise(flags, row, place),
-        log::Found::Nothing => false,
-    }
-}
-
 // Does the place lack the key's chunk, which it is to get, and was the key not met before?
 fn adds(store: &[u8], settings: Settings, place: usize, key: ChunkKey, flags: &mut [u8]) -> bool
     requires { ⌜ UpAt settings (now store) place × (length (now flags) ≡ max-chunks) ⌝ }
@@ -63,7 +51,7 @@ fn adds(store: &[u8], settings: Settings, place: usize, key: ChunkKey, flags: &m
     match act::for_key(store, settings, place, key) {
         Act::Nothing => false,
         Act::Save => false,
-        Act::Bring(from) => raise_at(store, settings, flags, from, key),
+        Act::Bring(from, row) => raise(flags, row, from),
     }
 }
 

@@ -1,5 +1,5 @@
 -- The bytes of a key: where they lie, and how many they are.
-use mathlib.Core.Path.{_≡_, sym, ap, _∙_}
+use mathlib.Core.Path.{_≡_, refl, sym, ap, _∙_}
 use mathlib.Core.List.{List, []}
 use mathlib.Core.Bool.{true, false}
 use Prim.Native.Nat.{ℕ, _<_}
@@ -15,11 +15,14 @@ use Rattle.rules.specs.State.{State}
 use Rattle.rules.specs.Parts.{circle, holder}
 use Rattle.rules.specs.Reads.{zeros}
 use Rattle.rules.proofs.Parts.{seek-held}
+use Rattle.log.specs.Log.{chunk-at}
+use Rattle.log.proofs.Rules.{found-bytes}
 use Rattle.layout.specs.Disk.{Brick}
 use Rattle.layout.specs.Store.{decode}
 use Rattle.lent.specs.Stores.{StoreOf}
 use Rattle.lent.proofs.Places.{zero-blank}
-use Rattle.lent.proofs.Stores.{settings-are}
+use Rattle.lent.proofs.Stores.{settings-are, facts}
+use Rattle.holders.specs.Members.{LiesAt}
 use Rattle.holders.proofs.Contents.{held-size}
 use Rattle.reads.specs.Get.{is-found, key-bytes}
 
@@ -50,6 +53,15 @@ module _ (c : Settings) (bs : List ℕ) (v : StoreOf c bs) (k : ℕ) where
 
     pub held-bytes : (id : ℕ) → id ≡ holder (decode (words bs)) k → bytes-in (decode (words bs) .bricks .log id) k ≡ key-bytes (decode (words bs)) k
     held-bytes id e = ap (λ (i : ℕ). bytes-in (decode (words bs) .bricks .log i) k) e ∙ some-key
+
+    -- the row in which the chunk lies has them
+    pub lying-bytes : (place row : ℕ) → LiesAt c (decode (words bs)) (holder (decode (words bs)) k) k place row
+        → chunk-at (decode (words bs) .bricks .log (decode (words bs) .ids place)) row .bytes ≡ key-bytes (decode (words bs)) k
+    lying-bytes place row at =
+        let h = holder (decode (words bs)) k in
+        ap (λ (i : ℕ). chunk-at (decode (words bs) .bricks .log i) row .bytes) (at .stands .here)
+        ∙ sym (found-bytes k (decode (words bs) .bricks .log h) row (facts c bs v .logs h .apart) (at .found .in-use) (at .found .same))
+        ∙ held-bytes h refl
 
     pub no-bytes : holder (decode (words bs)) k ≡ 0 → [] ≡ key-bytes (decode (words bs)) k
     unfolding bytes-in

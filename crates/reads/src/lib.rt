@@ -11,9 +11,9 @@ ghost use Rattle.rules.specs.Reads.{get-asks, zeros};
 ghost use Rattle.layout.specs.Store.{decode};
 ghost use Rattle.lent.specs.Stores.{StoreOf};
 ghost use Rattle.reads.specs.Get.{is-found, key-bytes, Gets, Fills, GetsInto};
+use holders::Lies;
 use layout::sizes;
 use lent::Answer;
-use lent::brick::Found;
 use mappings::asks;
 use mappings::block;
 use rules::numbers::BlockNumber;
@@ -31,8 +31,8 @@ fn is_found(store: &[u8], settings: Settings, key: ChunkKey) -> bool
         return true;
     }
     match holders::holder(store, settings, key) {
-        Found::At(_) => true,
-        Found::Nowhere => false,
+        Lies::At(_, _) => true,
+        Lies::Nowhere => false,
     }
 }
 
@@ -66,10 +66,10 @@ fn key_bytes<'a>(store: &'a [u8], blank: &'a [u8], settings: Settings, key: Chun
         return blank;
     }
     match holders::holder(store, settings, key) {
-        Found::At(place) => {
-            return holders::chunk(store, settings, place, key);
+        Lies::At(place, row) => {
+            return holders::chunk(store, settings, place, row);
         }
-        Found::Nowhere => {
+        Lies::Nowhere => {
             return &blank[0..0];
         }
     }
@@ -115,11 +115,11 @@ fn fill_key(store: &[u8], settings: Settings, key: ChunkKey, area: &mut [u8]) ->
         return true;
     }
     match holders::holder(store, settings, key) {
-        Found::At(place) => {
-            moves::copy_bytes(area, holders::chunk(store, settings, place, key));
+        Lies::At(place, row) => {
+            moves::copy_bytes(area, holders::chunk(store, settings, place, row));
             return true;
         }
-        Found::Nowhere => {
+        Lies::Nowhere => {
             return false;
         }
     }

@@ -1,19 +1,17 @@
 -- A chunk's bytes in the words of the store: where they lie, and what is left when they have come into the next cell of a log and the chunk is entered.
 use mathlib.Core.Path.{_≡_, refl, sym, ap, subst, _∙_}
-use mathlib.Core.Bool.{Bool, true, false}
-use mathlib.Core.List.{List, [], _++_}
+use mathlib.Core.Bool.{Bool}
+use mathlib.Core.List.{List, _++_}
 use Prim.Native.Nat.{ℕ, _+_, _*_, _-_, _/_, _≤_, _<_}
 use native.Mathlib.Omega.{arith}
 use lib.ListN.{length, take, drop, getD}
 use lib.Seq.{paste}
-use Rattle.lists.specs.Tests.{some}
 use Rattle.lists.specs.Runs.{run, on-run}
-use Rattle.lists.proofs.Tests.{by, clash}
 use Rattle.lists.proofs.Runs.{fits-in, run-length, run-of-run, paste-run, on-by, on-same, on-twice, on-within}
 use Rattle.words.specs.Words.{words, unwords}
 use Rattle.words.proofs.Laws.{lent-run, length-words}
 use Rattle.rules.specs.declared.settings.Settings.{Settings}
-use Rattle.rules.specs.Chunks.{Chunk, chunk, append, held, bytes-in}
+use Rattle.rules.specs.Chunks.{Chunk, chunk, append, bytes-in}
 use Rattle.log.specs.Log.{IsLog}
 use Rattle.log.specs.Steps.{with-next}
 use Rattle.log.specs.Answers.{FoundAt}
@@ -29,38 +27,32 @@ use Rattle.lent.proofs.Logs.{log-inside, log-bytes, log-run, log-lies, log-good
 use Rattle.holders.proofs.Contents.{row-bytes}
 use Rattle.transfer.specs.Brings.{log-at-place, cell-at, LogRoom}
 
--- ---- a brick that holds a chunk stands somewhere
-none-held : (k : ℕ) → held [] k ≡ false
-unfolding held some
-none-held k = refl
-
-pub holder-stands : (c : Settings) (bs : List ℕ) → StoreOf c bs → (place k : ℕ) → held (log-at-place (decode (words bs)) place) k ≡ true
-    → 0 < decode (words bs) .ids place
-holder-stands c bs v place k y =
-    let i : ℕ = decode (words bs) .ids place in
-    by (decode (words bs) .bricks .here i) (λ h. facts c bs v .bricks .first i h)
-    (λ n. clash (ap (λ (l : List Chunk). held l k) (facts c bs v .log-blank i n) ∙ none-held k) y)
-
 -- ---- a log lies in the store
 log-fits : (c : Settings) (bs : List ℕ) → StoreOf c bs → (p : ℕ) → p < c .places → log-from c p + log-words c ≤ length (words bs)
 log-fits c bs v p l = omega (arith, log-inside c p l, v .sound .size ∙ ap store-words (sym (v .same)))
 
--- ---- the bytes of a chunk, in the row where it is found
-pub found-bytes : (c : Settings) (bs : List ℕ) (v : StoreOf c bs) (p : ℕ) (l : p < c .places) → 0 < decode (words bs) .ids p → (k row at : ℕ)
-    → FoundAt (log-at-place (decode (words bs)) p) k row → at ≡ cell-at c p row
-    → unwords (run at (c .size / word-bytes) (words bs)) ≡ bytes-in (log-at-place (decode (words bs)) p) k
-found-bytes c bs v p l o k row at found e =
-    let width : ℕ = c .size / word-bytes in
-    let lie = log-lies c bs v p l o in
-    let f : FoundAt (log-codec c .dec (words (log-bytes c p bs))) k row = subst (λ (x : List Chunk). FoundAt x k row) (sym (lie .same)) found in
-    let h = found-row (c .chunks) width (log-bytes c p bs) (lie .log) k row f in
-    let few : row < c .chunks = omega (arith, h, lie .log .few) in
-    let fits = fits-in width few in
-    let cell : ℕ = 1 + 3 * c .chunks + row * width in
-    ap unwords (ap (λ (a : ℕ). run a width (words bs)) e
-    ∙ sym (run-of-run (log-from c p) (log-words c) cell width (words bs) (log-fits c bs v p l) (omega arith)) ∙ ap (run cell width) (sym (log-run c bs v p l)))
-    ∙ sym (cell-bytes (c .chunks) width (log-bytes c p bs) (lie .log) row h)
-    ∙ row-bytes c (log-at-place (decode (words bs)) p) (log-bytes c p bs) lie k row f (facts c bs v .logs _ .apart)
+-- ---- a chunk that lies in a row of the log at a place: that is one of the rows, and its bytes are those of its cell
+module _ (c : Settings) (bs : List ℕ) (v : StoreOf c bs) (p : ℕ) (l : p < c .places) (o : 0 < decode (words bs) .ids p) (k row : ℕ)
+    (found : FoundAt (log-at-place (decode (words bs)) p) k row) where
+  found-here : FoundAt (log-codec c .dec (words (log-bytes c p bs))) k row
+  found-here = subst (λ (x : List Chunk). FoundAt x k row) (sym (log-lies c bs v p l o .same)) found
+
+  in-use : row < getD (words (log-bytes c p bs)) 0 0
+  in-use = found-row (c .chunks) (c .size / word-bytes) (log-bytes c p bs) (log-lies c bs v p l o .log) k row found-here
+
+  pub found-few : row < c .chunks
+  found-few = omega (arith, in-use, log-lies c bs v p l o .log .few)
+
+  pub found-bytes : (at : ℕ) → at ≡ cell-at c p row
+      → unwords (run at (c .size / word-bytes) (words bs)) ≡ bytes-in (log-at-place (decode (words bs)) p) k
+  found-bytes at e =
+      let width : ℕ = c .size / word-bytes in
+      let fits = fits-in width found-few in
+      let cell : ℕ = 1 + 3 * c .chunks + row * width in
+      ap unwords (ap (λ (a : ℕ). run a width (words bs)) e
+      ∙ sym (run-of-run (log-from c p) (log-words c) cell width (words bs) (log-fits c bs v p l) (omega arith)) ∙ ap (run cell width) (sym (log-run c bs v p l)))
+      ∙ sym (cell-bytes (c .chunks) width (log-bytes c p bs) (log-lies c bs v p l o .log) row in-use)
+      ∙ row-bytes c (log-at-place (decode (words bs)) p) (log-bytes c p bs) (log-lies c bs v p l o) k row found-here (facts c bs v .logs _ .apart)
 
 -- ---- words d come to q, where the next cell of the log at place p begins
 module _ (c : Settings) (bs : List ℕ) (v : StoreOf c bs) (p : ℕ) (l : p < c .places) (o : 0 < decode (words bs) .ids p)

@@ -1,17 +1,14 @@
 // A chunk goes from the log of the brick at one place to that of the brick at another: its bytes by one move within the store.
 ghost use mathlib.Core.Path.{_≡_};
-ghost use mathlib.Core.Bool.{true};
 ghost use Prim.Native.Nat.{_+_, _/_, _<_, _≤_};
 ghost use lib.ListN.{length};
 ghost use Rattle.lists.specs.Runs.{on-run};
 ghost use Rattle.words.specs.Words.{words};
-ghost use Rattle.rules.specs.Chunks.{held};
 ghost use Rattle.rules.proofs.Limits.{Limits};
 ghost use Rattle.log.specs.Steps.{with-next};
 ghost use Rattle.layout.specs.Layout.{log-words, store-words, log-at};
 ghost use Rattle.layout.specs.Store.{decode, render};
-ghost use Rattle.lent.specs.Stores.{StoreOf};
-ghost use Rattle.transfer.specs.Brings.{log-at-place, brought, Brings, cell-at, LiesAt, LogRoom};
+ghost use Rattle.transfer.specs.Brings.{brought, Brings, cell-at, LogRoom};
 use layout::sizes;
 use lent::place;
 use lent::place::Span;
@@ -26,19 +23,6 @@ fn cell_at(settings: Settings, place: usize, row: usize) -> usize
     let width = settings.size / sizes::WORD_BYTES;
     let cell = 1 + 3 * settings.chunks + words::offset(row, width, settings.chunks);
     sizes::place_at(settings, place) + sizes::log_at(settings) + cell
-}
-
-// The word at which the bytes of a chunk lie that the brick at the place holds.
-fn held_at(store: &[u8], settings: Settings, place: usize, key: ChunkKey) -> usize
-    requires { ⌜ StoreOf settings (now store) × (place < settings .places)
-        × (held (log-at-place (decode (words (now store))) place) (key .0) ≡ true) ⌝ }
-    ensures { λ r. ⌜ LiesAt settings (words (now (store .entry))) place (key .0) r ⌝ }
-{
-    let log = place::log(store, settings, place);
-    match log::find(log, settings.chunks, settings.size / sizes::WORD_BYTES, key) {
-        log::Found::At(row) => cell_at(settings, place, row),
-        log::Found::Nothing => 0,
-    }
 }
 
 // The place's log gets the chunk whose bytes stand in its next cell.
@@ -58,20 +42,21 @@ fn enter(part: &mut [u8], settings: Settings, key: ChunkKey, saved: bool)
     );
 }
 
-// The bytes go into a cell that is not in use; then the place's part alone is lent for the row.
+// The chunk in a row of one log goes to another. Its bytes go into a cell that is not in use; then the place's part alone is lent for the row.
 pub fn bring(
     store: &mut [u8],
     settings: Settings,
     source: usize,
+    row: usize,
     target: usize,
     key: ChunkKey,
     saved: bool,
 )
-    requires { ⌜ Brings settings (now store) source target (key .0) ⌝ }
+    requires { ⌜ Brings settings (now store) source row target (key .0) ⌝ }
     ensures { λ _. ⌜ words (now (store .exit))
         ≡ render (brought (decode (words (now (store .entry)))) source target (key .0) saved) (words (now (store .entry))) ⌝ }
 {
-    let bytes = held_at(store, settings, source, key);
+    let bytes = cell_at(settings, source, row);
     let count = place::chunk_count(store, settings, target) as usize;
     let cell = cell_at(settings, target, count);
     moves::move_words(store, bytes, cell, settings.size / sizes::WORD_BYTES);

@@ -18,6 +18,7 @@ use Rattle.rules.specs.State.{State}
 use Rattle.rules.specs.Parts.{up-member}
 use Rattle.rules.specs.Question.{AllYes}
 use Rattle.rules.specs.Writes.{target, nothing-to-copy, copy-asks, copy-effect}
+use Rattle.log.specs.Answers.{FoundAt}
 use Rattle.layout.specs.Disk.{Brick, blank-brick}
 use Rattle.layout.specs.Store.{brick-in, decode, render}
 use Rattle.lent.specs.Stores.{StoreOf}
@@ -73,13 +74,18 @@ module _ (c : Settings) (bs : List ℕ) (so : StoreOf c bs) (key : ℕ) where
 
     -- ---- the effect
     module _ (y : AllYes (copy-asks s key)) (home : ℕ) (from : Stands c s (home-of key) home) where
-      pub copy-fits : Brings c bs home place key
-      copy-fits = record {
+      -- the home brick holds the chunk
+      pub home-holds : held (s .bricks .log (s .ids home)) key ≡ true
+      home-holds = ap (λ (i : ℕ). held (s .bricks .log i) key) (from .here) ∙ y .1 .1 .1 .0
+
+      pub copy-fits : (row : ℕ) → FoundAt (s .bricks .log (s .ids home)) key row → Brings c bs home row place key
+      copy-fits row found = record {
         store = so;
         from-in = from .inside;
+        from-filled = rw (from .here) (from .some);
+        found = found;
         to-in = at .at .inside;
         to-filled = rw (at .at .here) (at .at .some);
-        held = ap (λ (i : ℕ). held (s .bricks .log i) key) (from .here) ∙ y .1 .1 .1 .0;
         room = ltb-true (length (s .bricks .log (s .ids place))) (c .chunks) (room-is ∙ y .1 .1 .0);
       }
 

@@ -78,7 +78,7 @@ fn asks(store: &[u8], settings: Settings, key: ChunkKey) -> u64
 
 // ---- the effect
 
-// All was answered yes, so the home brick stands somewhere.
+// All was answered yes, so the home brick stands somewhere and holds the chunk.
 fn effect(store: &mut [u8], settings: Settings, key: ChunkKey)
     requires { ⌜ StoreOf settings (now store) × AllYes (copy-asks (decode (words (now store))) (key .0)) ⌝ }
     ensures { λ _. ⌜ words (now (store .exit)) ≡ render (copy-effect (decode (words (now (store .entry)))) (key .0)) (words (now (store .entry))) ⌝ }
@@ -89,7 +89,10 @@ fn effect(store: &mut [u8], settings: Settings, key: ChunkKey)
     let Found::At(home) = brick::place_of(store, settings, key.home()) else {
         return;
     };
-    transfer::bring(store, settings, home, target, key, false);
+    let log::Found::At(row) = holders::find_at(store, settings, home, key) else {
+        return;
+    };
+    transfer::bring(store, settings, home, row, target, key, false);
 }
 
 pub fn copy(store: &mut [u8], settings: Settings, key: u64) -> Answer

@@ -3,8 +3,7 @@ use Prim.Native.Nat.{ℕ}
 use Rattle.words.specs.Words.{words}
 use Rattle.rules.specs.Parts.{seek}
 use Rattle.layout.specs.Store.{decode}
-use Rattle.lent.specs.Places.{Stands}
-use Rattle.holders.specs.Members.{ids, between, Chosen}
+use Rattle.holders.specs.Members.{ids, between, LiesAt, LiesWith}
 use Rattle.holders.proofs.Sought.{holder-above, holder-below}
 use borrow.Author.Needs.{needs}
 use Rattle.holders.proofs.holder.Statement.{statement}
@@ -30,10 +29,10 @@ returns c =
     let s = c .before .before .before .before .before .before in
     let state = decode (words (s .args .store .now)) in
     let home = c .before .before .before .before .home .result in
-    let p = c .before .place .given .0 .0 in
-    let h : Stands (s .args .settings) state (seek (state .bricks) (s .args .key .0) (between state home ids)) p =
-    rw (c .before .place .given .1) at (c .before .before .before .seek .ensures) in
-    holder-above _ (s .args .store .now) (s .pre) (s .args .key .0) home (c .before .before .before .before .home .ensures) p h
+    let at = c .before .place .given in
+    let h : LiesAt (s .args .settings) state (seek (state .bricks) (s .args .key .0) (between state home ids)) (s .args .key .0) (at .0 .0) (at .0 .1 .0) =
+    rw (at .1) at (c .before .before .before .seek .ensures) in
+    holder-above _ (s .args .store .now) (s .pre) (s .args .key .0) home (c .before .before .before .before .home .ensures) _ _ h
 
 returns-2 : tie.Need-returns-2
 returns-2 c =
@@ -42,7 +41,7 @@ returns-2 c =
     let home = c .before .before .before .before .home .result in
     let z : seek (state .bricks) (s .args .key .0) (between state home ids) ≡ 0 =
     rw (c .before .enum-told .given .1) at (c .before .before .before .seek .ensures) in
-    subst (λ (i : ℕ). Chosen (s .args .settings) state i (c .seek2 .result))
+    subst (λ (i : ℕ). LiesWith (s .args .settings) state i (s .args .key .0) (c .seek2 .result))
     (holder-below _ (s .args .store .now) (s .pre) (s .args .key .0) home (c .before .before .before .before .home .ensures) z) (c .seek2 .ensures)
 
 pub holder-spec : {M : Type 1} → statement M

@@ -5,28 +5,29 @@ use lib.ListN.{length}
 use Rattle.words.specs.Words.{words}
 use Rattle.rules.specs.Parts.{holder}
 use Rattle.layout.specs.Store.{decode}
-use Rattle.lent.specs.Places.{Stands}
+use Rattle.holders.specs.Members.{LiesAt}
 use Rattle.reads.specs.Get.{key-bytes}
-use Rattle.reads.proofs.Contents.{found-zero, found-held, found-none, zero-bytes, held-bytes, bytes-size}
+use Rattle.reads.proofs.Contents.{found-zero, found-held, found-none, zero-bytes, lying-bytes, bytes-size}
 use Rattle.reads.proofs.Zeros.{filled-zeros}
 use borrow.Author.Needs.{needs}
 use Rattle.reads.proofs.fill_key.Statement.{statement}
 use Rattle.reads.proofs.fill_key.Tie as tie
 
--- the holder's place
-stands : (c : tie.After-place)
+-- where the chunk lies
+lies : (c : tie.After-place)
     → let s = c .before .before .before .before .before .before .before in
-    let state = decode (words (s .args .store .now)) in Stands (s .args .settings) state (holder state (s .args .key .0)) (c .place .given .0 .0)
-stands c = rw (c .place .given .1) at (c .before .before .holder .ensures)
+    let state = decode (words (s .args .store .now)) in
+    LiesAt (s .args .settings) state (holder state (s .args .key .0)) (s .args .key .0) (c .place .given .0 .0) (c .place .given .0 .1 .0)
+lies c = rw (c .place .given .1) at (c .before .before .holder .ensures)
 
--- the chunk has the bytes of the key
+-- its row has the bytes of the key
 copied : (c : tie.After-chunk)
     → let s = c .before .before .before .before .before .before .before .before .before .before in
     c .chunk .result .now ≡ key-bytes (decode (words (s .args .store .now))) (s .args .key .0)
 copied c =
-    let at-if1 = c .before .before .before .before .before .before in
-    let s = at-if1 .before .before .before .before in
-    c .chunk .ensures ∙ held-bytes _ (s .args .store .now) (s .pre .0) (s .args .key .0) (at-if1 .if1 .left) _ (stands (c .before .before .before) .here)
+    let p = c .before .before .before in
+    let s = p .before .before .before .before .before .before .before in
+    c .chunk .ensures ∙ lying-bytes _ (s .args .store .now) (s .pre .0) (s .args .key .0) (p .before .before .before .if1 .left) _ _ (lies p)
 
 fill-requires : tie.Need-fill-requires
 fill-requires c κs = search needs
@@ -53,22 +54,22 @@ enum-known-place c = search needs
 chunk-requires : tie.Need-chunk-requires
 chunk-requires c κs =
     let s = c .before .before .before .before .before .before .before .before .before in
-    let h = stands (c .before .before) in
-    (s .pre .0, h .inside, omega (arith, h .some, h .here))
+    let at = lies (c .before .before) in
+    (s .pre .0, at .stands .inside, omega (arith, at .stands .some, at .stands .here), rw (at .stands .here) (at .found .in-use))
 
 copy-bytes-requires : tie.Need-copy-bytes-requires
 copy-bytes-requires c κs =
     let s = c .before .before .before .before .before .before .before .before .before .before in
-    let h = stands (c .before .before .before) in
-    s .pre .1 ∙ sym (ap length (copied c) ∙ bytes-size _ (s .args .store .now) (s .pre .0) (s .args .key .0) (found-held _ _ (h .some)))
+    let h = lies (c .before .before .before) in
+    s .pre .1 ∙ sym (ap length (copied c) ∙ bytes-size _ (s .args .store .now) (s .pre .0) (s .args .key .0) (found-held _ _ (h .stands .some)))
 
 same-length-2 : tie.Need-same-length-2
 same-length-2 c = search needs
 
 returns-2 : tie.Need-returns-2
 returns-2 c =
-    let h = stands (c .before .before .before .before .before .before) in
-    (sym (found-held _ _ (h .some)), c .before .before .copy-bytes .ensures ∙ copied (c .before .before .before))
+    let h = lies (c .before .before .before .before .before .before) in
+    (sym (found-held _ _ (h .stands .some)), c .before .before .copy-bytes .ensures ∙ copied (c .before .before .before))
 
 enum-told : tie.Need-enum-told
 enum-told c = search needs

@@ -2,7 +2,7 @@ use mathlib.Core.Path.{_≡_, sym}
 use Rattle.words.specs.Words.{words}
 use Rattle.layout.specs.Store.{decode}
 use Rattle.rules.specs.Parts.{holder}
-use Rattle.lent.specs.Places.{Stands}
+use Rattle.holders.specs.Members.{LiesAt}
 use Rattle.reads.proofs.Contents.{found-zero, found-held, found-none}
 use borrow.Author.Needs.{needs}
 use Rattle.reads.proofs.is_found.Statement.{statement}
@@ -24,9 +24,10 @@ returns-2 : tie.Need-returns-2
 returns-2 c =
     let s = c .before .before .before .before .before .before in
     let state = decode (words (s .args .store .now)) in
-    let h : Stands (s .args .settings) state (holder state (s .args .key .0)) (c .enum-told .given .0 .0) =
-    rw (c .enum-told .given .1) at (c .before .before .holder .ensures) in
-    sym (found-held _ _ (h .some))
+    let at = c .enum-told .given in
+    let h : LiesAt (s .args .settings) state (holder state (s .args .key .0)) (s .args .key .0) (at .0 .0) (at .0 .1 .0) =
+    rw (at .1) at (c .before .before .holder .ensures) in
+    sym (found-held _ _ (h .stands .some))
 
 returns-3 : tie.Need-returns-3
 returns-3 c =

@@ -3,8 +3,8 @@ use native.Mathlib.Omega.{arith}
 use Rattle.words.specs.Words.{words}
 use Rattle.rules.specs.Parts.{holder}
 use Rattle.layout.specs.Store.{decode}
-use Rattle.lent.specs.Places.{Stands}
-use Rattle.reads.proofs.Contents.{zero-bytes, held-bytes, no-bytes}
+use Rattle.holders.specs.Members.{LiesAt}
+use Rattle.reads.proofs.Contents.{zero-bytes, lying-bytes, no-bytes}
 use borrow.Author.Needs.{needs}
 use Rattle.reads.proofs.key_bytes.Statement.{statement}
 use Rattle.reads.proofs.key_bytes.Tie as tie
@@ -20,21 +20,24 @@ holder-requires c κs = search needs
 enum-known-place : tie.Need-enum-known-place
 enum-known-place c = search needs
 
+-- where the chunk lies
+lies : (c : tie.After-place)
+    → let s = c .before .before .before .before .before .before .before in
+    let state = decode (words (s .args .store .now)) in
+    LiesAt (s .args .settings) state (holder state (s .args .key .0)) (s .args .key .0) (c .place .given .0 .0) (c .place .given .0 .1 .0)
+lies c = rw (c .place .given .1) at (c .before .before .holder .ensures)
+
 chunk-requires : tie.Need-chunk-requires
 chunk-requires c κs =
+    let at = lies (c .before) in
     let s = c .before .before .before .before .before .before .before .before in
-    let state = decode (words (s .args .store .now)) in
-    let h : Stands (s .args .settings) state (holder state (s .args .key .0)) (c .before .place .given .0 .0) =
-    rw (c .before .place .given .1) at (c .before .before .before .holder .ensures) in
-    (s .pre .0, h .inside, omega (arith, h .some, h .here))
+    (s .pre .0, at .stands .inside, omega (arith, at .stands .some, at .stands .here), rw (at .stands .here) (at .found .in-use))
 
 returns-2 : tie.Need-returns-2
 returns-2 c =
-    let s = c .before .before .before .before .before .before .before .before .before in
-    let state = decode (words (s .args .store .now)) in
-    let h : Stands (s .args .settings) state (holder state (s .args .key .0)) (c .before .before .place .given .0 .0) =
-    rw (c .before .before .place .given .1) at (c .before .before .before .before .holder .ensures) in
-    c .chunk .ensures ∙ held-bytes _ (s .args .store .now) (s .pre .0) (s .args .key .0) (c .before .before .before .before .before .if1 .left) _ (h .here)
+    let p = c .before .before in
+    let s = p .before .before .before .before .before .before .before in
+    c .chunk .ensures ∙ lying-bytes _ (s .args .store .now) (s .pre .0) (s .args .key .0) (p .before .before .before .if1 .left) _ _ (lies p)
 
 enum-told : tie.Need-enum-told
 enum-told c = search needs

@@ -9,41 +9,45 @@ use Rattle.rules.specs.Chunks.{chunk, append}
 use Rattle.layout.specs.Store.{decode, render}
 use Rattle.lent.specs.Places.{with-chunks}
 use Rattle.transfer.specs.Brings.{log-at-place, cell-at}
-use Rattle.transfer.proofs.Brought.{moved-fits, entered}
+use Rattle.transfer.proofs.Brought.{found-few, found-bytes, moved-fits, entered}
 use borrow.Author.Needs.{needs}
 use Rattle.transfer.proofs.bring.Statement.{statement}
 use Rattle.transfer.proofs.bring.Tie as tie
 
-abbrev cell : tie.After-move-words → tie.After-cell-at
+abbrev cell : tie.After-move-words → tie.After-cell-at2
 cell m = m .before .before .before
 
-abbrev held : tie.After-move-words → tie.After-held-at
+abbrev held : tie.After-move-words → tie.After-cell-at
 held m = cell m .before .before .before
 
 abbrev start : tie.After-move-words → tie.Start
-start m = held m .before .before .before
+start m = held m .before .before
 
 -- the words from the chunk's bytes on
 abbrev source : tie.After-move-words → List ℕ
-source m = drop (held m .held-at .result) (words (start m .args .store .now))
+source m = drop (held m .cell-at .result) (words (start m .args .store .now))
 
 next : (m : tie.After-move-words)
     → let s = start m in
-    cell m .cell-at .result ≡ cell-at (s .args .settings) (s .args .target) (length (log-at-place (decode (words (s .args .store .now))) (s .args .target)))
-next m = let s = start m in cell m .cell-at .ensures .0 ∙ ap (cell-at (s .args .settings) (s .args .target)) (cell m .before .chunk-count .ensures)
+    cell m .cell-at2 .result ≡ cell-at (s .args .settings) (s .args .target) (length (log-at-place (decode (words (s .args .store .now))) (s .args .target)))
+next m = let s = start m in cell m .cell-at2 .ensures .0 ∙ ap (cell-at (s .args .settings) (s .args .target)) (cell m .before .chunk-count .ensures)
 
 enough : (m : tie.After-move-words) → start m .args .settings .size / 8 ≤ length (source m)
-enough m =
-    rw (length-drop, length-words) (omega (arith, held m .held-at .ensures .inside, start m .pre .store .size))
+enough m = rw (length-drop, length-words) (omega (arith, held m .cell-at .ensures .1, start m .pre .store .size))
 
-held-at-requires : tie.Need-held-at-requires
-held-at-requires c κs = search needs
+cell-at-requires : tie.Need-cell-at-requires
+cell-at-requires c κs =
+    let s = c .before in (
+      s .pre .store .limits,
+      s .pre .from-in,
+      found-few (s .args .settings) (s .args .store .now) (s .pre .store) (s .args .source) (s .pre .from-in) (s .pre .from-filled) _ _ (s .pre .found),
+    )
 
 chunk-count-requires : tie.Need-chunk-count-requires
 chunk-count-requires c κs = search needs
 
-cell-at-requires : tie.Need-cell-at-requires
-cell-at-requires c κs = search needs
+cell-at-requires-2 : tie.Need-cell-at-requires-2
+cell-at-requires-2 c κs = search needs
 
 move-words-requires : tie.Need-move-words-requires
 move-words-requires c κs = search needs
@@ -66,7 +70,7 @@ enter-requires c κs =
     let m = span .before .before .before in
     let s = start m in
     moved-fits (s .args .settings) (s .args .store .now) (s .pre .store) (s .args .target) (s .pre .to-in) (s .pre .to-filled) (s .pre .room) (source m)
-    (cell m .cell-at .result) (next m) (enough m) (m .move-words .last .0) (m .move-words .kept .0) (m .move-words .ensures) _ _ (span .span-of .ensures)
+    (cell m .cell-at2 .result) (next m) (enough m) (m .move-words .last .0) (m .move-words .kept .0) (m .move-words .ensures) _ _ (span .span-of .ensures)
 
 same-length : tie.Need-same-length
 same-length c = search needs
@@ -79,18 +83,19 @@ returns c =
     let s = start m in
     let state = decode (words (s .args .store .now)) in
     entered (s .args .settings) (s .args .store .now) (s .pre .store) (s .args .target) (s .pre .to-in) (s .pre .to-filled) (s .pre .room) (source m)
-    (cell m .cell-at .result) (next m) (enough m) (m .move-words .last .0) (m .move-words .kept .0) (m .move-words .ensures) _ _ (span .span-of .ensures)
+    (cell m .cell-at2 .result) (next m) (enough m) (m .move-words .last .0) (m .move-words .kept .0) (m .move-words .ensures) _ _ (span .span-of .ensures)
     (s .args .key .0) (s .args .saved) (done .enter .last .0) (done .enter .kept .0) (done .enter .ensures)
     ∙ ap (λ (b : List ℕ). render (with-chunks state (state .ids (s .args .target)) (append (log-at-place state (s .args .target)) (chunk (s .args .key .0) (s .args .saved) b)))
-    (words (s .args .store .now))) (held m .held-at .ensures .bytes)
+    (words (s .args .store .now))) (found-bytes (s .args .settings) (s .args .store .now) (s .pre .store) (s .args .source) (s .pre .from-in) (s .pre .from-filled) _ _ (s .pre .found)
+    (held m .cell-at .result) (held m .cell-at .ensures .0))
 
 pub bring-spec : {M : Type 1} → statement M
 bring-spec =
     tie.close
     (tie.spec
-    held-at-requires
-    chunk-count-requires
     cell-at-requires
+    chunk-count-requires
+    cell-at-requires-2
     move-words-requires
     span-of-requires
     sub-enter

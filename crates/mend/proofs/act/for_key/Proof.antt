@@ -8,7 +8,7 @@ use Rattle.rules.specs.Numbers.{home-of}
 use Rattle.rules.specs.Parts.{circle, holder}
 use Rattle.rules.specs.Upkeep.{of-first-two}
 use Rattle.layout.specs.Store.{decode}
-use Rattle.lent.specs.Places.{Stands}
+use Rattle.holders.specs.Members.{LiesAt}
 use Rattle.mend.proofs.OnStore.{stands}
 use Rattle.mend.proofs.Decided.{wants-not, wants-none, wants-some, wants-held}
 use borrow.Author.Needs.{needs}
@@ -69,9 +69,10 @@ returns-3 c =
     let s = c .before .before .before .before .before .before .before .before .before .before in
     let a = s .args in
     let t = decode (words (a .store .now)) in
-    let h : Stands (a .settings) t (holder t (a .key .0)) (f .from .given .0 .0) = rw (f .from .given .1) at (f .before .before .holder .ensures) in
+    let at = f .from .given in
+    let h : LiesAt (a .settings) t (holder t (a .key .0)) (a .key .0) (at .0 .0) (at .0 .1 .0) = rw (at .1) at (f .before .before .holder .ensures) in
     record {
-      wanted = wants-some t _ (a .key .0) (is-first (e .before .before)) (h .some);
+      wanted = wants-some t _ (a .key .0) (is-first (e .before .before)) (h .stands .some);
       missing = sym (e .before .holds-at .ensures) ∙ e .if2 .left;
       from = h;
     }

@@ -31,7 +31,7 @@ enum-known-from c = search needs
 lacking : (c : tie.After-from)
     → let a = c .before .before .before .before .before .args in
     let t = decode (words (a .store .now)) in
-    Lacking (a .settings) t (t .ids (a .place)) (a .key .0) (c .from .given .0 .0)
+    Lacking (a .settings) t (t .ids (a .place)) (a .key .0) (c .from .given .0 .0) (c .from .given .0 .1 .0)
 lacking c =
     rw (c .from .given .1) at (c .before .before .for-key .ensures)
 
@@ -40,7 +40,7 @@ bring-requires c κs =
     let f = c .before .before in
     let s = f .before .before .before .before .before in
     let a = s .args in
-    brings (a .settings) (a .store .now) (a .place) (a .key .0) (s .pre) _ (lacking f)
+    brings (a .settings) (a .store .now) (a .place) (a .key .0) (s .pre) _ _ (lacking f)
 
 same-length : tie.Need-same-length
 same-length c = search needs
@@ -75,7 +75,7 @@ returns-3 c =
     let f = c .before .before .before .before .before in
     let s = f .before .before .before .before .before in
     let a = s .args in
-    added (a .settings) (a .store .now) (a .place) (a .key .0) (s .pre) _ (lacking f) _ (c .before .before .bring .ensures)
+    added (a .settings) (a .store .now) (a .place) (a .key .0) (s .pre) _ _ (lacking f) _ (c .before .before .bring .ensures)
 
 pub mend-key-spec : {M : Type 1} → statement M
 mend-key-spec =

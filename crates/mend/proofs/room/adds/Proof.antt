@@ -7,7 +7,7 @@ use Rattle.layout.specs.Store.{decode}
 use Rattle.mend.specs.Fit.{log-of}
 use Rattle.mend.specs.Keys.{wants}
 use Rattle.mend.specs.Acts.{Lacking}
-use Rattle.mend.proofs.Flagged.{meets-none, meets-held, holds-it, meets-it}
+use Rattle.mend.proofs.Flagged.{meets-none, meets-held, row-flagged, meets-it}
 use borrow.Author.Needs.{needs}
 use Rattle.mend.proofs.room.adds.Statement.{statement}
 use Rattle.mend.proofs.room.adds.Tie as tie
@@ -28,15 +28,15 @@ enum-known-from c = search needs
 lacking : (c : tie.After-from)
     → let a = c .before .before .before .before .before .args in
     let t = decode (words (a .store .now)) in
-    Lacking (a .settings) t (t .ids (a .place)) (a .key .0) (c .from .given .0 .0)
+    Lacking (a .settings) t (t .ids (a .place)) (a .key .0) (c .from .given .0 .0) (c .from .given .0 .1 .0)
 lacking c =
     rw (c .from .given .1) at (c .before .before .for-key .ensures)
 
-raise-at-requires : tie.Need-raise-at-requires
-raise-at-requires c κs =
+raise-requires : tie.Need-raise-requires
+raise-requires c κs =
     let f = c .before .before in
     let s = f .before .before .before .before .before in
-    (holds-it (s .args .settings) (s .args .store .now) (s .pre .0 .store) _ _ (lacking f .from), s .pre .1)
+    row-flagged (s .args .settings) (s .args .store .now) (s .pre .0 .store) _ _ _ _ (lacking f) (s .args .flags .now) (s .pre .1)
 
 returns : tie.Need-returns
 returns c =
@@ -64,8 +64,9 @@ returns-3 c =
     let k = f .before .before .before in
     let s = f .before .before .before .before .before in
     let a = s .args in
-    meets-it (a .settings) (a .store .now) (s .pre .0 .store) _ (a .key .0) _ (lacking f) (a .flags .now) _ _
-    (below-of 256 (a .flags .now) (λ i. k .slice-known .given i .fits)) (c .before .before .raise-at .ensures)
+    let raise = c .before .before .raise in
+    meets-it (a .settings) (a .store .now) (s .pre .0 .store) _ (a .key .0) _ _ (lacking f) (a .flags .now) _ _
+    (below-of 256 (a .flags .now) (λ i. k .slice-known .given i .fits)) (raise .ensures .0) (raise .ensures .1)
 
 pub adds-spec : {M : Type 1} → statement M
 adds-spec =
@@ -75,7 +76,7 @@ adds-spec =
     enum-told
     enum-told-2
     enum-known-from
-    raise-at-requires
+    raise-requires
     returns
     returns-2
     same-length

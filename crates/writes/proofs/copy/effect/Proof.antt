@@ -1,15 +1,18 @@
 use mathlib.Core.Path.{_≡_, sym, ap, subst, _∙_}
-use mathlib.Core.Bool.{true}
+use mathlib.Core.Bool.{true, false}
 use Prim.Native.Nat.{ℕ}
+use Rattle.lists.proofs.Tests.{clash}
 use Rattle.words.specs.Words.{words}
 use Rattle.rules.specs.Numbers.{home-of}
+use Rattle.rules.specs.Chunks.{held}
 use Rattle.rules.specs.State.{State}
 use Rattle.rules.specs.Writes.{target, nothing-to-copy}
+use Rattle.log.specs.Answers.{FoundAt}
 use Rattle.layout.specs.Disk.{blank-brick}
 use Rattle.layout.specs.Store.{brick-in, decode}
 use Rattle.lent.specs.Places.{Stands}
 use Rattle.writes.specs.Copies.{Lacking}
-use Rattle.writes.proofs.Copies.{none-up, none-copied, copy-fits, one-copied}
+use Rattle.writes.proofs.Copies.{none-up, none-copied, home-holds, copy-fits, one-copied}
 use borrow.Author.Needs.{needs}
 use Rattle.writes.proofs.copy.effect.Statement.{statement}
 use Rattle.writes.proofs.copy.effect.Tie as tie
@@ -75,18 +78,46 @@ returns-2 c =
     let blank : brick-in (state b) (home .result) ≡ blank-brick = rw (c .enum-told2 .given .1) at (c .before .before .place-of .ensures) in
     none-up (b .args .settings) (state b) (b .args .key .0) _ (ap (brick-in (state b)) (sym (home .ensures)) ∙ blank) (b .pre .1 .1 .0)
 
-bring-requires : tie.Need-bring-requires
-bring-requires c κs =
+find-at-requires : tie.Need-find-at-requires
+find-at-requires c κs =
     let k = c .before .before in
     let b = start (chosen k) in
-    copy-fits (b .args .settings) (b .args .store .now) (b .pre .0) (b .args .key .0) _ (lacking (chosen k)) (b .pre .1) _ (source k)
+    (b .pre .0, source k .inside, rw (source k .here) (source k .some))
+
+enum-known-row : tie.Need-enum-known-row
+enum-known-row c = search needs
+
+enum-told-3 : tie.Need-enum-told-3
+enum-told-3 c = search needs
 
 same-length-3 : tie.Need-same-length-3
 same-length-3 c = search needs
 
 returns-3 : tie.Need-returns-3
 returns-3 c =
-    let k = c .before .before .before .before .before in
+    let found = c .before .before in
+    let k = found .before .before .before in
+    let b = start (chosen k) in
+    let none : held (state b .bricks .log (state b .ids (k .home2 .given .0 .0))) (b .args .key .0) ≡ false =
+    rw (c .enum-told3 .given .1) at (found .find-at .ensures) in
+    clash none (home-holds (b .args .settings) (b .args .store .now) (b .pre .0) (b .args .key .0) _ (lacking (chosen k)) (b .pre .1) _ (source k))
+
+bring-requires : tie.Need-bring-requires
+bring-requires c κs =
+    let r = c .before .before in
+    let found = r .before .before in
+    let k = found .before .before .before in
+    let b = start (chosen k) in
+    let row = r .row .given .0 .0 in
+    let f : FoundAt (state b .bricks .log (state b .ids (k .home2 .given .0 .0))) (b .args .key .0) row = rw (r .row .given .1) at (found .find-at .ensures) in
+    copy-fits (b .args .settings) (b .args .store .now) (b .pre .0) (b .args .key .0) _ (lacking (chosen k)) (b .pre .1) _ (source k) row f
+
+same-length-4 : tie.Need-same-length-4
+same-length-4 c = search needs
+
+returns-4 : tie.Need-returns-4
+returns-4 c =
+    let k = c .before .before .before .before .before .before .before .before .before .before in
     let b = start (chosen k) in
     c .before .before .bring .ensures
     ∙ one-copied (b .args .settings) (b .args .store .now) (b .pre .0) (b .args .key .0) _ (lacking (chosen k)) (b .pre .1) _ (source k)
@@ -106,6 +137,11 @@ effect-spec =
     enum-told-2
     same-length-2
     returns-2
-    bring-requires
+    find-at-requires
+    enum-known-row
+    enum-told-3
     same-length-3
-    returns-3)
+    returns-3
+    bring-requires
+    same-length-4
+    returns-4)
