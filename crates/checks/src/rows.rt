@@ -1,12 +1,12 @@
 // Keys, entries, and tables of entries: bucket copies, items, append buffers.
 ghost use mathlib.Core.Path.{_≡_};
-ghost use Prim.Native.Nat.{_<_};
+ghost use Prim.Native.Nat.{suc, _<_};
 ghost use lib.ListN.{length};
 ghost use Rattle.words.specs.Words.{words};
 ghost use Rattle.rules.specs.Entries.{entry};
 ghost use Rattle.layout.specs.Layout.{entries-codec};
 ghost use Rattle.checks.specs.Rows.{ids, key-below, belongs, ceiling-below, entry-fits, rows-good, first-entries, table-good, RowsFit, TableFit};
-ghost use Rattle.checks.specs.Stretches.{KeysBelow, RowUnder, RowFit, Stretch, StretchFit};
+ghost use Rattle.checks.specs.Stretches.{block-at, RowUnder, Stretch};
 use rules::constants;
 use rules::numbers::BlockNumber;
 use rules::numbers::ChunkKey;
@@ -59,42 +59,17 @@ fn entry_fits(settings: Settings, limits: &[u64], whose: Whose, block: u64, key:
     key_below(limits, key)
 }
 
-// Keys of one id, so many from the first on.
-struct Keys {
-    first: u64,
-    count: u64,
-}
-
-// The keys of this key's id that are below its limit.
-fn keys_below(limits: &[u64], key: u64) -> Keys
-    requires { ⌜ length (now limits) ≡ ids ⌝ }
-    ensures { λ r. ⌜ KeysBelow (now (limits .entry)) (r .first) (r .count) ⌝ }
-{
-    let home = ChunkKey(key).home();
-    let limit = limits[home as usize];
-    if constants::SEQUENCES < limit {
-        return Keys {
-            first: home * constants::SEQUENCES,
-            count: constants::SEQUENCES,
-        };
-    }
-    Keys {
-        first: home * constants::SEQUENCES,
-        count: limit,
-    }
-}
-
-// The block of row i, if it is below the next and its key is one of these; else 0.
-fn block_under(table: &[u8], i: usize, next: u64, keys: Keys) -> u64
-    requires { ⌜ RowFit (length (now table)) i (keys .first) (keys .count) ⌝ }
-    ensures { λ r. ⌜ (0 < r → RowUnder (words (now (table .entry))) i next (keys .first) (keys .count) r) ⌝ }
+// The block of row i, if it is below the next and its key below its limit; else 0.
+fn block_under(limits: &[u64], table: &[u8], i: usize, next: u64) -> u64
+    requires { ⌜ RowsFit (length (now limits)) (length (now table)) (suc i) ⌝ }
+    ensures { λ r. ⌜ (0 < r → RowUnder (now (limits .entry)) (words (now (table .entry))) i next r) ⌝ }
 {
     let block = words::read(table, 1 + 2 * i);
     if next <= block {
         return 0;
     }
     let key = words::read(table, 2 + 2 * i);
-    if keys.count <= std::num::wrapping_sub_u64(key, keys.first) {
+    if !key_below(limits, key) {
         return 0;
     }
     block
@@ -106,30 +81,38 @@ struct Reached {
     block: u64,
 }
 
-// From row i down, four at a time, as long as blocks descend and stay above the floor and keys are of these. One that fails makes those below it fail, so
-// the last of the four tells of all.
-fn stretch(table: &[u8], i: usize, floor: u64, block: u64, keys: Keys) -> Reached
-    requires { ⌜ StretchFit (now table) i block (keys .first) (keys .count) ⌝ }
-    ensures { λ r. ⌜ Stretch (words (now (table .entry))) floor (keys .first) (keys .count) i (r .at) (r .block) ⌝ }
+// From row i down, four at a time, as long as blocks descend and stay above the floor and keys are below their limits. One that fails makes those below it
+// fail, so the last of the four tells of all; where that is not above the floor the others need not be looked at.
+fn stretch(limits: &[u64], table: &[u8], i: usize, floor: u64, block: u64) -> Reached
+    requires { ⌜ RowsFit (length (now limits)) (length (now table)) i ⌝ }
+    requires { ⌜ block ≡ block-at (words (now table)) i ⌝ }
+    ensures { λ r. ⌜ Stretch (now (limits .entry)) (words (now (table .entry))) floor i (r .at) (r .block) ⌝ }
 {
-    let mut next = block;
-    let mut j = i;
-    while 3 < j {
-        let one = block_under(table, j - 1, next, keys);
-        let two = block_under(table, j - 2, one, keys);
-        let three = block_under(table, j - 3, two, keys);
-        let four = block_under(table, j - 4, three, keys);
-        if four <= floor {
-            return Reached { at: j, block: next };
+    let mut here = Reached {
+        at: i,
+        block: block,
+    };
+    while 3 < here.at {
+        let last = here.at - 4;
+        if words::read(table, 1 + 2 * last) <= floor {
+            return here;
         }
-        next = four;
-        j -= 4;
+        let one = block_under(limits, table, last + 3, here.block);
+        let two = block_under(limits, table, last + 2, one);
+        let three = block_under(limits, table, last + 1, two);
+        let four = block_under(limits, table, last, three);
+        if four <= floor {
+            return here;
+        }
+        here = Reached {
+            at: last,
+            block: four,
+        };
     }
-    Reached { at: j, block: next }
+    here
 }
 
-// The first n rows of a table, from the last to the first: one comparison tells that a block is in range and below the next. Blocks of one run belong alike,
-// and keys of one id have one limit, so rows that keep to both are tested for no more than that.
+// The first n rows of a table, from the last to the first: one comparison tells that a block is in range and below the next. Blocks of one run belong alike.
 fn rows_good(settings: Settings, limits: &[u64], whose: Whose, table: &[u8], n: usize) -> bool
     requires { ⌜ RowsFit (length (now limits)) (length (now table)) n ⌝ }
     ensures { λ r. ⌜ r ≡ rows-good settings (key-below (now (limits .entry))) whose 0 (first-entries n (words (now (table .entry)))) ⌝ }
@@ -147,7 +130,7 @@ fn rows_good(settings: Settings, limits: &[u64], whose: Whose, table: &[u8], n: 
             return false;
         }
         let floor = block / constants::RUN_BLOCKS * constants::RUN_BLOCKS;
-        let reached = stretch(table, i, floor, block, keys_below(limits, key));
+        let reached = stretch(limits, table, i, floor, block);
         i = reached.at;
         ceiling = ceiling_below(whose, reached.block);
     }

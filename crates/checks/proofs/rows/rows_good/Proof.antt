@@ -15,7 +15,6 @@ use Rattle.checks.proofs.rows.rows_good.Reads as reads
 use Rattle.checks.proofs.rows.rows_good.Lts as lts
 use Rattle.checks.proofs.rows.ceiling_below.Reads as ceiling-below-reads
 use Rattle.checks.proofs.rows.entry_fits.Reads as entry-fits-reads
-use Rattle.checks.proofs.rows.keys_below.Reads as keys-below-reads
 use Rattle.checks.proofs.rows.stretch.Reads as stretch-reads
 use Rattle.words.proofs.read.Reads as read-reads
 
@@ -94,21 +93,11 @@ returns-2 c =
 mul-floor : tie.Need-mul-floor Inv-loop μ-loop
 mul-floor c = search needs
 
--- src/rows.rt:156:55
-keys-below-requires : tie.Need-keys-below-requires Inv-loop μ-loop
-keys-below-requires c κs = search needs
-
 -- src/rows.rt:156:13
 stretch-requires : tie.Need-stretch-requires Inv-loop μ-loop
 stretch-requires c κs =
-    let at-read = c .before .before .before .before .before in
-    let at-loop = at-read .before .before in
-    record {
-      room = omega
-          (arith, c .before .before .before .before .before .before .before .before .before .before .pre .room, at-loop .loop .inv .0);
-      here = at-read .read .ensures;
-      keys = c .keys-below .ensures .room;
-    }
+    let s = c .before .before .before .before .before .before .before .before .before in
+    (record { known = s .pre .known; room = omega (arith, s .pre .room, c .before .before .before .before .before .before .loop .inv .0) }, c .before .before .before .before .read .ensures)
 
 -- src/rows.rt:158:9
 ceiling-below-requires : tie.Need-ceiling-below-requires Inv-loop μ-loop
@@ -121,22 +110,22 @@ loop-less c = omega (arith, c .before .stretch .ensures .inside)
 -- src/rows.rt:145:5
 loop-again : tie.Need-loop-again Inv-loop μ-loop
 loop-again c =
-    let r = c .before .before .before .before .before .before .before in
+    let r = c .before .before .before .before .before .before in
     let l = r .before .before .loop in
     let a = r .before .before .before .before .before .args in
     let k = key-below (a .limits .now) in
     let ws = words (a .table .now) in
-    let key = c .before .before .before .before .before .read2 in
-    let fits = sym (c .before .before .before .before .entry-fits .ensures) ∙ not-false _ (c .before .before .before .if2 .left) in
+    let key = c .before .before .before .before .read2 in
+    let fits = sym (c .before .before .before .entry-fits .ensures) ∙ not-false _ (c .before .before .if2 .left) in
     let s = c .before .stretch .ensures in
-    let low : r .read .result < l .ceiling = c .before .before .before .before .before .before .if1 .left in
+    let low : r .read .result < l .ceiling = c .before .before .before .before .before .if1 .left in
     let range : r .read .result < blocks = omega (arith, low, l .inv .1) in (
       omega (arith, s .inside, l .inv .0),
       rw (c .ceiling-below .ensures) (ceiling-range _ 0 (a .whose) (omega (arith, s .under, range, r .read .ensures))),
       one-more (rows-under (a .settings) k (a .whose) ws) (a .n) (l .ceiling) (l .i) (omega arith) (l .inv .2)
           ∙ under-next (a .settings) k (a .whose) ws (l .ceiling) (l .i - 1) (r .read .result) (key .result) (r .read .ensures) (key .ensures) low fits
-          ∙ stretch-under (a .settings) k (a .whose) ws _ _ _ (l .i - 1) _ _ (r .read .result) s (r .read .ensures) refl range (key .result) fits
-          (c .before .before .keys-below .ensures .below) ∙ rw (c .ceiling-below .ensures),
+          ∙ stretch-under (a .settings) (a .limits .now) (a .whose) ws _ (l .i - 1) _ _ (r .read .result) s (r .read .ensures) refl range (key .result) fits
+          ∙ rw (c .ceiling-below .ensures),
     )
 
 -- src/rows.rt:139:1
@@ -166,7 +155,6 @@ rows-good-spec =
     entry-fits-requires
     returns-2
     mul-floor
-    keys-below-requires
     stretch-requires
     ceiling-below-requires
     loop-less

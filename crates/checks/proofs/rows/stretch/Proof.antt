@@ -8,89 +8,92 @@ use Rattle.checks.proofs.rows.stretch.Tie as tie
 use Rattle.checks.proofs.rows.stretch.Reads as reads
 use Rattle.checks.proofs.rows.stretch.Lts as lts
 use Rattle.checks.proofs.rows.block_under.Reads as block-under-reads
+use Rattle.words.proofs.read.Reads as read-reads
 
 abbrev Inv-loop : tie.InvT-loop
-Inv-loop table i floor block keys next₀ j₀ next j = Stretch (words table) floor (keys .first) (keys .count) i j next
+Inv-loop limits table i floor block here₀ here = Stretch limits (words table) floor i (here .at) (here .block)
 
 abbrev μ-loop : tie.MeasureT-loop
-μ-loop table i floor block keys next₀ j₀ next j = j
+μ-loop limits table i floor block here₀ here = here .at
 
--- src/rows.rt:117:5
+-- src/rows.rt:95:5
 loop-holds : tie.Need-loop-holds Inv-loop μ-loop
-loop-holds c = stretch-start _ _ _ _ _ _ (c .before .pre .here)
+loop-holds c = stretch-start _ _ _ _ _ (c .before .before .pre .1)
 
--- src/rows.rt:118:38
-sub-block-under : tie.Need-sub-block-under Inv-loop μ-loop
-sub-block-under c = search needs
+-- src/rows.rt:96:20
+sub-last : tie.Need-sub-last Inv-loop μ-loop
+sub-last c = search needs
 
--- src/rows.rt:118:13
+-- src/rows.rt:97:35
+mul-read : tie.Need-mul-read Inv-loop μ-loop
+mul-read c = search needs
+
+-- src/rows.rt:97:31
+add-read : tie.Need-add-read Inv-loop μ-loop
+add-read c = search needs
+
+-- src/rows.rt:97:12
+read-requires : tie.Need-read-requires Inv-loop μ-loop
+read-requires c κs = omega (arith, c .before .before .before .before .before .before .pre .0 .room, c .before .before .before .loop .inv .inside)
+
+-- src/rows.rt:98:13
+returns : tie.Need-returns Inv-loop μ-loop
+returns c = c .before .before .before .before .before .loop .inv
+
+-- src/rows.rt:100:46
+add-block-under : tie.Need-add-block-under Inv-loop μ-loop
+add-block-under c = search needs
+
+-- src/rows.rt:100:13
 block-under-requires : tie.Need-block-under-requires Inv-loop μ-loop
 block-under-requires c κs =
-    record { room = omega (arith, c .before .before .before .pre .room, c .before .loop .inv .inside); keys = c .before .before .before .pre .keys }
+    let s = c .before .before .before .before .before .before .before .before in
+    record { known = s .pre .0 .known; room = omega (arith, s .pre .0 .room, c .before .before .before .before .before .loop .inv .inside) }
 
--- src/rows.rt:119:38
-sub-block-under-2 : tie.Need-sub-block-under-2 Inv-loop μ-loop
-sub-block-under-2 c = search needs
+-- src/rows.rt:101:46
+add-block-under-2 : tie.Need-add-block-under-2 Inv-loop μ-loop
+add-block-under-2 c = search needs
 
--- src/rows.rt:119:13
+-- src/rows.rt:101:13
 block-under-requires-2 : tie.Need-block-under-requires-2 Inv-loop μ-loop
 block-under-requires-2 c κs =
-    record {
-      room = omega
-          (arith, c .before .before .before .before .pre .room, c .before .before .loop .inv .inside);
-      keys = c .before .before .before .before .pre .keys;
-    }
+    let s = c .before .before .before .before .before .before .before .before .before in
+    record { known = s .pre .0 .known; room = omega (arith, s .pre .0 .room, c .before .before .before .before .before .before .loop .inv .inside) }
 
--- src/rows.rt:120:40
-sub-block-under-3 : tie.Need-sub-block-under-3 Inv-loop μ-loop
-sub-block-under-3 c = search needs
+-- src/rows.rt:102:48
+add-block-under-3 : tie.Need-add-block-under-3 Inv-loop μ-loop
+add-block-under-3 c = search needs
 
--- src/rows.rt:120:13
+-- src/rows.rt:102:13
 block-under-requires-3 : tie.Need-block-under-requires-3 Inv-loop μ-loop
 block-under-requires-3 c κs =
-    record {
-      room = omega
-          (arith, c .before .before .before .before .before .pre .room, c .before .before .before .loop .inv .inside);
-      keys = c .before .before .before .before .before .pre .keys;
-    }
+    let s = c .before .before .before .before .before .before .before .before .before .before in
+    record { known = s .pre .0 .known; room = omega (arith, s .pre .0 .room, c .before .before .before .before .before .before .before .loop .inv .inside) }
 
--- src/rows.rt:121:39
-sub-block-under-4 : tie.Need-sub-block-under-4 Inv-loop μ-loop
-sub-block-under-4 c = search needs
-
--- src/rows.rt:121:13
+-- src/rows.rt:103:13
 block-under-requires-4 : tie.Need-block-under-requires-4 Inv-loop μ-loop
 block-under-requires-4 c κs =
-    record {
-      room = omega
-          (arith, c .before .before .before .before .before .before .pre .room, c .before .before .before .before .loop .inv .inside);
-      keys = c .before .before .before .before .before .before .pre .keys;
-    }
+    let s = c .before .before .before .before .before .before .before .before .before .before .before in
+    record { known = s .pre .0 .known; room = omega (arith, s .pre .0 .room, c .before .before .before .before .before .before .before .before .loop .inv .inside) }
 
--- src/rows.rt:123:13
-returns : tie.Need-returns Inv-loop μ-loop
-returns c = c .before .before .before .before .before .before .loop .inv
+-- src/rows.rt:105:13
+returns-2 : tie.Need-returns-2 Inv-loop μ-loop
+returns-2 c = c .before .before .before .before .before .before .before .before .before .before .loop .inv
 
--- src/rows.rt:129:9
-sub-j : tie.Need-sub-j Inv-loop μ-loop
-sub-j c = search needs
-
--- src/rows.rt:117:5
+-- src/rows.rt:95:5
 loop-less : tie.Need-loop-less Inv-loop μ-loop
 loop-less c = search needs
 
--- src/rows.rt:117:5
+-- src/rows.rt:95:5
 loop-again : tie.Need-loop-again Inv-loop μ-loop
 loop-again c =
-    let at-loop = c .before .before .before .before .before .before in
-    let l = at-loop .loop in
-    stretch-four _ _ _ _ _ (l .j) (l .next) _ _ _ _ (omega arith) (l .inv) (c .if1 .left) (c .before .before .before .before .block-under .ensures)
-    (c .before .before .before .block-under2 .ensures)
-    (c .before .before .block-under3 .ensures) (c .before .block-under4 .ensures)
+    let l = c .before .before .before .before .before .before .before .before .before .before .loop in
+    stretch-four _ _ _ _ (l .here .at) _ (l .here .block) _ _ _ _ (omega arith) (l .inv) (c .if3 .left) (c .before .before .before .before .block-under .ensures)
+    (c .before .before .before .block-under2 .ensures) (c .before .before .block-under3 .ensures) (c .before .block-under4 .ensures)
 
--- src/rows.rt:111:1
-returns-2 : tie.Need-returns-2 Inv-loop μ-loop
-returns-2 c = c .before .loop .inv
+-- src/rows.rt:86:1
+returns-3 : tie.Need-returns-3 Inv-loop μ-loop
+returns-3 c = c .before .before .loop .inv
 
 pub stretch-spec : {M : Type 1} → statement M
 stretch-spec =
@@ -99,16 +102,19 @@ stretch-spec =
     Inv-loop
     μ-loop
     loop-holds
-    sub-block-under
-    block-under-requires
-    sub-block-under-2
-    block-under-requires-2
-    sub-block-under-3
-    block-under-requires-3
-    sub-block-under-4
-    block-under-requires-4
+    sub-last
+    mul-read
+    add-read
+    read-requires
     returns
-    sub-j
+    add-block-under
+    block-under-requires
+    add-block-under-2
+    block-under-requires-2
+    add-block-under-3
+    block-under-requires-3
+    block-under-requires-4
+    returns-2
     loop-less
     loop-again
-    returns-2)
+    returns-3)
