@@ -4,12 +4,9 @@ use mathlib.Core.List.{List}
 use mathlib.Core.Bool.{Bool, true, false}
 use Prim.Native.Nat.{ℕ, _+_, _*_, _-_}
 use native.Mathlib.Omega.{arith}
-use lib.Dec.{eqb}
-use lib.Bits.{bitOr, bitXor, or-add-and, xor-add-and, and-le-l, and-le-r, xor-self}
 use lib.ListN.{length, take, drop, length-drop}
-use borrow.Author.Tests.{eqb-true, eq-eqb}
 use Rattle.lists.specs.Tests.{_and_, _or_}
-use Rattle.lists.proofs.Tests.{and-l, and-r, both, same-test, no-first, no-second, yes-second, or-l, or-r, or-no}
+use Rattle.lists.proofs.Tests.{both, no-first, no-second, yes-second, or-l, or-r, or-no}
 use Rattle.lists.specs.Runs.{run, part}
 use Rattle.lists.proofs.Runs.{run-all}
 use Rattle.words.specs.Words.{words}
@@ -23,16 +20,6 @@ use Rattle.layout.proofs.Lent.{lent}
 use Rattle.checks.specs.declared.rows.Whose.the-variants.{Bucket}
 use Rattle.checks.specs.Rows.{table-good}
 use Rattle.checks.specs.Copies.{copies-good, copies-at-good}
-
--- ---- words compared: none is another just where none was before and these two are the same
-pub no-other : (o x y : ℕ) → eqb (bitOr o (bitXor x y)) 0 ≡ (eqb o 0 and eqb x y)
-no-other o x y =
-    let z : ℕ = bitXor x y in
-    same-test _ _
-    (λ t. let e : bitOr o z ≡ 0 = eqb-true _ _ t in
-    let n : (o ≡ 0) × (z ≡ 0) = (omega (arith, e, or-add-and o z, and-le-l o z, and-le-r o z), omega (arith, e, or-add-and o z, and-le-l o z, and-le-r o z)) in
-    both _ _ (eq-eqb o 0 (n .0)) (eq-eqb x y (omega (arith, n .1, xor-add-and x y, and-le-l x y, and-le-r x y))))
-    (λ t. eq-eqb _ _ (ap (λ (k : ℕ). bitOr k z) (eqb-true o 0 (and-l _ _ t)) ∙ ap (λ (k : ℕ). bitXor k y) (eqb-true x y (and-r _ _ t)) ∙ xor-self y))
 
 -- ---- the copy on disk, beside one in memory: of a down brick they are the same
 unfoldable pub disk-good : Settings → (ℕ → Bool) → ℕ → Bool → List Entry → List Entry → Bool

@@ -14,6 +14,7 @@ use Rattle.layout.specs.Disk.{relay-row}
 use Rattle.layout.proofs.Codecs.{relay-exact}
 use Rattle.tables.proofs.Typed.{typed-length, typed-back, typed-over}
 use Rattle.lists.specs.Rows.{table-enc}
+use Rattle.tables.proofs.Typed.{map-set}
 use Rattle.relay_list.specs.declared.Relay.{Relay}
 use Rattle.relay_list.specs.Relays.{relay-of, relays-of, over, Loads}
 
@@ -22,11 +23,6 @@ pub made : (r : Relay) (h : Held) → r .view .0 ≡ h .view → r .bucket ≡ h
 made r h view bucket order block key = λ i. record { view = view i; bucket = bucket i; order = order i; block = block i; key = key i }
 
 -- ---- records are filled one after the other with the relays that are held
-read-set : (l : List Relay) (i : ℕ) (r : Relay) → relays-of (set l i r) ≡ set (relays-of l) i (relay-of r)
-read-set [] i r = refl
-read-set (x ∷ l) zero r = refl
-read-set (x ∷ l) (suc i) r = ap (λ (k : List Held). relay-of x ∷ k) (read-set l i r)
-
 fills : (i : ℕ) (held : List Held) (list : List Relay) → i < length held → length held ≤ length list → set (over (take i held) list) i
     (getD held i blank-relay) ≡ over (take (suc i) held) list
 fills i [] list h g = absurd (omega (arith, h))
@@ -36,7 +32,7 @@ fills (suc i) (x ∷ held) (r ∷ list) h g = ap (λ (k : List Held). x ∷ k) (
 
 pub one-more : (i : ℕ) (r : Relay) (list before : List Relay) (held : List Held) → i < length held → length held ≤ length before
     → relays-of list ≡ over (take i held) before → relay-of r ≡ getD held i blank-relay → relays-of (set list i r) ≡ over (take (suc i) held) before
-one-more i r list before held here room e same = read-set list i r ∙ ap (λ (l : List Held). set l i (relay-of r)) e ∙ ap
+one-more i r list before held here room e same = map-set relay-of i r list ∙ ap (λ (l : List Held). set l i (relay-of r)) e ∙ ap
     (set (over (take i held) before) i) same ∙ fills i held before here room
 
 pub held-count : (ws : List ℕ) → length ws ≡ bag-words → getD ws 0 0 ≤ max-relays → length (bag-codec .dec ws) ≡ getD ws 0 0

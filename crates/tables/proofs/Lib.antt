@@ -1,2 +1,3 @@
 pub mod Changes
+pub mod Compared
 pub mod Typed

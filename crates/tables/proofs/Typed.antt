@@ -2,7 +2,7 @@
 use mathlib.Core.Path.{_≡_, refl, sym, ap, _∙_}
 use mathlib.Core.Bool.{Bool}
 use mathlib.Core.List.{List, [], _∷_, _++_, map}
-use Prim.Native.Nat.{ℕ, zero, suc, _+_, _≤_, _<_}
+use Prim.Native.Nat.{ℕ, zero, suc, _≤_, _<_}
 use native.Mathlib.Nat.{le-refl}
 use lib.ListN.{length, getD, drop, set, drop-of-length-le}
 use lib.Seq.{take-all}
@@ -25,7 +25,7 @@ map-remove f zero (y ∷ l) = refl
 map-remove f (suc p) [] = refl
 map-remove {A} {B} f (suc p) (y ∷ l) = ap (λ (r : List B). f y ∷ r) (map-remove f p l)
 
-map-set : {A B : Type 0} (f : A → B) (p : ℕ) (x : A) (l : List A) → map f (set l p x) ≡ set (map f l) p (f x)
+pub map-set : {A B : Type 0} (f : A → B) (p : ℕ) (x : A) (l : List A) → map f (set l p x) ≡ set (map f l) p (f x)
 map-set f p x [] = refl
 map-set f zero x (y ∷ l) = refl
 map-set {A} {B} f (suc p) x (y ∷ l) = ap (λ (r : List B). f y ∷ r) (map-set f p x l)

@@ -7,7 +7,7 @@ use borrow.Author.Needs.{needs}
 use Rattle.lists.specs.Tests.{all-below}
 use Rattle.words.specs.Words.{words}
 use Rattle.tables.specs.Tables.{same-at}
-use Rattle.checks.proofs.CopyLaws.{no-other}
+use Rattle.tables.proofs.Compared.{no-other}
 use Rattle.checks.proofs.copies.compare_words.Statement.{statement}
 use Rattle.checks.proofs.copies.compare_words.Tie as tie
 use Rattle.checks.proofs.copies.compare_words.Reads as reads
