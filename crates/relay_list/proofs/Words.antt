@@ -12,9 +12,8 @@ use Rattle.codec.specs.Codec.{change}
 use Rattle.codec.proofs.Loops.{table-is}
 use Rattle.layout.specs.Disk.{relay-row}
 use Rattle.layout.proofs.Codecs.{relay-exact}
-use Rattle.tables.proofs.Typed.{typed-length, typed-back, typed-over}
+use Rattle.tables.proofs.Typed.{map-set, typed-length, typed-back, typed-over}
 use Rattle.lists.specs.Rows.{table-enc}
-use Rattle.tables.proofs.Typed.{map-set}
 use Rattle.relay_list.specs.declared.Relay.{Relay}
 use Rattle.relay_list.specs.Relays.{relay-of, relays-of, over, Loads}
 
