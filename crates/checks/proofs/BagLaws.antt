@@ -14,9 +14,10 @@ use Rattle.lists.specs.Rows.{rows, table-dec}
 use Rattle.rules.specs.declared.settings.Settings.{Settings}
 use Rattle.rules.specs.Limits.{max-relays}
 use Rattle.rules.specs.State.{Relay}
+use Rattle.rules.specs.Sound.{sound-relay, sound-bag}
 use Rattle.layout.specs.Disk.{relay-row}
 use Rattle.layout.specs.Layout.{bag-codec}
-use Rattle.checks.specs.Bag.{relay-at, relay-good, bag-good}
+use Rattle.checks.specs.Bag.{relay-at}
 use Rattle.lists.proofs.Tests.{no-first, yes-first}
 use Rattle.lists.proofs.Runs.{run-at}
 use Rattle.lists.proofs.Rows.{length-rows, rows-from, rows-past}
@@ -40,14 +41,14 @@ read-relay ws i =
 module _ (c : Settings) (good : ℕ → Bool) (ws : List ℕ) (n : ℕ) (e : n ≡ getD ws 0 0) where
   -- what is left to test from relay i on
   unfoldable pub relays-left : ℕ → Bool
-  relays-left i = every (relay-good c good) (drop i (rows 5 (relay-row .read) n (drop 1 ws)))
+  relays-left i = every (sound-relay good c) (drop i (rows 5 (relay-row .read) n (drop 1 ws)))
 
-  pub bag-over : max-relays < n → bag-good c good (bag-codec .dec ws) ≡ false
-  unfolding bag-good table-dec
+  pub bag-over : max-relays < n → sound-bag good c (bag-codec .dec ws) ≡ false
+  unfolding sound-bag table-dec
   bag-over h = no-first _ _ (rw (length-rows 5 (relay-row .read) (getD ws 0 0) (drop 1 ws), ← e) (lt-leb n max-relays h))
 
-  pub bag-begin : n ≤ max-relays → bag-good c good (bag-codec .dec ws) ≡ relays-left 0
-  unfolding bag-good relays-left table-dec
+  pub bag-begin : n ≤ max-relays → sound-bag good c (bag-codec .dec ws) ≡ relays-left 0
+  unfolding sound-bag relays-left table-dec
   bag-begin h = yes-first _ _ (rw (length-rows 5 (relay-row .read) (getD ws 0 0) (drop 1 ws), ← e) (le-leb n max-relays h)) ∙ rw e
 
   pub bag-end : (i : ℕ) → i ≤ n → n ≤ i → relays-left i ≡ true
@@ -55,14 +56,14 @@ module _ (c : Settings) (good : ℕ → Bool) (ws : List ℕ) (n : ℕ) (e : n �
   bag-end i l m = let q : i ≡ n = omega arith in rw (q, rows-past 5 (relay-row .read) n (drop 1 ws))
 
   module _ (i : ℕ) (h : i < n) where
-    turn : relays-left i ≡ (relay-good c good (relay-at ws i) and relays-left (i + 1))
+    turn : relays-left i ≡ (sound-relay good c (relay-at ws i) and relays-left (i + 1))
     unfolding relays-left every
     turn =
-        ap (every (relay-good c good)) (rows-from 5 (relay-row .read) n i (drop 1 ws) h)
-        ∙ ap (λ (r : Relay). every (relay-good c good) (r ∷ drop (i + 1) (rows 5 (relay-row .read) n (drop 1 ws)))) (read-relay ws i)
+        ap (every (sound-relay good c)) (rows-from 5 (relay-row .read) n i (drop 1 ws) h)
+        ∙ ap (λ (r : Relay). every (sound-relay good c) (r ∷ drop (i + 1) (rows 5 (relay-row .read) n (drop 1 ws)))) (read-relay ws i)
 
-    pub bag-bad : relay-good c good (relay-at ws i) ≡ false → relays-left i ≡ false
+    pub bag-bad : sound-relay good c (relay-at ws i) ≡ false → relays-left i ≡ false
     bag-bad q = turn ∙ no-first _ _ q
 
-    pub bag-next : relay-good c good (relay-at ws i) ≡ true → relays-left i ≡ relays-left (i + 1)
+    pub bag-next : sound-relay good c (relay-at ws i) ≡ true → relays-left i ≡ relays-left (i + 1)
     bag-next q = turn ∙ yes-first _ _ q

@@ -20,9 +20,11 @@ use Rattle.log.specs.Steps.{row-good, good-order}
 use Rattle.log.proofs.Chunks.{length-read, read-key, reach}
 use Rattle.log.proofs.Codec.{dec-length}
 use Rattle.log.proofs.Check.{good-over, is-log, good-in-order, row-far, row-flag, row-fine, row-key-by, order-all}
+use Rattle.rules.proofs.Limits.{Limits}
 use Rattle.layout.specs.Layout.{log-codec, log-words}
+use Rattle.layout.proofs.Check.{log-sound as sound-of-good, log-keys}
 use Rattle.checks.specs.Rows.{key-below}
-use Rattle.checks.specs.Chunks.{Descent, KeyUnder, key-before, row-passes, log-good}
+use Rattle.checks.specs.Chunks.{Descent, KeyUnder, key-before, row-passes, log-sound}
 
 -- ---- keys of one id
 module _ (limits : List ℕ) (key : ℕ) (y : key-below limits key ≡ true) where
@@ -205,11 +207,11 @@ abbrev no-chunk : Chunk
 no-chunk = chunk 0 false []
 
 module _ (c : Settings) (good : ℕ → Bool) (ws : List ℕ) where
-  pub log-over : (n : ℕ) → n ≡ getD ws 0 0 → c .chunks < n → log-good c good ws ≡ false
-  unfolding log-good
+  pub log-over : (n : ℕ) → n ≡ getD ws 0 0 → c .chunks < n → log-sound c good ws ≡ false
+  unfolding log-sound
   log-over n e h = no-first _ _ (good-over (c .chunks) ws (rw (← e) h))
 
-  module _ (hl : length ws ≡ log-words c) (zero-no : good 0 ≡ false) (n : ℕ) (e : n ≡ getD ws 0 0) (few : n ≤ c .chunks) where
+  module _ (lim : Limits c) (hl : length ws ≡ log-words c) (zero-no : good 0 ≡ false) (n : ℕ) (e : n ≡ getD ws 0 0) (few : n ≤ c .chunks) where
     few-here : getD ws 0 0 ≤ c .chunks
     few-here = rw (← e) few
 
@@ -225,23 +227,23 @@ module _ (c : Settings) (good : ℕ → Bool) (ws : List ℕ) where
     rows-in-log : length (log-codec c .dec ws) ≡ n
     rows-in-log = dec-length (c .chunks) (c .size / 8) ws hl ∙ sym e
 
-    there : log-good c good ws ≡ true → all-below n (row-passes good (c .chunks) n ws) ≡ true
-    unfolding log-good row-passes
+    there : log-sound c good ws ≡ true → all-below n (row-passes good (c .chunks) n ws) ≡ true
+    unfolding log-sound row-passes
     there y =
         let L : ℕ = c .chunks in
         let o : IsLog L (c .size / 8) ws (8 * log-words c) = is-log L (c .size / 8) ws (8 * log-words c) refl (and-l _ _ y) in
         let below : (j : ℕ) → j < n → position-at L ws j < n = λ j h. rw e (o .order .below j (rw (← e) h)) in
         let fine : (j : ℕ) → j < n → good (key-by L ws j) ≡ true = λ j h.
         rw (key-of-row (position-at L ws j) (below j h)) at
-        (every-at (λ (x : Chunk). good (x .key)) (log-codec c .dec ws) no-chunk (and-r _ _ y) (position-at L ws j) (rw rows-in-log (below j h))) in
+        (every-at (λ (x : Chunk). good (x .key)) (log-codec c .dec ws) no-chunk (log-keys good c lim ws hl (and-r _ _ y)) (position-at L ws j) (rw rows-in-log (below j h))) in
         let above : (j : ℕ) → j < n → key-before L ws j < key-by L ws j = ascends L n ws good zero-no fine
         (λ j h. o .order .rising j (suc j) (omega arith) (rw (← e) h)) in
         all-true n (row-passes good L n ws)
         (λ j h. both _ _ (both _ _ (both _ _ (lt-ltb _ _ (below j h)) (le-leb _ _ (o .flags (position-at L ws j) (rw (← e) (below j h)))))
         (lt-ltb _ _ (above j h))) (fine j h))
 
-    back : all-below n (row-passes good (c .chunks) n ws) ≡ true → log-good c good ws ≡ true
-    unfolding log-good row-passes key-before
+    back : all-below n (row-passes good (c .chunks) n ws) ≡ true → log-sound c good ws ≡ true
+    unfolding log-sound row-passes key-before
     back y =
         let L : ℕ = c .chunks in
         let w : ℕ = c .size / 8 in
@@ -251,10 +253,10 @@ module _ (c : Settings) (good : ℕ → Bool) (ws : List ℕ) where
         let order : good-order L n ws ≡ true = order-all L n ws (λ j h. and-l _ _ (and-l _ _ (each j h))) rises in
         let whole : good-log L ws ≡ true = good-in-order L n ws e few room ∙ order in
         let o : IsLog L w ws (8 * log-words c) = is-log L w ws (8 * log-words c) refl whole in
-        both _ _ whole (every-by (λ (x : Chunk). good (x .key)) (log-codec c .dec ws) no-chunk (λ i h.
+        both _ _ whole (sound-of-good good c lim ws hl whole (every-by (λ (x : Chunk). good (x .key)) (log-codec c .dec ws) no-chunk (λ i h.
         let q : i < n = rw rows-in-log at h in
         let m = reach L w ws hl few-here (o .order) i (rw (← e) q) in
-        ap good (key-of-row i q ∙ ap (row-key ws) (sym (m .2))) ∙ and-r _ _ (each (m .0) (omega (arith, m .1)))))
+        ap good (key-of-row i q ∙ ap (row-key ws) (sym (m .2))) ∙ and-r _ _ (each (m .0) (omega (arith, m .1))))))
 
-    pub log-pass : log-good c good ws ≡ all-below n (row-passes good (c .chunks) n ws)
+    pub log-pass : log-sound c good ws ≡ all-below n (row-passes good (c .chunks) n ws)
     log-pass = same-test _ _ there back

@@ -13,33 +13,31 @@ use Rattle.words.specs.Words.{words}
 use Rattle.words.proofs.Laws.{length-words}
 use Rattle.rules.specs.declared.settings.Settings.{Settings}
 use Rattle.rules.specs.Entries.{Entry}
-use Rattle.rules.specs.Sound.{same-entries}
+use Rattle.rules.specs.Sound.{sound-table, in-bucket, same-entries, sound-copies}
 use Rattle.rules.proofs.SoundTest.{same-entries-test}
 use Rattle.layout.specs.Layout.{copy-codec, copies-codec, copies-words}
 use Rattle.layout.proofs.Lent.{lent}
-use Rattle.checks.specs.declared.rows.Whose.the-variants.{Bucket}
-use Rattle.checks.specs.Rows.{table-good}
-use Rattle.checks.specs.Copies.{copies-good, copies-at-good}
+use Rattle.checks.specs.Copies.{copies-sound}
 
 -- ---- the copy on disk, beside one in memory: of a down brick they are the same
 unfoldable pub disk-good : Settings → (ℕ → Bool) → ℕ → Bool → List Entry → List Entry → Bool
-disk-good c good g up memory disk = table-good c good (Bucket g) (c .entries) disk and (up or same-entries memory disk)
+disk-good c good g up memory disk = sound-table good (in-bucket c g) (c .entries) disk and (up or same-entries memory disk)
 
 module _ (c : Settings) (good : ℕ → Bool) (g : ℕ) (up : Bool) (memory disk : List Entry) where
-  pub disk-bad : table-good c good (Bucket g) (c .entries) disk ≡ false → disk-good c good g up memory disk ≡ false
+  pub disk-bad : sound-table good (in-bucket c g) (c .entries) disk ≡ false → disk-good c good g up memory disk ≡ false
   unfolding disk-good
   disk-bad n = no-first _ _ n
 
   -- the same entries, so the same test
-  pub disk-same : table-good c good (Bucket g) (c .entries) memory ≡ true → same-entries memory disk ≡ true → disk-good c good g up memory disk ≡ true
+  pub disk-same : sound-table good (in-bucket c g) (c .entries) memory ≡ true → same-entries memory disk ≡ true → disk-good c good g up memory disk ≡ true
   unfolding disk-good
-  disk-same y e = both _ _ (ap (table-good c good (Bucket g) (c .entries)) (sym (same-entries-test memory disk .0 e)) ∙ y) (or-r _ _ e)
+  disk-same y e = both _ _ (ap (sound-table good (in-bucket c g) (c .entries)) (sym (same-entries-test memory disk .0 e)) ∙ y) (or-r _ _ e)
 
   pub disk-other : same-entries memory disk ≡ false → up ≡ false → disk-good c good g up memory disk ≡ false
   unfolding disk-good
   disk-other n d = no-second _ _ (or-no _ _ d ∙ n)
 
-  pub disk-alone : up ≡ true → disk-good c good g up memory disk ≡ table-good c good (Bucket g) (c .entries) disk
+  pub disk-alone : up ≡ true → disk-good c good g up memory disk ≡ sound-table good (in-bucket c g) (c .entries) disk
   unfolding disk-good
   disk-alone u = yes-second _ _ (or-l _ _ u)
 
@@ -54,23 +52,24 @@ module _ (c : Settings) (good : ℕ → Bool) (up : Bool) where
 
   -- the test of the two tables, from their words
   pub copies-are : (g : ℕ) (ws memory disk : List ℕ) → length ws ≡ copies-words c → memory ≡ run 0 half ws → disk ≡ run half half ws
-      → copies-good c good g up (copies-codec c .dec ws)
-      ≡ (table-good c good (Bucket g) (c .entries) (copy-codec c .dec memory) and disk-good c good g up (copy-codec c .dec memory) (copy-codec c .dec disk))
-  unfolding copies-good disk-good
+      → sound-copies good c up g (copies-codec c .dec ws .memory) (copies-codec c .dec ws .disk)
+      ≡ (sound-table good (in-bucket c g) (c .entries) (copy-codec c .dec memory) and disk-good c good g up (copy-codec c .dec memory) (copy-codec c .dec disk))
+  unfolding sound-copies disk-good
   copies-are g ws memory disk h em ed =
       let l : length (drop half ws) ≡ half = length-drop half ws ∙ omega arith in
       rw (em, ed, run-all half (drop half ws) l) (in-turn _ _ _)
 
   -- from the parts of a slice that are lent, of h bytes each
   pub copies-lent : (g h : ℕ) (s : List ℕ) → length s ≡ 8 * copies-words c → h ≡ 8 * half
-      → copies-good c good g up (copies-codec c .dec (words s))
-      ≡ (table-good c good (Bucket g) (c .entries) (copy-codec c .dec (words (take (h - 0) (drop 0 s))))
+      → sound-copies good c up g (copies-codec c .dec (words s) .memory) (copies-codec c .dec (words s) .disk)
+      ≡ (sound-table good (in-bucket c g) (c .entries) (copy-codec c .dec (words (take (h - 0) (drop 0 s))))
       and disk-good c good g up (copy-codec c .dec (words (take (h - 0) (drop 0 s)))) (copy-codec c .dec (words (take (h + h - h) (drop h s)))))
   copies-lent g h s l e =
       copies-are g (words s) _ _ (length-words s ∙ omega arith) (lent s 0 h 0 half refl (omega arith) (omega arith))
       (lent s h (h + h) half half (omega arith) (omega arith) (omega arith))
 
   -- a bucket's copies, in the words of all
-  pub copies-part : (ws v : List ℕ) (g : ℕ) → v ≡ part (copies-words c) g ws → copies-at-good c good up ws g ≡ copies-good c good g up (copies-codec c .dec v)
-  unfolding copies-at-good
+  pub copies-part : (ws v : List ℕ) (g : ℕ) → v ≡ part (copies-words c) g ws
+      → copies-sound c good up ws g ≡ sound-copies good c up g (copies-codec c .dec v .memory) (copies-codec c .dec v .disk)
+  unfolding copies-sound
   copies-part ws v g e = rw e

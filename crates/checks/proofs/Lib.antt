@@ -4,3 +4,4 @@ pub mod ChunkLaws
 pub mod CopyLaws
 pub mod BagLaws
 pub mod ProxyLaws
+pub mod AgreedLaws

@@ -1,6 +1,6 @@
 -- Rows of a table, one after the other: code goes from the last to the first, the test from the first to the last.
 use mathlib.Core.Path.{_≡_, refl, sym, ap, subst, _∙_}
-use mathlib.Core.List.{List, _∷_}
+use mathlib.Core.List.{List, [], _∷_}
 use mathlib.Core.Bool.{Bool, true, false}
 use Prim.Native.Nat.{ℕ, zero, suc, _+_, _*_, _≤_, _<_}
 use native.Mathlib.Numerals.{add-one}
@@ -9,7 +9,7 @@ use lib.Dec.{ltb, leb}
 use lib.ListN.{length, drop, getD}
 use lib.Seq.{getD-drop}
 use borrow.Author.Tests.{lt-leb, le-leb, le-ltb, lt-ltb, ltb-true, leb-true}
-use Rattle.lists.specs.Tests.{_and_}
+use Rattle.lists.specs.Tests.{_and_, every}
 use Rattle.lists.specs.Runs.{part}
 use Rattle.lists.specs.Rows.{table-dec}
 use Rattle.lists.proofs.Tests.{by-eq, and-l, and-r, both, same-test, no-first, no-second, yes-first}
@@ -17,12 +17,13 @@ use Rattle.lists.proofs.Runs.{run-at}
 use Rattle.lists.proofs.Rows.{length-rows, rows-from, rows-past}
 use Rattle.rules.specs.declared.settings.Settings.{Settings}
 use Rattle.rules.specs.Numbers.{blocks}
-use Rattle.rules.specs.Entries.{Entry, entry}
+use Rattle.rules.specs.Entries.{Entry, entry, ascending}
+use Rattle.rules.specs.Sound.{sound-entry, sound-entries, sound-table}
 use Rattle.layout.specs.Disk.{entry-row}
 use Rattle.layout.specs.Layout.{entries-codec}
 use Rattle.checks.specs.declared.rows.Whose.{Whose}
 use Rattle.checks.specs.declared.rows.Whose.the-variants.{Bucket, Proxy, Anyone}
-use Rattle.checks.specs.Rows.{key-below, floor-after, ceiling-below, entry-fits, entry-good, rows-good, first-entries, table-good}
+use Rattle.checks.specs.Rows.{key-below, floor-after, ceiling-below, belongs, entry-fits, rows-good, first-entries, table-sound}
 
 -- key 0 stands nowhere: no brick has id 0
 pub zero-not-below : (limits : List ℕ) → getD limits 0 0 ≡ 0 → key-below limits 0 ≡ false
@@ -92,18 +93,18 @@ module _ (c : Settings) (good : ℕ → Bool) (whose : Whose) (ws : List ℕ) wh
   floor-at (suc i) = floor-after whose (row-at i .block)
 
   abbrev Each : ℕ → Type 0
-  Each i = (floor-at i ≤ row-at i .block) × (entry-good c good whose (row-at i) ≡ true)
+  Each i = (floor-at i ≤ row-at i .block) × (sound-entry good (belongs c whose) (row-at i) ≡ true)
 
   in-range : (i : ℕ) → Each i → row-at i .block < blocks
-  unfolding entry-good
+  unfolding sound-entry
   in-range i e = ltb-true _ _ (and-r _ _ (and-l _ _ (e .1)))
 
   fits : (i : ℕ) → Each i → entry-fits c good whose (row-at i) ≡ true
-  unfolding entry-good entry-fits
+  unfolding sound-entry entry-fits
   fits i e = both _ _ (and-l _ _ (and-l _ _ (e .1))) (and-r _ _ (e .1))
 
-  good-if : (i : ℕ) → row-at i .block < blocks → entry-fits c good whose (row-at i) ≡ true → entry-good c good whose (row-at i) ≡ true
-  unfolding entry-good entry-fits
+  good-if : (i : ℕ) → row-at i .block < blocks → entry-fits c good whose (row-at i) ≡ true → sound-entry good (belongs c whose) (row-at i) ≡ true
+  unfolding sound-entry entry-fits
   good-if i l y = both _ _ (both _ _ (and-l _ _ y) (lt-ltb _ _ l)) (and-r _ _ y)
 
   under-of : (i ceiling : ℕ) → ((j : ℕ) → j < i → Each j) → ((j : ℕ) → suc j ≡ i → row-at j .block < ceiling) → rows-under ceiling i ≡ true
@@ -135,7 +136,7 @@ module _ (c : Settings) (good : ℕ → Bool) (whose : Whose) (ws : List ℕ) wh
     rows-left floor i = rows-good c good whose floor (drop i (first-entries n ws))
 
     turn : (floor i : ℕ) → i < n
-        → rows-left floor i ≡ (leb floor (row-at i .block) and entry-good c good whose (row-at i) and rows-left (floor-after whose (row-at i .block)) (i + 1))
+        → rows-left floor i ≡ (leb floor (row-at i .block) and sound-entry good (belongs c whose) (row-at i) and rows-left (floor-after whose (row-at i .block)) (i + 1))
     unfolding rows-left rows-good
     turn floor i h =
         ap (rows-good c good whose floor) (rows-from 2 (entry-row .read) n i (drop 1 ws) h)
@@ -164,23 +165,62 @@ module _ (c : Settings) (good : ℕ → Bool) (whose : Whose) (ws : List ℕ) wh
         same-test _ _ (λ y. back (of-under n blocks (omega arith) y) n 0 (omega arith))
         (λ y. under-of n blocks (each-of y) (λ j q. in-range j (each-of y j (omega arith))))
 
+-- ---- row by row, and the rules' test of a table
+and-four : (a b x y : Bool) → (a and b and (x and y)) ≡ (a and x and (b and y))
+unfolding _and_
+and-four true true x y = refl
+and-four true false x y = sym (no-second x false refl)
+and-four false b x y = refl
+
+and-swap : (a b x : Bool) → (a and (b and x)) ≡ (b and (a and x))
+unfolding _and_
+and-swap true true x = refl
+and-swap true false x = refl
+and-swap false true x = refl
+and-swap false false x = refl
+
+module _ (c : Settings) (good : ℕ → Bool) where
+  rows-ascending : (whose : Whose) → ((b : ℕ) → floor-after whose b ≡ suc b) → (floor : ℕ) (l : List Entry)
+      → rows-good c good whose floor l ≡ (ascending floor l and every (sound-entry good (belongs c whose)) l)
+  unfolding rows-good ascending every _and_
+  rows-ascending whose f floor [] = refl
+  rows-ascending whose f floor (e ∷ l) =
+      let mine = sound-entry good (belongs c whose) in
+      ap (λ (b : Bool). leb floor (e .block) and mine e and b)
+      (ap (λ (n : ℕ). rows-good c good whose n l) (f (e .block)) ∙ rows-ascending whose f (suc (e .block)) l)
+      ∙ and-four (leb floor (e .block)) (mine e) (ascending (suc (e .block)) l) (every mine l)
+
+  rows-any : (l : List Entry) → rows-good c good Anyone 0 l ≡ every (sound-entry good (belongs c Anyone)) l
+  unfolding rows-good every floor-after
+  rows-any [] = refl
+  rows-any (e ∷ l) =
+      let mine = sound-entry good (belongs c Anyone) in
+      ap (λ (b : Bool). b and rows-good c good Anyone 0 l) (yes-first (leb 0 (e .block)) (mine e) (le-leb 0 (e .block) (omega arith)))
+      ∙ ap (λ (b : Bool). mine e and b) (rows-any l)
+
+  in-order : (whose : Whose) → ((b : ℕ) → floor-after whose b ≡ suc b) → (most : ℕ) (l : List Entry)
+      → (leb (length l) most and rows-good c good whose 0 l) ≡ sound-table good (belongs c whose) most l
+  unfolding sound-table sound-entries
+  in-order whose f most l =
+      ap (λ (b : Bool). leb (length l) most and b) (rows-ascending whose f 0 l)
+      ∙ and-swap (leb (length l) most) (ascending 0 l) (every (sound-entry good (belongs c whose)) l)
+
+  rows-sound : (whose : Whose) (most : ℕ) (l : List Entry) → (leb (length l) most and rows-good c good whose 0 l) ≡ table-sound c good whose most l
+  unfolding belongs floor-after sound-entries
+  rows-sound (Bucket g) most l = in-order (Bucket g) (λ b. refl) most l
+  rows-sound (Proxy p) most l = in-order (Proxy p) (λ b. refl) most l
+  rows-sound Anyone most l = ap (λ (b : Bool). leb (length l) most and b) (rows-any l)
+
 -- ---- a whole table
 module _ (c : Settings) (good : ℕ → Bool) (whose : Whose) (most : ℕ) (ws : List ℕ) (n : ℕ) (e : n ≡ getD ws 0 0) where
   count : length (entries-codec most .dec ws) ≡ n
   unfolding table-dec
   count = length-rows 2 (entry-row .read) (getD ws 0 0) (drop 1 ws) ∙ sym e
 
-  pub table-over : most < n → table-good c good whose most (entries-codec most .dec ws) ≡ false
-  unfolding table-good
-  table-over l = no-first _ _ (rw count (lt-leb n most l))
+  pub table-over : most < n → table-sound c good whose most (entries-codec most .dec ws) ≡ false
+  table-over l = sym (rows-sound c good whose most (entries-codec most .dec ws)) ∙ no-first _ _ (rw count (lt-leb n most l))
 
-  pub table-rows : n ≤ most → table-good c good whose most (entries-codec most .dec ws) ≡ rows-good c good whose 0 (first-entries n ws)
-  unfolding table-good table-dec
-  table-rows l = yes-first _ _ (rw count (le-leb n most l)) ∙ rw e
-
--- a table that passes has room for its rows
-pub table-few : (c : Settings) (good : ℕ → Bool) (whose : Whose) (most : ℕ) (ws : List ℕ) → table-good c good whose most (entries-codec most .dec ws) ≡ true
-    → getD ws 0 0 ≤ most
-unfolding table-good table-dec
-table-few c good whose most ws y =
-    rw (length-rows 2 (entry-row .read) (getD ws 0 0) (drop 1 ws)) at (leb-true (length (entries-codec most .dec ws)) most (and-l _ _ y))
+  pub table-rows : n ≤ most → table-sound c good whose most (entries-codec most .dec ws) ≡ rows-good c good whose 0 (first-entries n ws)
+  unfolding table-dec
+  table-rows l =
+      sym (rows-sound c good whose most (entries-codec most .dec ws)) ∙ yes-first _ _ (rw count (le-leb n most l)) ∙ rw e

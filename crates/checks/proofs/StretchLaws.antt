@@ -8,6 +8,7 @@ use Rattle.lists.proofs.Tests.{by-eq, and-l, both}
 use Rattle.rules.specs.declared.settings.Settings.{Settings}
 use Rattle.rules.specs.Numbers.{blocks, run-blocks, proxy-of, bucket-of}
 use Rattle.rules.specs.Entries.{entry}
+use Rattle.rules.specs.Sound.{in-bucket}
 use Rattle.checks.specs.declared.rows.Whose.{Whose}
 use Rattle.checks.specs.declared.rows.Whose.the-variants.{Bucket, Proxy, Anyone}
 use Rattle.checks.specs.Rows.{key-below, belongs, floor-after, ceiling-below, entry-fits}
@@ -16,7 +17,7 @@ use Rattle.checks.proofs.RowLaws.{rows-under, under-next, below-ceiling
 
 -- ---- blocks of one run
 pub same-run : (c : Settings) (whose : Whose) (a b : ℕ) → a / run-blocks ≡ b / run-blocks → belongs c whose a ≡ belongs c whose b
-unfolding belongs bucket-of proxy-of
+unfolding belongs in-bucket bucket-of proxy-of
 same-run c (Bucket g) a b e = rw e
 same-run c (Proxy p) a b e = let q : a / 2 ^ 49 ≡ b / 2 ^ 49 = omega arith in rw q
 same-run c Anyone a b e = refl

@@ -1,4 +1,4 @@
--- What the check tests of a bucket's record.
+-- The test of a bucket's record in words, and what its check requires.
 use mathlib.Core.Path.{_≡_}
 use mathlib.Core.List.{List}
 use mathlib.Core.Bool.{Bool}
@@ -7,20 +7,20 @@ use lib.Dec.{leb}
 use lib.ListN.{getD}
 use Rattle.lists.specs.Tests.{_and_}
 use Rattle.rules.specs.declared.settings.Settings.{Settings}
-use Rattle.rules.specs.Limits.{max-number}
-use Rattle.rules.specs.Sound.{sound-pair}
+use Rattle.rules.specs.Sound.{sound-bucket}
 use Rattle.rules.proofs.Limits.{Limits}
-use Rattle.layout.specs.Layout.{agreed-words, store-words, agreed-part}
-use Rattle.layout.specs.Layout.{primary-at, backup-at, last-primary-at, last-backup-at, ready-at, fetched-at, order-at, taken-at}
+use Rattle.layout.specs.Layout.{agreed-codec, agreed-words, store-words, agreed-part, ready-at, fetched-at}
 
-unfoldable pub agreed-good : ℕ → List ℕ → Bool
-agreed-good given w =
-    sound-pair given (getD w primary-at 0) (getD w backup-at 0) and sound-pair given (getD w last-primary-at 0) (getD w last-backup-at 0)
-    and leb (getD w ready-at 0) 1 and leb (getD w fetched-at 0) 1 and leb (getD w order-at 0) max-number and leb (getD w taken-at 0) max-number
+-- the rules' test of what is decoded, and flags are 0 or 1
+unfoldable pub agreed-sound : ℕ → List ℕ → Bool
+agreed-sound given w =
+    let k = agreed-codec .dec w in
+    sound-bucket given (k .primary) (k .backup) (k .last-primary) (k .last-backup) (k .order) (k .taken)
+    and leb (getD w ready-at 0) 1 and leb (getD w fetched-at 0) 1
 
 -- of bucket g, in the words of a store
-unfoldable pub agreed-at-good : ℕ → List ℕ → ℕ → Bool
-agreed-at-good given ws g = agreed-good given (agreed-part g ws)
+unfoldable pub agreed-at-sound : ℕ → List ℕ → ℕ → Bool
+agreed-at-sound given ws g = agreed-sound given (agreed-part g ws)
 
 abbrev pub AgreedFit : ℕ → Type 0
 AgreedFit bytes = bytes ≡ 8 * agreed-words

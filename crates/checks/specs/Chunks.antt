@@ -1,4 +1,4 @@
--- What the check tests of a chunk log.
+-- The test of a chunk log in words, and how it goes along the positions.
 use mathlib.Core.Path.{_≡_}
 use mathlib.Core.List.{List}
 use mathlib.Core.Bool.{Bool}
@@ -6,9 +6,10 @@ use Prim.Native.Nat.{ℕ, zero, suc, _+_, _*_, _≤_, _<_}
 use lib.Dec.{ltb}
 use lib.Bits.{bitOr}
 use lib.ListN.{length, getD}
-use Rattle.lists.specs.Tests.{_and_, every}
+use Rattle.lists.specs.Tests.{_and_}
 use Rattle.rules.specs.declared.settings.Settings.{Settings}
 use Rattle.rules.specs.Limits.{max-chunks}
+use Rattle.rules.specs.Sound.{sound-log}
 use Rattle.words.specs.Words.{words}
 use Rattle.log.specs.Log.{row-saved, position-at, key-by, good-log}
 use Rattle.log.specs.Steps.{row-good}
@@ -25,9 +26,9 @@ key-before chunks ws (suc j) = key-by chunks ws j
 unfoldable pub row-passes : (ℕ → Bool) → ℕ → ℕ → List ℕ → ℕ → Bool
 row-passes good chunks n ws j = row-good chunks n ws j and ltb (key-before chunks ws j) (key-by chunks ws j) and good (key-by chunks ws j)
 
--- the log's linear test, and a test of each key
-unfoldable pub log-good : Settings → (ℕ → Bool) → List ℕ → Bool
-log-good c good ws = good-log (c .chunks) ws and every (λ x. good (x .key)) (log-codec c .dec ws)
+-- the log's linear test, of its positions and flags, and the rules' test of what is decoded
+unfoldable pub log-sound : Settings → (ℕ → Bool) → List ℕ → Bool
+log-sound c keys ws = good-log (c .chunks) ws and sound-log keys c (log-codec c .dec ws)
 
 -- position k is that of a row in use with this key, below the next, and its flag is gathered with those before
 pub record KeyUnder (chunks n : ℕ) (ws : List ℕ) (k next before key flags : ℕ) : Type 0 where

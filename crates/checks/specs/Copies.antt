@@ -1,30 +1,22 @@
--- What the check tests of bucket copies.
+-- The test of bucket copies in words, and what its check requires.
 use mathlib.Core.Path.{_≡_}
 use mathlib.Core.List.{List}
 use mathlib.Core.Bool.{Bool, true}
 use Prim.Native.Nat.{ℕ, _+_, _*_, _≤_, _<_}
 use lib.ListN.{length, getD}
-use Rattle.lists.specs.Tests.{_and_, _or_}
 use Rattle.lists.specs.Runs.{run, part}
 use Rattle.rules.specs.declared.settings.Settings.{Settings}
 use Rattle.words.specs.Words.{words}
 use Rattle.rules.specs.Limits.{buckets, max-entries}
 use Rattle.rules.specs.Entries.{Entry}
-use Rattle.rules.specs.Sound.{same-entries}
-use Rattle.layout.specs.Disk.{Copies}
+use Rattle.rules.specs.Sound.{sound-table, in-bucket, sound-copies}
 use Rattle.layout.specs.Layout.{copy-codec, copies-codec, copy-words, copies-words, place-words, store-words, place-at, copies-at}
-use Rattle.checks.specs.declared.rows.Whose.the-variants.{Bucket}
 use Rattle.rules.proofs.Limits.{Limits}
-use Rattle.checks.specs.Rows.{ids, key-below, table-good}
-
--- of one bucket: both tables, and of a down brick they are the same
-unfoldable pub copies-good : Settings → (ℕ → Bool) → ℕ → Bool → Copies → Bool
-copies-good c good g up k =
-    table-good c good (Bucket g) (c .entries) (k .memory) and table-good c good (Bucket g) (c .entries) (k .disk) and (up or same-entries (k .memory) (k .disk))
+use Rattle.checks.specs.Rows.{ids, key-below}
 
 -- of bucket g, in the words of all
-unfoldable pub copies-at-good : Settings → (ℕ → Bool) → Bool → List ℕ → ℕ → Bool
-copies-at-good c good up ws g = copies-good c good g up (copies-codec c .dec (part (copies-words c) g ws))
+unfoldable pub copies-sound : Settings → (ℕ → Bool) → Bool → List ℕ → ℕ → Bool
+copies-sound c keys up ws g = let k = copies-codec c .dec (part (copies-words c) g ws) in sound-copies keys c up g (k .memory) (k .disk)
 
 -- n words after the first in each of three tables
 pub record AlikeFit (one second third n : ℕ) : Type 0 where
@@ -58,7 +50,7 @@ pub record Passed (c : Settings) (limits : List ℕ) (store : List ℕ) (p : ℕ
   pub size : length store ≡ 8 * store-words c
   pub inside : p < c .places
   pub each : (g q : ℕ) → g < buckets c → q < p → HoldsBrick c (words store) q
-      → table-good c (key-below limits) (Bucket g) (c .entries) (copy-codec c .dec (memory-of c (words store) g q)) ≡ true
+      → sound-table (key-below limits) (in-bucket c g) (c .entries) (copy-codec c .dec (memory-of c (words store) g q)) ≡ true
 
 pub record EarlierFit (c : Settings) (bytes p from : ℕ) : Type 0 where
   pub small : Limits c
@@ -80,7 +72,7 @@ pub record ComparedFit (c : Settings) (g bytes p : ℕ) (memory disk : List ℕ)
 pub record MemoryFit (c : Settings) (limits : List ℕ) (g : ℕ) (known : Bool) (memory : List ℕ) : Type 0 where
   pub limits-size : length limits ≡ ids
   pub few : c .entries ≤ max-entries
-  pub passed : known ≡ true → table-good c (key-below limits) (Bucket g) (c .entries) (copy-codec c .dec (words memory)) ≡ true
+  pub passed : known ≡ true → sound-table (key-below limits) (in-bucket c g) (c .entries) (copy-codec c .dec (words memory)) ≡ true
   pub size : length memory ≡ 8 * copy-words c
 
 pub record CopiesFit (c : Settings) (limits : List ℕ) (g : ℕ) (store : List ℕ) (p bytes : ℕ) : Type 0 where

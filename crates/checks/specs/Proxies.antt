@@ -1,24 +1,17 @@
--- What the check tests of a proxy.
+-- The test of a proxy in words, and what its check requires.
 use mathlib.Core.Path.{_≡_}
 use mathlib.Core.List.{List}
 use mathlib.Core.Bool.{Bool}
 use Prim.Native.Nat.{ℕ, _*_}
-use lib.Dec.{leb}
-use Rattle.lists.specs.Tests.{_and_}
 use Rattle.rules.specs.declared.settings.Settings.{Settings}
-use Rattle.rules.specs.Limits.{max-number, max-items}
+use Rattle.rules.specs.Sound.{sound-proxy}
 use Rattle.rules.proofs.Limits.{Limits}
-use Rattle.layout.specs.Disk.{Proxy as ProxyState}
 use Rattle.layout.specs.Layout.{proxy-codec, proxy-words, store-words, proxy-part}
-use Rattle.checks.specs.declared.rows.Whose.the-variants.{Proxy}
-use Rattle.checks.specs.Rows.{ids, table-good}
-
-unfoldable pub proxy-good : Settings → (ℕ → Bool) → ℕ → ProxyState → Bool
-proxy-good c good p x = leb (x .known) max-number and table-good c good (Proxy p) max-items (x .items)
+use Rattle.checks.specs.Rows.{ids}
 
 -- proxy p, in the words of a store
-unfoldable pub proxy-at-good : Settings → (ℕ → Bool) → List ℕ → ℕ → Bool
-proxy-at-good c good ws p = proxy-good c good p (proxy-codec .dec (proxy-part c p ws))
+unfoldable pub proxy-sound : Settings → (ℕ → Bool) → List ℕ → ℕ → Bool
+proxy-sound c keys ws p = let x = proxy-codec .dec (proxy-part c p ws) in sound-proxy keys p (x .known) (x .items)
 
 pub record ProxyFit (limits bytes : ℕ) : Type 0 where
   pub known : limits ≡ ids

@@ -5,7 +5,7 @@ ghost use Rattle.lists.specs.Tests.{all-below};
 ghost use Rattle.words.specs.Words.{words};
 ghost use Rattle.rules.specs.Limits.{buckets};
 ghost use Rattle.rules.specs.Sound.{sound-pair};
-ghost use Rattle.checks.specs.Agreed.{agreed-good, agreed-at-good, AgreedFit, AllAgreedFit};
+ghost use Rattle.checks.specs.Agreed.{agreed-sound, agreed-at-sound, AgreedFit, AllAgreedFit};
 use layout::sizes;
 use rules::constants;
 use rules::settings::Settings;
@@ -18,7 +18,7 @@ fn pair_good(given: u64, one: u64, other: u64) -> bool
 
 fn agreed_good(given: u64, bytes: &[u8]) -> bool
     requires { ⌜ AgreedFit (length (now bytes)) ⌝ }
-    ensures { λ r. ⌜ r ≡ agreed-good given (words (now (bytes .entry))) ⌝ }
+    ensures { λ r. ⌜ r ≡ agreed-sound given (words (now (bytes .entry))) ⌝ }
 {
     let pair = pair_good(
         given,
@@ -36,16 +36,16 @@ fn agreed_good(given: u64, bytes: &[u8]) -> bool
     let taken = words::read(bytes, sizes::TAKEN_AT);
     pair
         & last
-        & (ready <= 1)
-        & (fetched <= 1)
         & (order <= constants::MAX_NUMBER)
         & (taken <= constants::MAX_NUMBER)
+        & (ready <= 1)
+        & (fetched <= 1)
 }
 
 // The records of all buckets.
 pub fn all_agreed_good(settings: Settings, given: u64, store: &[u8]) -> bool
     requires { ⌜ AllAgreedFit settings (length (now store)) ⌝ }
-    ensures { λ r. ⌜ r ≡ all-below (buckets settings) (agreed-at-good given (words (now (store .entry)))) ⌝ }
+    ensures { λ r. ⌜ r ≡ all-below (buckets settings) (agreed-at-sound given (words (now (store .entry)))) ⌝ }
 {
     let mut g = 0;
     while g < sizes::BUCKETS {

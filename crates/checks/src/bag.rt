@@ -2,9 +2,10 @@
 ghost use mathlib.Core.Path.{_≡_};
 ghost use lib.ListN.{length};
 ghost use Rattle.words.specs.Words.{words};
+ghost use Rattle.rules.specs.Sound.{sound-relay, sound-bag};
 ghost use Rattle.layout.specs.Layout.{bag-codec};
 ghost use Rattle.checks.specs.Rows.{key-below};
-ghost use Rattle.checks.specs.Bag.{relay-at, relay-good, bag-good, RelayFit, BagFit};
+ghost use Rattle.checks.specs.Bag.{relay-at, RelayFit, BagFit};
 use crate::rows;
 use layout::sizes;
 use rules::constants;
@@ -13,7 +14,7 @@ use rules::settings::Settings;
 
 fn relay_good(settings: Settings, limits: &[u64], bag: &[u8], i: usize) -> bool
     requires { ⌜ RelayFit (length (now limits)) (length (now bag)) i ⌝ }
-    ensures { λ r. ⌜ r ≡ relay-good settings (key-below (now (limits .entry))) (relay-at (words (now (bag .entry))) i) ⌝ }
+    ensures { λ r. ⌜ r ≡ sound-relay (key-below (now (limits .entry))) settings (relay-at (words (now (bag .entry))) i) ⌝ }
 {
     let at = 1 + sizes::RELAY_WORDS * i;
     let view = words::read(bag, at);
@@ -31,7 +32,7 @@ fn relay_good(settings: Settings, limits: &[u64], bag: &[u8], i: usize) -> bool
 
 pub fn bag_good(settings: Settings, limits: &[u64], bag: &[u8]) -> bool
     requires { ⌜ BagFit (length (now limits)) (length (now bag)) ⌝ }
-    ensures { λ r. ⌜ r ≡ bag-good settings (key-below (now (limits .entry))) (bag-codec .dec (words (now (bag .entry)))) ⌝ }
+    ensures { λ r. ⌜ r ≡ sound-bag (key-below (now (limits .entry))) settings (bag-codec .dec (words (now (bag .entry)))) ⌝ }
 {
     let count = words::read(bag, 0);
     if (constants::MAX_RELAYS as u64) < count {

@@ -5,7 +5,7 @@ ghost use lib.ListN.{length};
 ghost use Rattle.words.specs.Words.{words};
 ghost use Rattle.lists.specs.Tests.{all-below};
 ghost use Rattle.checks.specs.Rows.{key-below};
-ghost use Rattle.checks.specs.Chunks.{Descent, KeyUnder, row-passes, log-good, KeyFit, DescendFit, PassFit, LogFit};
+ghost use Rattle.checks.specs.Chunks.{Descent, KeyUnder, row-passes, log-sound, KeyFit, DescendFit, PassFit, LogFit};
 use crate::rows;
 use rules::constants;
 use rules::numbers::ChunkKey;
@@ -115,7 +115,7 @@ fn pass(limits: &[u64], log: &[u8], chunks: usize, n: usize) -> bool
 
 pub fn log_good(settings: Settings, limits: &[u64], log: &[u8]) -> bool
     requires { ⌜ LogFit settings (now limits) (length (now log)) ⌝ }
-    ensures { λ r. ⌜ r ≡ log-good settings (key-below (now (limits .entry))) (words (now (log .entry))) ⌝ }
+    ensures { λ r. ⌜ r ≡ log-sound settings (key-below (now (limits .entry))) (words (now (log .entry))) ⌝ }
 {
     let count = words::read(log, 0);
     let chunks = settings.chunks;

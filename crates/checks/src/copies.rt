@@ -5,13 +5,12 @@ ghost use lib.ListN.{length};
 ghost use Rattle.lists.specs.Tests.{all-below};
 ghost use Rattle.words.specs.Words.{words};
 ghost use Rattle.rules.specs.Limits.{buckets};
-ghost use Rattle.rules.specs.Sound.{same-entries};
+ghost use Rattle.rules.specs.Sound.{sound-table, in-bucket, same-entries, sound-copies};
 ghost use Rattle.tables.specs.Tables.{same-at, IsTable};
 ghost use Rattle.entries.specs.Words.{entry-words};
 ghost use Rattle.layout.specs.Layout.{entries-codec, copy-codec, copies-codec};
-ghost use Rattle.checks.specs.declared.rows.Whose.the-variants.{Bucket};
-ghost use Rattle.checks.specs.Rows.{key-below, table-good};
-ghost use Rattle.checks.specs.Copies.{copies-good, copies-at-good, Earlier, Known};
+ghost use Rattle.checks.specs.Rows.{key-below};
+ghost use Rattle.checks.specs.Copies.{copies-sound, Earlier, Known};
 ghost use Rattle.checks.specs.Copies.{AlikeFit, EarlierFit, ComparedFit, MemoryFit, CopiesFit, AllCopiesFit};
 use crate::rows;
 use crate::rows::Whose;
@@ -115,7 +114,7 @@ fn compared(
 // The copy in memory, where it is known whether it passed already.
 fn memory_good(settings: Settings, limits: &[u64], bucket: u64, known: bool, memory: &[u8]) -> bool
     requires { ⌜ MemoryFit settings (now limits) bucket known (now memory) ⌝ }
-    ensures { λ r. ⌜ r ≡ table-good settings (key-below (now (limits .entry))) (Bucket bucket) (settings .entries)
+    ensures { λ r. ⌜ r ≡ sound-table (key-below (now (limits .entry))) (in-bucket settings bucket) (settings .entries)
         (copy-codec settings .dec (words (now (memory .entry)))) ⌝ }
 {
     if known {
@@ -142,7 +141,8 @@ fn copies_good(
     copies: &[u8],
 ) -> bool
     requires { ⌜ CopiesFit settings (now limits) bucket (now store) p (length (now copies)) ⌝ }
-    ensures { λ r. ⌜ r ≡ copies-good settings (key-below (now (limits .entry))) bucket up (copies-codec settings .dec (words (now (copies .entry)))) ⌝ }
+    ensures { λ r. ⌜ r ≡ sound-copies (key-below (now (limits .entry))) settings up bucket (copies-codec settings .dec (words (now (copies .entry))) .memory)
+        (copies-codec settings .dec (words (now (copies .entry))) .disk) ⌝ }
 {
     let half = 8 * sizes::copy_words(settings);
     let memory = &copies[0..half];
@@ -182,7 +182,7 @@ pub fn all_copies_good(
     copies: &[u8],
 ) -> bool
     requires { ⌜ AllCopiesFit settings (now limits) (now store) p (length (now copies)) ⌝ }
-    ensures { λ r. ⌜ r ≡ all-below (buckets settings) (copies-at-good settings (key-below (now (limits .entry))) up (words (now (copies .entry)))) ⌝ }
+    ensures { λ r. ⌜ r ≡ all-below (buckets settings) (copies-sound settings (key-below (now (limits .entry))) up (words (now (copies .entry)))) ⌝ }
 {
     let size = sizes::copies_words(settings);
     let mut g = 0;

@@ -4,9 +4,10 @@ ghost use lib.ListN.{length};
 ghost use Rattle.lists.specs.Tests.{all-below};
 ghost use Rattle.words.specs.Words.{words};
 ghost use Rattle.rules.specs.Limits.{proxies};
+ghost use Rattle.rules.specs.Sound.{sound-proxy};
 ghost use Rattle.layout.specs.Layout.{proxy-codec};
 ghost use Rattle.checks.specs.Rows.{key-below};
-ghost use Rattle.checks.specs.Proxies.{proxy-good, proxy-at-good, ProxyFit, ProxiesFit};
+ghost use Rattle.checks.specs.Proxies.{proxy-sound, ProxyFit, ProxiesFit};
 use crate::rows;
 use crate::rows::Whose;
 use layout::sizes;
@@ -15,7 +16,8 @@ use rules::settings::Settings;
 
 fn proxy_good(settings: Settings, limits: &[u64], p: u64, proxy: &[u8]) -> bool
     requires { ⌜ ProxyFit (length (now limits)) (length (now proxy)) ⌝ }
-    ensures { λ r. ⌜ r ≡ proxy-good settings (key-below (now (limits .entry))) p (proxy-codec .dec (words (now (proxy .entry)))) ⌝ }
+    ensures { λ r. ⌜ r ≡ sound-proxy (key-below (now (limits .entry))) p (proxy-codec .dec (words (now (proxy .entry))) .known)
+        (proxy-codec .dec (words (now (proxy .entry))) .items) ⌝ }
 {
     if constants::MAX_NUMBER < words::read(proxy, 0) {
         return false;
@@ -32,7 +34,7 @@ fn proxy_good(settings: Settings, limits: &[u64], p: u64, proxy: &[u8]) -> bool
 
 pub fn proxies_good(settings: Settings, limits: &[u64], store: &[u8]) -> bool
     requires { ⌜ ProxiesFit settings (length (now limits)) (length (now store)) ⌝ }
-    ensures { λ r. ⌜ r ≡ all-below proxies (proxy-at-good settings (key-below (now (limits .entry))) (words (now (store .entry)))) ⌝ }
+    ensures { λ r. ⌜ r ≡ all-below proxies (proxy-sound settings (key-below (now (limits .entry))) (words (now (store .entry)))) ⌝ }
 {
     let mut p = 0;
     while p < constants::PROXIES {

@@ -5,7 +5,7 @@ ghost use lib.ListN.{length};
 ghost use Rattle.words.specs.Words.{words};
 ghost use Rattle.rules.specs.Entries.{entry};
 ghost use Rattle.layout.specs.Layout.{entries-codec};
-ghost use Rattle.checks.specs.Rows.{ids, key-below, belongs, ceiling-below, entry-fits, rows-good, first-entries, table-good, RowsFit, TableFit};
+ghost use Rattle.checks.specs.Rows.{ids, key-below, belongs, ceiling-below, entry-fits, rows-good, first-entries, table-sound, RowsFit, TableFit};
 ghost use Rattle.checks.specs.Stretches.{block-at, RowUnder, Stretch};
 use rules::constants;
 use rules::numbers::BlockNumber;
@@ -146,7 +146,7 @@ pub fn table_good(
     most: usize,
 ) -> bool
     requires { ⌜ TableFit (length (now limits)) (length (now bytes)) most ⌝ }
-    ensures { λ r. ⌜ r ≡ table-good settings (key-below (now (limits .entry))) whose most (entries-codec most .dec (words (now (bytes .entry)))) ⌝ }
+    ensures { λ r. ⌜ r ≡ table-sound settings (key-below (now (limits .entry))) whose most (entries-codec most .dec (words (now (bytes .entry)))) ⌝ }
 {
     let count = words::read(bytes, 0);
     if (most as u64) < count {

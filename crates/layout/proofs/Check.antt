@@ -9,10 +9,10 @@ use borrow.Author.Tests.{leb-true, le-leb}
 use Rattle.lists.specs.Tests.{every}
 use Rattle.lists.specs.Runs.{Below}
 use Rattle.lists.proofs.Tests.{and-l, and-r, both, every-in, every-of}
+use Rattle.rules.specs.declared.settings.Settings.{Settings}
 use Rattle.rules.specs.Numbers.{is-data}
 use Rattle.rules.specs.Chunks.{Chunk}
-use Rattle.rules.specs.State.{State}
-use Rattle.rules.specs.Sound.{sound-key, sound-chunk, sound-log, sound}
+use Rattle.rules.specs.Sound.{sound-chunk, sound-log, sound}
 use Rattle.rules.proofs.Limits.{Limits}
 use Rattle.log.specs.Log.{good-log}
 use Rattle.log.proofs.Check.{is-log}
@@ -25,38 +25,40 @@ use Rattle.layout.proofs.Sound.{sound-facts, facts-sound, sound-apart, 
 use Rattle.layout.proofs.Clean.{CleanParts, clean-parts, parts-clean}
 
 -- ---- a log: its linear test, and a test of each key
-abbrev pub keys-sound : State → List Chunk → Bool
-keys-sound s l = every (λ x. sound-key s (x .key)) l
-
-module _ (s : State) (l : Limits (s .settings)) (w : List ℕ) (h : length w ≡ log-words (s .settings)) where
+module _ (keys : ℕ → Bool) (c : Settings) (l : Limits c) (w : List ℕ) (h : length w ≡ log-words c) where
   abbrev chunks : List Chunk
-  chunks = log-codec (s .settings) .dec w
+  chunks = log-codec c .dec w
 
-  pub log-checked : Below word-limit w → good-log (s .settings .chunks) w ≡ true → keys-sound s chunks ≡ true
-      → Clean (log-codec (s .settings)) w × (sound-log s chunks ≡ true)
+  abbrev width : ℕ
+  width = c .size / 8
+
+  abbrev keys-pass : Bool
+  keys-pass = every (λ x. keys (x .key)) chunks
+
+  pub log-sound : good-log (c .chunks) w ≡ true → keys-pass ≡ true → sound-log keys c chunks ≡ true
   unfolding sound-log sound-chunk
-  log-checked b g k =
-      let most : ℕ = s .settings .chunks in
-      let width : ℕ = s .settings .size / 8 in
-      let whole : 8 * (s .settings .size / 8) ≡ s .settings .size = omega (arith, l .size-words) in
-      let o = is-log most width w (8 * log-words (s .settings)) refl g in
+  log-sound g k =
+      let most : ℕ = c .chunks in
+      let whole : 8 * (c .size / 8) ≡ c .size = omega (arith, l .size-words) in
+      let o = is-log most width w (8 * log-words c) refl g in
       let few : length chunks ≤ most = rw (dec-length most width w h) (o .few) in
-      let each : (x : Chunk) → List·Memᴰ x chunks → is-data (s .settings .size) (x .bytes) ≡ true =
-      λ x m. rw whole at (dec-data most width w h (o .few) x m) in (
-        log-clean most width w h (8 * log-words (s .settings)) o b,
-        both _ _ (both _ _ (dec-apart most width w h (o .few) (o .order)) (le-leb (length chunks) most few))
-            (every-of (sound-chunk s) chunks (λ x m. both _ _ (every-in (λ x. sound-key s (x .key)) chunks k x m) (each x m))),
-      )
+      let each : (x : Chunk) → List·Memᴰ x chunks → is-data (c .size) (x .bytes) ≡ true = λ x m. rw whole at (dec-data most width w h (o .few) x m) in
+      both _ _ (both _ _ (dec-apart most width w h (o .few) (o .order)) (le-leb (length chunks) most few))
+      (every-of (sound-chunk keys (c .size)) chunks (λ x m. both _ _ (every-in (λ x. keys (x .key)) chunks k x m) (each x m)))
 
-  pub log-good : Clean (log-codec (s .settings)) w → sound-log s chunks ≡ true → (good-log (s .settings .chunks) w ≡ true) × (keys-sound s chunks ≡ true)
+  pub log-keys : sound-log keys c chunks ≡ true → keys-pass ≡ true
   unfolding sound-log sound-chunk
+  log-keys y = every-of (λ x. keys (x .key)) chunks (λ x m. and-l _ _ (every-in (sound-chunk keys (c .size)) chunks (and-r _ _ y) x m))
+
+  pub log-cleaned : Below word-limit w → good-log (c .chunks) w ≡ true → Clean (log-codec c) w
+  log-cleaned b g = log-clean (c .chunks) width w h (8 * log-words c) (is-log (c .chunks) width w (8 * log-words c) refl g) b
+
+  pub log-good : Clean (log-codec c) w → sound-log keys c chunks ≡ true → good-log (c .chunks) w ≡ true
+  unfolding sound-log
   log-good k y =
-      let most : ℕ = s .settings .chunks in
-      let width : ℕ = s .settings .size / 8 in
-      let few : getD w 0 0 ≤ most = rw (dec-length most width w h) at (leb-true (length chunks) most (and-r _ _ (and-l _ _ y))) in (
-        good-of-clean most width w h few k (and-l _ _ (and-l _ _ y)),
-        every-of (λ x. sound-key s (x .key)) chunks (λ x m. and-l _ _ (every-in (sound-chunk s) chunks (and-r _ _ y) x m)),
-      )
+      let most : ℕ = c .chunks in
+      let few : getD w 0 0 ≤ most = rw (dec-length most width w h) at (leb-true (length chunks) most (and-r _ _ (and-l _ _ y))) in
+      good-of-clean most width w h few k (and-l _ _ (and-l _ _ y))
 
 -- ---- the store: the length that of the settings, flags and logs clean, the state sound
 pub record Checked (ws : List ℕ) : Type 0 where

@@ -11,7 +11,7 @@ use Rattle.lists.specs.Runs.{part}
 use Rattle.lists.proofs.Tests.{by, either}
 use Rattle.rules.specs.declared.settings.Settings.{Settings}
 use Rattle.rules.specs.Limits.{proxies, buckets}
-use Rattle.rules.specs.Sound.{Placed}
+use Rattle.rules.proofs.Placed.{Placed}
 use Rattle.layout.specs.Places.{Apart}
 use Rattle.layout.specs.Disk.{Place, blank-agreed, blank-proxy, blank-copies, blank-brick, blank-place}
 use Rattle.layout.specs.Layout.{head-codec, all-agreed-codec, all-proxies-codec, bag-codec, place-codec, all-places-codec, disk-codec, settings-of}

@@ -1,7 +1,7 @@
 -- Sound words, as facts.
 use mathlib.Core.Path.{_≡_, refl, sym, ap, _∙_}
 use mathlib.Core.List.{List, [], _∷_}
-use mathlib.Core.Bool.{true}
+use mathlib.Core.Bool.{Bool, true}
 use mathlib.Core.Logic.{inl, inr}
 use Prim.Native.Nat.{ℕ, _<_}
 use native.Mathlib.Omega.{arith}
@@ -12,7 +12,7 @@ use Rattle.lists.proofs.Tests.{by-lt, impossible, and-l, and-r, both, or-cases,
 use Rattle.rules.specs.declared.settings.Settings.{Settings}
 use Rattle.rules.specs.Limits.{in-limits}
 use Rattle.rules.specs.State.{State}
-use Rattle.rules.specs.Sound.{alone, sound-place, sound}
+use Rattle.rules.specs.Sound.{alone, sound-brick, sound-place, sound}
 use Rattle.codec.specs.Codec.{Clean}
 use Rattle.layout.specs.Places.{Apart}
 use Rattle.layout.specs.Layout.{disk-codec, settings-of, store-words}
@@ -57,25 +57,28 @@ unfolding sound-words
 facts-sound ws f = both _ _ (both _ _ (eq-eqb _ _ (f .size)) (same-words-of _ _ (f .still))) (f .state)
 
 -- ---- no id at two places
-ids-apart : (s : State) → all-below (s .settings .places) (sound-place s) ≡ true → (p q : ℕ) → q < s .settings .places → p < q → s .ids p ≡ s .ids q
-    → 0 < s .ids q → ⊥
+ids-apart : (given n : ℕ) (ids : ℕ → ℕ) (brick : ℕ → Bool) → all-below n (sound-place given ids brick) ≡ true → (p q : ℕ) → q < n → p < q
+    → ids p ≡ ids q → 0 < ids q → ⊥
 unfolding sound-place alone
-ids-apart s y p q h l e o = elim (or-cases _ _ (all-at _ _ y q h)) [
-  | inl z ↦ omega (arith, eqb-true (s .ids q) 0 z)
+ids-apart given n ids brick y p q h l e o = elim (or-cases _ _ (all-at _ _ y q h)) [
+  | inl z ↦ omega (arith, eqb-true (ids q) 0 z)
   | inr z ↦ is-no _ (all-at q _ (and-r _ _ (and-l _ _ z)) p l) (eq-eqb _ _ e)
 ]
 
+pub places-apart : (given n : ℕ) (ids : ℕ → ℕ) (brick : ℕ → Bool) → all-below n (sound-place given ids brick) ≡ true → Apart n ids
+places-apart given n ids brick y p q hp hq e o =
+    by-lt p q (λ _ l. absurd (ids-apart given n ids brick y p q hq l e (omega arith)))
+    (λ _ l. by-lt q p (λ _ m. absurd (ids-apart given n ids brick y q p hp m (sym e) o)) (λ _ m. omega arith))
+
 pub sound-apart : (s : State) → sound s ≡ true → Apart (s .settings .places) (s .ids)
 unfolding sound
-sound-apart s y p q hp hq e o =
-    let places = and-r _ _ (and-l _ _ (and-l _ _ (and-l _ _ (and-l _ _ y)))) in
-    by-lt p q (λ _ l. absurd (ids-apart s places p q hq l e (omega arith)))
-    (λ _ l. by-lt q p (λ _ m. absurd (ids-apart s places q p hp m (sym e) o)) (λ _ m. omega arith))
+sound-apart s y =
+    places-apart (s .given) (s .settings .places) (s .ids) (λ p. sound-brick s (s .ids p)) (and-r _ _ (and-l _ _ (and-l _ _ (and-l _ _ y))))
 
 -- settings in limits
 pub sound-limits : (s : State) → sound s ≡ true → in-limits (s .settings) ≡ true
 unfolding sound
-sound-limits s y = and-l _ _ (and-l _ _ (and-l _ _ (and-l _ _ (and-l _ _ (and-l _ _ (and-l _ _ (and-l _ _ (and-l _ _ y))))))))
+sound-limits s y = and-l _ _ (and-l _ _ (and-l _ _ (and-l _ _ (and-l _ _ y))))
 
 module _ (ws : List ℕ) (sd : SoundWords ws) where
   pub words-limits : in-limits (settings-of ws) ≡ true

@@ -6,7 +6,7 @@ use native.Mathlib.Omega.{arith}
 use Rattle.lists.proofs.Tests.{by-eq, by-lt, impossible, clash}
 use Rattle.rules.specs.Limits.{proxies, buckets}
 use Rattle.rules.specs.State.{State, blank-bucket}
-use Rattle.rules.specs.Sound.{Placed}
+use Rattle.rules.proofs.Placed.{Placed}
 use Rattle.codec.specs.Codec.{_&_}
 use Rattle.layout.specs.Places.{Apart}
 use Rattle.layout.specs.Disk.{Agreed, Proxy, Copies, Brick, Place, Disk, blank-agreed, blank-proxy, blank-copies, blank-brick}

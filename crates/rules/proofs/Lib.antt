@@ -8,5 +8,6 @@ pub mod Questions
 pub mod Ids
 pub mod Step
 pub mod Sound
+pub mod Placed
 pub mod SoundTest
 pub mod Examples

@@ -16,9 +16,12 @@ use Rattle.rules.specs.Numbers.{proxy-of, bucket-of, sequences}
 use Rattle.rules.specs.Entries.{Entry, ascending}
 use Rattle.rules.specs.Chunks.{Chunk}
 use Rattle.rules.specs.State.{Bucket, Relay, State}
-use Rattle.rules.specs.Sound.{sound-key, sound-entry, sound-table, sound-buffer, keys-apart, sound-chunk, sound-log, same-entries, in-bucket}
-use Rattle.rules.specs.Sound.{sound-copies, sound-brick, alone, sound-place, sound-pair, sound-bucket, sound-relay, sound-proxy, sound, Placed}
+use Rattle.rules.specs.Question.{belongs}
+use Rattle.rules.specs.Sound.{sound-header, sound-key, sound-entry, sound-entries, sound-table, anyone, in-bucket, keys-apart, sound-chunk, sound-log}
+use Rattle.rules.specs.Sound.{sound-status, sound-buffer, same-entries, sound-copies, sound-brick, alone, sound-place, sound-pair, sound-bucket}
+use Rattle.rules.specs.Sound.{sound-relay, sound-bag, sound-proxy, sound}
 use Rattle.rules.proofs.Sound.{EntryOk, TableOk, BufferOk, ChunkOk, LogOk, RelayOk, PairOk, KeyOf, Sound}
+use Rattle.rules.proofs.Placed.{Placed}
 
 -- ---- an implication between tests, read backwards
 so-not : (a b : Bool) → (a ≡ true → b ≡ true) → b ≡ false → a ≡ false
@@ -63,8 +66,11 @@ module _ (s : State) where
   abbrev Key : ℕ → Type 0
   Key = KeyOf s
 
+  abbrev keys : ℕ → Bool
+  keys = sound-key s
+
   -- ---- keys, entries, lists
-  key-test : (k : ℕ) → (sound-key s k ≡ true) ↔ Key k
+  key-test : (k : ℕ) → (keys k ≡ true) ↔ Key k
   unfolding sound-key
   key-test k = (
     λ y. record {
@@ -76,50 +82,57 @@ module _ (s : State) where
   )
 
   module _ (mine : ℕ → Bool) (P : ℕ → Type 0) (same : (b : ℕ) → (mine b ≡ true) ↔ P b) where
-    entry-test : (e : Entry) → (sound-entry s mine e ≡ true) ↔ EntryOk Key P e
+    entry-test : (e : Entry) → (sound-entry keys mine e ≡ true) ↔ EntryOk Key P e
     unfolding sound-entry
     entry-test e = (
       λ y. record { mine = same _ .0 (and-l _ _ (and-l _ _ y)); small = ltb-true _ _ (and-r _ _ (and-l _ _ y)); key = key-test _ .0 (and-r _ _ y) },
       λ v. both _ _ (both _ _ (same _ .1 (v .mine)) (lt-ltb _ _ (v .small))) (key-test _ .1 (v .key)),
     )
 
-    entries-test : (l : List Entry) → (every (sound-entry s mine) l ≡ true) ↔ ((e : Entry) → List·Memᴰ e l → EntryOk Key P e)
+    entries-test : (l : List Entry) → (every (sound-entry keys mine) l ≡ true) ↔ ((e : Entry) → List·Memᴰ e l → EntryOk Key P e)
     entries-test l = (
-      λ y e i. entry-test e .0 (every-in (sound-entry s mine) l y e i),
-      λ f. every-of (sound-entry s mine) l (λ e i. entry-test e .1 (f e i)),
+      λ y e i. entry-test e .0 (every-in (sound-entry keys mine) l y e i),
+      λ f. every-of (sound-entry keys mine) l (λ e i. entry-test e .1 (f e i)),
     )
 
-    table-test : (most : ℕ) (l : List Entry) → (sound-table s mine most l ≡ true) ↔ TableOk Key P most l
-    unfolding sound-table
+    table-test : (most : ℕ) (l : List Entry) → (sound-table keys mine most l ≡ true) ↔ TableOk Key P most l
+    unfolding sound-table sound-entries
     table-test most l = (
-      λ y. record { sorted = and-l _ _ (and-l _ _ y); room = leb-true _ _ (and-r _ _ (and-l _ _ y)); each = entries-test l .0 (and-r _ _ y) },
-      λ v. both _ _ (both _ _ (v .sorted) (le-leb _ _ (v .room))) (entries-test l .1 (v .each)),
+      λ y. record { sorted = and-l _ _ y; room = leb-true _ _ (and-l _ _ (and-r _ _ y)); each = entries-test l .0 (and-r _ _ (and-r _ _ y)) },
+      λ v. both _ _ (v .sorted) (both _ _ (le-leb _ _ (v .room)) (entries-test l .1 (v .each))),
     )
 
-  buffer-test : (l : List Entry) → (sound-buffer s l ≡ true) ↔ BufferOk Key l
-  unfolding sound-buffer
-  buffer-test l =
-      let each = entries-test (λ b. true) (λ b. Unit {0}) (λ b. (λ _. tt, λ _. refl)) l in (
-        λ y. record { room = leb-true _ _ (and-l _ _ y); each = each .0 (and-r _ _ y) },
-        λ v. both _ _ (le-leb _ _ (v .room)) (each .1 (v .each)),
+  no-length : (l : List Entry) → (length l ≡ 0) ↔ (l ≡ [])
+  no-length [] = (λ _. refl, λ _. refl)
+  no-length (e ∷ l) = (λ n. absurd (omega arith), λ n. ap length n)
+
+  buffer-test : (up : Bool) (l : List Entry) → (sound-buffer keys up l ≡ true) ↔ (BufferOk Key l × (up ≡ false → l ≡ []))
+  unfolding sound-buffer sound-entries
+  buffer-test up l =
+      let each = entries-test anyone (λ b. Unit {0}) (λ b. (λ _. tt, λ _. refl)) l in (
+        λ y. (
+          record { room = leb-true _ _ (and-l _ _ (and-l _ _ y)); each = each .0 (and-r _ _ (and-l _ _ y)) },
+          λ z. no-length _ .0 (eqb-true _ 0 (or-second _ _ (and-r _ _ y) z)),
+        ),
+        λ v. both _ _ (both _ _ (le-leb _ _ (v .0 .room)) (each .1 (v .0 .each))) (by up (or-l _ _) (λ z. or-r _ _ (eq-eqb _ 0 (no-length _ .1 (v .1 z))))),
       )
 
-  chunk-test : (c : Chunk) → (sound-chunk s c ≡ true) ↔ ChunkOk Key (s .settings .size) c
+  chunk-test : (c : Chunk) → (sound-chunk keys (s .settings .size) c ≡ true) ↔ ChunkOk Key (s .settings .size) c
   unfolding sound-chunk
   chunk-test c = (λ y. record { key = key-test _ .0 (and-l _ _ y); bytes = and-r _ _ y }, λ v. both _ _ (key-test _ .1 (v .key)) (v .bytes))
 
-  log-test : (l : List Chunk) → (sound-log s l ≡ true) ↔ (LogOk Key (s .settings .size) l × (length l ≤ s .settings .chunks))
+  log-test : (l : List Chunk) → (sound-log keys (s .settings) l ≡ true) ↔ (LogOk Key (s .settings .size) l × (length l ≤ s .settings .chunks))
   unfolding sound-log
   log-test l = (
     λ y. (
-      record { apart = and-l _ _ (and-l _ _ y); each = λ c i. chunk-test c .0 (every-in (sound-chunk s) l (and-r _ _ y) c i) },
+      record { apart = and-l _ _ (and-l _ _ y); each = λ c i. chunk-test c .0 (every-in (sound-chunk keys (s .settings .size)) l (and-r _ _ y) c i) },
       leb-true _ _ (and-r _ _ (and-l _ _ y)),
     ),
-    λ v. both _ _ (both _ _ (v .0 .apart) (le-leb _ _ (v .1))) (every-of (sound-chunk s) l (λ c i. chunk-test c .1 (v .0 .each c i))),
+    λ v. both _ _ (both _ _ (v .0 .apart) (le-leb _ _ (v .1))) (every-of (sound-chunk keys (s .settings .size)) l (λ c i. chunk-test c .1 (v .0 .each c i))),
   )
 
   -- ---- relays, pairs, buckets
-  relay-test : (r : Relay) → (sound-relay s r ≡ true) ↔ RelayOk Key (buckets (s .settings)) r
+  relay-test : (r : Relay) → (sound-relay keys (s .settings) r ≡ true) ↔ RelayOk Key (buckets (s .settings)) r
   unfolding sound-relay in-bucket
   relay-test r = (
     λ y.
@@ -164,7 +177,10 @@ module _ (s : State) where
     order : k .order ≤ max-number
     taken : k .taken ≤ max-number
 
-  bucket-test : (k : Bucket) → (sound-bucket s k ≡ true) ↔ Agreed k
+  abbrev record-test : Bucket → Bool
+  record-test k = sound-bucket (s .given) (k .primary) (k .backup) (k .last-primary) (k .last-backup) (k .order) (k .taken)
+
+  bucket-test : (k : Bucket) → (record-test k ≡ true) ↔ Agreed k
   unfolding sound-bucket
   bucket-test k = (
     λ y.
@@ -184,10 +200,13 @@ module _ (s : State) where
     known : s .known p ≤ max-number
     items : TableOk Key (λ b. proxy-of b ≡ p) max-items (s .items p)
 
-  proxy-test : (p : ℕ) → (sound-proxy s p ≡ true) ↔ Proxy p
+  abbrev proxy-passes : ℕ → Bool
+  proxy-passes p = sound-proxy keys p (s .known p) (s .items p)
+
+  proxy-test : (p : ℕ) → (proxy-passes p ≡ true) ↔ Proxy p
   unfolding sound-proxy
   proxy-test p =
-      let items = table-test (λ b. eqb (proxy-of b) p) (λ b. proxy-of b ≡ p) (λ b. (eqb-true _ _, eq-eqb _ _)) max-items (s .items p) in (
+      let items = table-test (belongs p) (λ b. proxy-of b ≡ p) (λ b. (eqb-true _ _, eq-eqb _ _)) max-items (s .items p) in (
         λ y. record { known = leb-true _ _ (and-l _ _ y); items = items .0 (and-r _ _ y) },
         λ v. both _ _ (le-leb _ _ (v .known)) (items .1 (v .items)),
       )
@@ -201,13 +220,16 @@ module _ (s : State) where
     disk : Copy g (s .bucket g .disk i)
     down : s .bricks .up i ≡ false → s .bucket g .memory i ≡ s .bucket g .disk i
 
-  copies-test : (i g : ℕ) → (sound-copies s i g ≡ true) ↔ Copies i g
+  abbrev copies-pass : ℕ → ℕ → Bool
+  copies-pass i g = sound-copies keys (s .settings) (s .bricks .up i) g (s .bucket g .memory i) (s .bucket g .disk i)
+
+  copies-test : (i g : ℕ) → (copies-pass i g ≡ true) ↔ Copies i g
   unfolding sound-copies
   copies-test i g =
       let most = s .settings .entries in
-      let here : (b : ℕ) → (in-bucket s g b ≡ true) ↔ (bucket-of (buckets (s .settings)) b ≡ g) = λ b. unfold in-bucket in (eqb-true _ _, eq-eqb _ _) in
-      let table : (l : List Entry) → (sound-table s (in-bucket s g) most l ≡ true) ↔ Copy g l
-      = table-test (in-bucket s g) (λ b. bucket-of (buckets (s .settings)) b ≡ g) here most in
+      let here : (b : ℕ) → (in-bucket (s .settings) g b ≡ true) ↔ (bucket-of (buckets (s .settings)) b ≡ g) = λ b. unfold in-bucket in (eqb-true _ _, eq-eqb _ _) in
+      let table : (l : List Entry) → (sound-table keys (in-bucket (s .settings) g) most l ≡ true) ↔ Copy g l
+      = table-test (in-bucket (s .settings) g) (λ b. bucket-of (buckets (s .settings)) b ≡ g) here most in
       let same = same-entries-test (s .bucket g .memory i) (s .bucket g .disk i) in (
         λ y. record {
           memory = table _ .0 (and-l _ _ (and-l _ _ y));
@@ -227,41 +249,40 @@ module _ (s : State) where
     buffer-down : s .bricks .up i ≡ false → s .bricks .buffer i ≡ []
     copies : (g : ℕ) → g < buckets (s .settings) → Copies i g
 
-  no-length : (l : List Entry) → (length l ≡ 0) ↔ (l ≡ [])
-  no-length [] = (λ _. refl, λ _. refl)
-  no-length (e ∷ l) = (λ n. absurd (omega arith), λ n. ap length n)
-
   brick-test : (i : ℕ) → (sound-brick s i ≡ true) ↔ Brick i
-  unfolding sound-brick
+  unfolding sound-brick sound-status
   brick-test i =
       let b = s .bricks in
       let n = buckets (s .settings) in (
         λ y.
             let a₁ = and-l _ _ y in
             let a₂ = and-l _ _ a₁ in
-            let a₃ = and-l _ _ a₂ in
-            let a₄ = and-l _ _ a₃ in
-            let a₅ = and-l _ _ a₄ in
-            let log = log-test _ .0 (and-r _ _ a₃) in
+            let status = and-l _ _ a₂ in
+            let buffer = buffer-test _ _ .0 (and-r _ _ a₂) in
+            let log = log-test _ .0 (and-r _ _ y) in
             record {
-              member = if-so _ _ (and-l _ _ a₅);
-              below = leb-true _ _ (and-r _ _ a₅);
-              most = leb-true _ _ (and-r _ _ a₄);
+              member = if-so _ _ (and-l _ _ (and-l _ _ status));
+              below = leb-true _ _ (and-r _ _ (and-l _ _ status));
+              most = leb-true _ _ (and-r _ _ status);
               log = log .0;
               log-room = log .1;
-              buffer = buffer-test _ .0 (and-r _ _ a₂);
-              buffer-down = λ z. no-length _ .0 (eqb-true _ 0 (or-second _ _ (and-r _ _ a₁) z));
-              copies = λ g l. copies-test i g .0 (all-at n (sound-copies s i) (and-r _ _ y) g l);
+              buffer = buffer .0;
+              buffer-down = buffer .1;
+              copies = λ g l. copies-test i g .0 (all-at n (copies-pass i) (and-r _ _ a₁) g l);
             },
         λ v.
-            both _ _ (both _ _ (both _ _ (both _ _ (both _ _ (both _ _ (so-if _ _ (v .member)) (le-leb _ _ (v .below))) (le-leb _ _ (v .most)))
-            (log-test _ .1 (v .log, v .log-room))) (buffer-test _ .1 (v .buffer)))
-            (by (b .up i) (or-l _ _) (λ z. or-r _ _ (eq-eqb _ 0 (no-length _ .1 (v .buffer-down z))))))
-            (all-true n (sound-copies s i) (λ g l. copies-test i g .1 (v .copies g l))),
+            both _ _ (both _ _ (both _ _
+            (both _ _ (both _ _ (so-if _ _ (v .member)) (le-leb _ _ (v .below))) (le-leb _ _ (v .most)))
+            (buffer-test _ _ .1 (v .buffer, v .buffer-down)))
+            (all-true n (copies-pass i) (λ g l. copies-test i g .1 (v .copies g l))))
+            (log-test _ .1 (v .log, v .log-room)),
       )
 
   -- ---- a sound store passes the test
-  place-passes : Sound s → (p : ℕ) → sound-place s p ≡ true
+  abbrev place-test : ℕ → Bool
+  place-test = sound-place (s .given) (s .ids) (λ p. sound-brick s (s .ids p))
+
+  place-passes : Sound s → (p : ℕ) → place-test p ≡ true
   unfolding sound-place alone
   place-passes v p =
       let b = v .bricks in
@@ -282,14 +303,15 @@ module _ (s : State) where
       (λ _ l. or-l _ _ (eq-eqb i 0 (omega arith)))
 
   pub facts-sound : Sound s → sound s ≡ true
-  unfolding sound
+  unfolding sound sound-header sound-bag
   facts-sound v =
-      both _ _ (both _ _ (both _ _ (both _ _ (both _ _ (both _ _ (both _ _ (both _ _ (both _ _ (v .limits) (le-leb _ _ (v .bricks .few)))
-      (lt-ltb _ _ (v .view-first))) (le-leb _ _ (v .view-last))) (le-leb _ _ (v .started))) (all-true _ (sound-place s) (λ p _. place-passes v p)))
+      both _ _ (both _ _ (both _ _ (both _ _ (both _ _ (v .limits)
+      (both _ _ (both _ _ (both _ _ (le-leb _ _ (v .bricks .few)) (lt-ltb _ _ (v .view-first))) (le-leb _ _ (v .view-last))) (le-leb _ _ (v .started))))
+      (all-true _ place-test (λ p _. place-passes v p)))
       (all-true _ _ (λ g l. let k = v .buckets-ok g l in
       bucket-test (s .bucket g) .1 (record { pair = k .pair; last = k .last; order = k .order; taken = k .taken }))))
-      (le-leb _ _ (v .bag-room))) (every-of (sound-relay s) (s .bag) (λ r m. relay-test r .1 (v .relays r m))))
-      (all-true _ (sound-proxy s) (λ p _. proxy-test p .1 (record { known = v .known p; items = v .items p })))
+      (both _ _ (le-leb _ _ (v .bag-room)) (every-of (sound-relay keys (s .settings)) (s .bag) (λ r m. relay-test r .1 (v .relays r m)))))
+      (all-true _ proxy-passes (λ p _. proxy-test p .1 (record { known = v .known p; items = v .items p })))
 
   -- ---- and its columns are those of its places
   pub facts-placed : Sound s → Placed s
@@ -326,11 +348,11 @@ module _ (s : State) where
       alone : (q : ℕ) → q < p → s .ids q ≡ s .ids p → ⊥
       brick : Brick (s .ids p)
 
-    place-is : all-below (s .settings .places) (sound-place s) ≡ true → (p : ℕ) → 0 < s .ids p → Place p
+    place-is : all-below (s .settings .places) place-test ≡ true → (p : ℕ) → 0 < s .ids p → Place p
     unfolding sound-place alone
     place-is y p l =
         let inside : p < s .settings .places = by-lt p (s .settings .places) (λ _ u. u) (λ _ u. absurd (omega (arith, h .beyond p u))) in
-        let z = all-at _ (sound-place s) y p inside in
+        let z = all-at _ place-test y p inside in
         let n : eqb (s .ids p) 0 ≡ false = by-eq (s .ids p) 0 (λ _ e. absurd (omega arith)) (λ q _. q) in
         let t = or-second _ _ z n in
         record {
@@ -360,24 +382,22 @@ module _ (s : State) where
     here-first i y = by-lt 0 i (λ _ l. l) (λ _ l. let e : i ≡ 0 = omega arith in clash (h .no-zero) (rw e at y))
 
     pub sound-facts : sound s ≡ true → Sound s
-    unfolding sound
+    unfolding sound sound-header sound-bag
     sound-facts y =
         let a₁ = and-l _ _ y in
         let a₂ = and-l _ _ a₁ in
         let a₃ = and-l _ _ a₂ in
         let a₄ = and-l _ _ a₃ in
-        let a₅ = and-l _ _ a₄ in
-        let a₆ = and-l _ _ a₅ in
-        let a₇ = and-l _ _ a₆ in
-        let a₈ = and-l _ _ a₇ in
-        let place = place-is (and-r _ _ a₄) in
+        let header = and-r _ _ a₄ in
+        let bag = and-r _ _ a₁ in
+        let place = place-is (and-r _ _ a₃) in
         let brick : (i : ℕ) → Brick i
         = λ i. by (s .bricks .here i)
         (λ z. let t = h .somewhere i z in rw (t .2) at (place (t .0) (omega (arith, here-first i z, t .2)) .brick)) (brick-blank i) in
         record {
-          limits = and-l _ _ a₈;
+          limits = and-l _ _ a₄;
           bricks = record {
-            few = leb-true _ _ (and-r _ _ a₈);
+            few = leb-true _ _ (and-l _ _ (and-l _ _ (and-l _ _ header)));
             beyond = h .beyond;
             born = λ p. by-lt 0 (s .ids p) (λ _ l. place p l .born) (λ _ l. omega arith);
             apart = apart place;
@@ -389,16 +409,16 @@ module _ (s : State) where
             began-here = λ i. not-so _ _ (h .blank-began i);
           };
           numbers = record { below = λ i. brick i .below; most = λ i. brick i .most; blank-next = h .blank-next; blank-ceiling = h .blank-ceiling };
-          view-first = ltb-true _ _ (and-r _ _ a₇);
-          view-last = leb-true _ _ (and-r _ _ a₆);
-          started = leb-true _ _ (and-r _ _ a₅);
+          view-first = ltb-true _ _ (and-r _ _ (and-l _ _ (and-l _ _ header)));
+          view-last = leb-true _ _ (and-r _ _ (and-l _ _ header));
+          started = leb-true _ _ (and-r _ _ header);
           logs = λ i. brick i .log;
           log-room = λ i. brick i .log-room;
           log-blank = h .blank-log;
           buffers = λ i. brick i .buffer;
           buffer-down = λ i. brick i .buffer-down;
           buckets-ok = λ g l.
-              let t = bucket-test (s .bucket g) .0 (all-at _ (λ g. sound-bucket s (s .bucket g)) (and-r _ _ a₃) g l) in
+              let t = bucket-test (s .bucket g) .0 (all-at _ (λ g. record-test (s .bucket g)) (and-r _ _ a₂) g l) in
               record {
                 pair = t .pair;
                 last = t .last;
@@ -410,8 +430,8 @@ module _ (s : State) where
                 blank-disk = h .blank-disk g;
                 down = λ i. brick i .copies g l .down;
               };
-          bag-room = leb-true _ _ (and-r _ _ a₂);
-          relays = λ r m. relay-test r .0 (every-in (sound-relay s) (s .bag) (and-r _ _ a₁) r m);
+          bag-room = leb-true _ _ (and-l _ _ bag);
+          relays = λ r m. relay-test r .0 (every-in (sound-relay keys (s .settings)) (s .bag) (and-r _ _ bag) r m);
           items = λ p. by-lt p proxies (λ _ l. proxy p l .items) (λ _ l. rw (h .no-items p l) table-none);
           known = λ p. by-lt p proxies (λ _ l. proxy p l .known) (λ _ l. omega (arith, h .no-known p l));
           no-bucket = h .no-bucket;
@@ -420,7 +440,7 @@ module _ (s : State) where
         }
       where
         proxy : (p : ℕ) → p < proxies → Proxy p
-        proxy p l = proxy-test p .0 (all-at _ (sound-proxy s) (and-r _ _ y) p l)
+        proxy p l = proxy-test p .0 (all-at _ proxy-passes (and-r _ _ y) p l)
 
         apart : ((p : ℕ) → 0 < s .ids p → Place p) → (p q : ℕ) → s .ids p ≡ s .ids q → 0 < s .ids p → p ≡ q
         apart place p q e l =

@@ -1,115 +1,135 @@
--- Sound. What the layout adds (the length, sorted positions of a log) stands with the layout.
-use mathlib.Core.Path.{_≡_}
+-- Sound. 01's list, item by item, with the definition that states each:
+--   settings in limits                                    sound (in-limits)
+--   counts in range                                       sound-entries, sound-log, sound-bag
+--   ids in range                                          sound-header, sound-place, sound-pair, sound-key
+--   keys in range                                         sound-key
+--   places in range                                       sound-header (how many bricks the view began with); a place is an index below their number
+--   no id at two places                                   alone
+--   no block twice in a copy                              sound-table
+--   no key twice in a log                                 keys-apart
+--   next at most the ceiling                              sound-status
+--   no key of a brick present at or above its next        sound-key
+--   every id given already                                sound-place, sound-pair, sound-key
+--   no pair with one brick twice                          sound-pair
+--   each block in its bucket's copy, its proxy's items    sound-copies (in-bucket), sound-proxy (belongs)
+-- In four points more is asked than this list says (docs/DECISIONS.md); no list of events from format leads to a store that they refuse:
+--   a member is up                                        sound-status
+--   a down brick's memory is its disk, its buffer empty   sound-copies, sound-buffer
+--   copies and items are sorted by block                  sound-table
+--   a relay's bucket is its block's                       sound-relay
+-- What the layout adds (the length; flags that are 0 or 1; a log's positions in order of keys) stands in crates/layout/specs/Store.antt.
+-- Each test takes what it reads, so that the check of lent bytes promises the same tests of what it decodes.
 use mathlib.Core.List.{List, [], _∷_}
 use mathlib.Core.Bool.{Bool, true, false, not}
-use Prim.Native.Nat.{ℕ, _≤_, _<_}
+use Prim.Native.Nat.{ℕ}
 use lib.Dec.{ltb, leb, eqb}
 use lib.ListN.{length}
 use Rattle.lists.specs.Tests.{_and_, _or_, all-below, every}
+use Rattle.rules.specs.declared.settings.Settings.{Settings}
 use Rattle.rules.specs.Limits.{in-limits, proxies, buckets, max-relays, max-items, max-waiting, max-id, max-number}
-use Rattle.rules.specs.Numbers.{blocks, proxy-of, bucket-of, sequences, home-of, sequence-of, is-data}
+use Rattle.rules.specs.Numbers.{blocks, bucket-of, sequences, home-of, sequence-of, is-data}
 use Rattle.rules.specs.Entries.{Entry, ascending}
 use Rattle.rules.specs.Chunks.{Chunk, held}
-use Rattle.rules.specs.State.{Bucket, Relay, State, blank-bucket}
+use Rattle.rules.specs.State.{Relay, State}
+use Rattle.rules.specs.Question.{belongs}
 
--- ---- a key: its id was given already, and of a brick present it is below its next
+-- ---- the header: the view, the highest id given, the number of bricks that the view began with
+unfoldable pub sound-header : Settings → ℕ → ℕ → ℕ → Bool
+sound-header settings view given started = leb given max-id and ltb 0 view and leb view max-number and leb started (settings .places)
+
+-- ---- a key: its id was given already, and of a brick present it is below its next. Below, `keys` is a test of keys
 unfoldable pub sound-key : State → ℕ → Bool
 sound-key s key =
     ltb 0 (home-of key) and leb (home-of key) (s .given) and (not (s .bricks .here (home-of key)) or ltb (sequence-of key) (s .bricks .next (home-of key)))
 
 -- ---- entries: block numbers and keys in range, each block where it belongs
-unfoldable pub sound-entry : State → (ℕ → Bool) → Entry → Bool
-sound-entry s mine entry = mine (entry .block) and ltb (entry .block) blocks and sound-key s (entry .key)
+unfoldable pub sound-entry : (ℕ → Bool) → (ℕ → Bool) → Entry → Bool
+sound-entry keys mine entry = mine (entry .block) and ltb (entry .block) blocks and keys (entry .key)
 
--- a copy or items: counts in range, no block twice (blocks ascend)
-unfoldable pub sound-table : State → (ℕ → Bool) → ℕ → List Entry → Bool
-sound-table s mine most entries = ascending 0 entries and leb (length entries) most and every (sound-entry s mine) entries
+unfoldable pub sound-entries : (ℕ → Bool) → (ℕ → Bool) → ℕ → List Entry → Bool
+sound-entries keys mine most entries = leb (length entries) most and every (sound-entry keys mine) entries
 
-unfoldable pub sound-buffer : State → List Entry → Bool
-sound-buffer s entries = leb (length entries) max-waiting and every (sound-entry s (λ b. true)) entries
+-- a copy or items: no block twice (blocks ascend)
+unfoldable pub sound-table : (ℕ → Bool) → (ℕ → Bool) → ℕ → List Entry → Bool
+sound-table keys mine most entries = ascending 0 entries and sound-entries keys mine most entries
+
+abbrev pub anyone : ℕ → Bool
+anyone block = true
+
+unfoldable pub in-bucket : Settings → ℕ → ℕ → Bool
+in-bucket settings number block = eqb (bucket-of (buckets settings) block) number
 
 -- ---- a log: counts and keys in range, no key twice
 unfoldable pub keys-apart : List Chunk → Bool
 keys-apart [] = true
 keys-apart (chunk ∷ rest) = not (held rest (chunk .key)) and keys-apart rest
 
-unfoldable pub sound-chunk : State → Chunk → Bool
-sound-chunk s chunk = sound-key s (chunk .key) and is-data (s .settings .size) (chunk .bytes)
+unfoldable pub sound-chunk : (ℕ → Bool) → ℕ → Chunk → Bool
+sound-chunk keys size chunk = keys (chunk .key) and is-data size (chunk .bytes)
 
-unfoldable pub sound-log : State → List Chunk → Bool
-sound-log s log = keys-apart log and leb (length log) (s .settings .chunks) and every (sound-chunk s) log
+unfoldable pub sound-log : (ℕ → Bool) → Settings → List Chunk → Bool
+sound-log keys settings log = keys-apart log and leb (length log) (settings .chunks) and every (sound-chunk keys (settings .size)) log
 
 -- ---- a brick: next at most the ceiling; a member is up; a down brick's memory is its disk, and its buffer is empty
+unfoldable pub sound-status : Bool → Bool → ℕ → ℕ → Bool
+sound-status up member next ceiling = (not member or up) and leb next ceiling and leb ceiling sequences
+
+unfoldable pub sound-buffer : (ℕ → Bool) → Bool → List Entry → Bool
+sound-buffer keys up entries = sound-entries keys anyone max-waiting entries and (up or eqb (length entries) 0)
+
 unfoldable pub same-entries : List Entry → List Entry → Bool
 same-entries [] [] = true
 same-entries [] (e ∷ m) = false
 same-entries (e ∷ l) [] = false
 same-entries (e ∷ l) (f ∷ m) = eqb (e .block) (f .block) and eqb (e .key) (f .key) and same-entries l m
 
-unfoldable pub in-bucket : State → ℕ → ℕ → Bool
-in-bucket s number block = eqb (bucket-of (buckets (s .settings)) block) number
-
-unfoldable pub sound-copies : State → ℕ → ℕ → Bool
-sound-copies s id number =
-    let memory = s .bucket number .memory id in
-    let disk = s .bucket number .disk id in
-    sound-table s (in-bucket s number) (s .settings .entries) memory and sound-table s (in-bucket s number) (s .settings .entries) disk
-    and (s .bricks .up id or same-entries memory disk)
+unfoldable pub sound-copies : (ℕ → Bool) → Settings → Bool → ℕ → List Entry → List Entry → Bool
+sound-copies keys settings up number memory disk =
+    sound-table keys (in-bucket settings number) (settings .entries) memory and sound-table keys (in-bucket settings number) (settings .entries) disk
+    and (up or same-entries memory disk)
 
 unfoldable pub sound-brick : State → ℕ → Bool
 sound-brick s id =
+    let keys = sound-key s in
     let bricks = s .bricks in
-    (not (bricks .member id) or bricks .up id) and leb (bricks .next id) (bricks .ceiling id) and leb (bricks .ceiling id) sequences
-    and sound-log s (bricks .log id) and sound-buffer s (bricks .buffer id) and (bricks .up id or eqb (length (bricks .buffer id)) 0)
-    and all-below (buckets (s .settings)) (sound-copies s id)
+    sound-status (bricks .up id) (bricks .member id) (bricks .next id) (bricks .ceiling id) and sound-buffer keys (bricks .up id) (bricks .buffer id)
+    and all-below (buckets (s .settings)) (λ g. sound-copies keys (s .settings) (bricks .up id) g (s .bucket g .memory id) (s .bucket g .disk id))
+    and sound-log keys (s .settings) (bricks .log id)
 
--- ---- places: ids given already, no id at two places
-unfoldable pub alone : State → ℕ → Bool
-alone s place = all-below place (λ q. not (eqb (s .ids q) (s .ids place)))
+-- ---- places: ids given already, no id at two places. `brick` is a test of the brick at a place
+unfoldable pub alone : (ℕ → ℕ) → ℕ → Bool
+alone ids place = all-below place (λ q. not (eqb (ids q) (ids place)))
 
-unfoldable pub sound-place : State → ℕ → Bool
-sound-place s place = eqb (s .ids place) 0 or (leb (s .ids place) (s .given) and alone s place and sound-brick s (s .ids place))
+unfoldable pub sound-place : ℕ → (ℕ → ℕ) → (ℕ → Bool) → ℕ → Bool
+sound-place given ids brick place = eqb (ids place) 0 or (leb (ids place) given and alone ids place and brick place)
 
 -- ---- buckets: every id given already, no pair with one brick twice
 unfoldable pub sound-pair : ℕ → ℕ → ℕ → Bool
 sound-pair given one two = ltb 0 one and leb one given and ltb 0 two and leb two given and not (eqb one two)
 
-unfoldable pub sound-bucket : State → Bucket → Bool
-sound-bucket s bucket =
-    sound-pair (s .given) (bucket .primary) (bucket .backup)
-    and sound-pair (s .given) (bucket .last-primary) (bucket .last-backup) and leb (bucket .order) max-number and leb (bucket .taken) max-number
+unfoldable pub sound-bucket : ℕ → ℕ → ℕ → ℕ → ℕ → ℕ → ℕ → Bool
+sound-bucket given primary backup last-primary last-backup order taken =
+    sound-pair given primary backup and sound-pair given last-primary last-backup and leb order max-number and leb taken max-number
 
 -- ---- relays: a relay's bucket is its block's
-unfoldable pub sound-relay : State → Relay → Bool
-sound-relay s relay =
-    leb (relay .view) max-number and in-bucket s (relay .bucket) (relay .block) and leb (relay .order) max-number and ltb (relay .block) blocks
-    and sound-key s (relay .key)
+unfoldable pub sound-relay : (ℕ → Bool) → Settings → Relay → Bool
+sound-relay keys settings relay =
+    leb (relay .view) max-number and in-bucket settings (relay .bucket) (relay .block) and leb (relay .order) max-number and ltb (relay .block) blocks
+    and keys (relay .key)
+
+unfoldable pub sound-bag : (ℕ → Bool) → Settings → List Relay → Bool
+sound-bag keys settings relays = leb (length relays) max-relays and every (sound-relay keys settings) relays
 
 -- ---- proxies
-unfoldable pub sound-proxy : State → ℕ → Bool
-sound-proxy s proxy = leb (s .known proxy) max-number and sound-table s (λ b. eqb (proxy-of b) proxy) max-items (s .items proxy)
+unfoldable pub sound-proxy : (ℕ → Bool) → ℕ → ℕ → List Entry → Bool
+sound-proxy keys proxy known items = leb known max-number and sound-table keys (belongs proxy) max-items items
 
+-- ---- the store
 unfoldable pub sound : State → Bool
 sound s =
-    in-limits (s .settings) and leb (s .given) max-id and ltb 0 (s .view) and leb (s .view) max-number and leb (s .started) (s .settings .places)
-    and all-below (s .settings .places) (sound-place s) and all-below (buckets (s .settings)) (λ g. sound-bucket s (s .bucket g))
-    and leb (length (s .bag)) max-relays and every (sound-relay s) (s .bag) and all-below proxies (sound-proxy s)
-
--- ---- the columns are those of the places: this holds of every state that is read from a store's places, sound or not
-pub record Placed (s : State) : Type 0 where
-  pub beyond : (p : ℕ) → s .settings .places ≤ p → s .ids p ≡ 0
-  pub stands : (p : ℕ) → 0 < s .ids p → s .bricks .here (s .ids p) ≡ true
-  pub somewhere : (i : ℕ) → s .bricks .here i ≡ true → (p : ℕ) × (p < s .settings .places) × (s .ids p ≡ i)
-  pub no-zero : s .bricks .here 0 ≡ false
-  pub blank-up : (i : ℕ) → s .bricks .here i ≡ false → s .bricks .up i ≡ false
-  pub blank-member : (i : ℕ) → s .bricks .here i ≡ false → s .bricks .member i ≡ false
-  pub blank-began : (i : ℕ) → s .bricks .here i ≡ false → s .bricks .began i ≡ false
-  pub blank-next : (i : ℕ) → s .bricks .here i ≡ false → s .bricks .next i ≡ 0
-  pub blank-ceiling : (i : ℕ) → s .bricks .here i ≡ false → s .bricks .ceiling i ≡ 0
-  pub blank-log : (i : ℕ) → s .bricks .here i ≡ false → s .bricks .log i ≡ []
-  pub blank-buffer : (i : ℕ) → s .bricks .here i ≡ false → s .bricks .buffer i ≡ []
-  pub blank-memory : (g i : ℕ) → s .bricks .here i ≡ false → s .bucket g .memory i ≡ []
-  pub blank-disk : (g i : ℕ) → s .bricks .here i ≡ false → s .bucket g .disk i ≡ []
-  pub no-bucket : (g : ℕ) → buckets (s .settings) ≤ g → s .bucket g ≡ blank-bucket
-  pub no-items : (p : ℕ) → proxies ≤ p → s .items p ≡ []
-  pub no-known : (p : ℕ) → proxies ≤ p → s .known p ≡ 0
+    let keys = sound-key s in
+    in-limits (s .settings) and sound-header (s .settings) (s .view) (s .given) (s .started)
+    and all-below (s .settings .places) (sound-place (s .given) (s .ids) (λ p. sound-brick s (s .ids p)))
+    and all-below (buckets (s .settings))
+    (λ g. let k = s .bucket g in sound-bucket (s .given) (k .primary) (k .backup) (k .last-primary) (k .last-backup) (k .order) (k .taken))
+    and sound-bag keys (s .settings) (s .bag) and all-below proxies (λ p. sound-proxy keys p (s .known p) (s .items p))

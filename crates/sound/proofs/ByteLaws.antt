@@ -13,18 +13,18 @@ use Rattle.words.proofs.Laws.{length-words, words-below}
 use Rattle.rules.specs.declared.settings.Settings.{Settings}
 use Rattle.rules.specs.declared.settings.Checked.the-variants.{Good, Bad}
 use Rattle.rules.specs.Limits.{in-limits, checked, max-id}
-use Rattle.rules.specs.Sound.{sound-key}
-use Rattle.layout.specs.Layout.{head-words, settings-of, store-words, given-at}
+use Rattle.rules.specs.Sound.{sound-header, sound-key}
+use Rattle.layout.specs.Layout.{head-words, settings-of, store-words}
 use Rattle.layout.specs.Store.{decode, sound-bytes}
 use Rattle.layout.proofs.Parts.{settings-are}
 use Rattle.layout.proofs.Sound.{words-limits}
 use Rattle.layout.proofs.Bytes.{bytes-sound, bytes-size}
-use Rattle.sound.specs.Store.{header-good, parts-good}
-use Rattle.sound.proofs.StoreSound.{parts-sound}
+use Rattle.sound.specs.Store.{parts-sound}
+use Rattle.sound.proofs.StoreSound.{parts-are-sound}
 
-pub header-given : (c : Settings) (ws : List ℕ) → header-good c ws ≡ true → getD ws given-at 0 ≤ max-id
-unfolding header-good
-header-given c ws y = leb-true _ _ (and-l _ _ (and-l _ _ (and-l _ _ y)))
+pub header-given : (c : Settings) (view given started : ℕ) → sound-header c view given started ≡ true → given ≤ max-id
+unfolding sound-header
+header-given c view given started y = leb-true _ _ (and-l _ _ (and-l _ _ (and-l _ _ y)))
 
 -- ---- what the constructor of settings says of the first words
 module _ (ws : List ℕ) (n s m l : ℕ) (en : n ≡ getD ws 0 0) (es : s ≡ getD ws 1 0) (em : m ≡ getD ws 2 0) (el : l ≡ getD ws 3 0) where
@@ -63,7 +63,7 @@ module _ (bs : List ℕ) where
 
   -- bytes whose parts pass
   pub parts-bytes : Below 256 bs → length bs ≡ 8 * store-words (settings-of (words bs)) → in-limits (settings-of (words bs)) ≡ true
-      → parts-good (settings-of (words bs)) (sound-key (decode (words bs))) (words bs) ≡ sound-bytes bs
+      → parts-sound (settings-of (words bs)) (sound-key (decode (words bs))) (words bs) ≡ sound-bytes bs
   unfolding sound-bytes
   parts-bytes b h y =
-      parts-sound (words bs) (length-words bs ∙ omega arith) y (words-below b) ∙ sym (yes-first _ _ (eq-eqb (length bs % 8) 0 (omega arith)))
+      parts-are-sound (words bs) (length-words bs ∙ omega arith) y (words-below b) ∙ sym (yes-first _ _ (eq-eqb (length bs % 8) 0 (omega arith)))

@@ -1,7 +1,6 @@
 pub mod KeyLaws
 pub mod LimitLaws
 pub mod PlaceLaws
-pub mod TableSound
 pub mod PartSound
 pub mod BrickSound
 pub mod PlaceSound

@@ -1,39 +1,42 @@
--- What the check tests of a place.
+-- The test of a place in words, and what its check requires.
 use mathlib.Core.Path.{_≡_}
 use mathlib.Core.List.{List}
 use mathlib.Core.Bool.{Bool, not}
 use Prim.Native.Nat.{ℕ, _*_, _<_}
 use lib.Dec.{leb, eqb}
 use lib.ListN.{length, getD}
-use Rattle.lists.specs.Tests.{_and_, _or_, all-below}
+use Rattle.lists.specs.Tests.{_and_, all-below}
 use Rattle.lists.specs.Runs.{run}
 use Rattle.rules.specs.declared.settings.Settings.{Settings}
-use Rattle.rules.specs.Limits.{buckets, max-waiting}
-use Rattle.rules.specs.Numbers.{sequences}
+use Rattle.rules.specs.Limits.{buckets}
+use Rattle.rules.specs.Entries.{Entry}
+use Rattle.rules.specs.Sound.{sound-status, sound-buffer, sound-place}
 use Rattle.rules.proofs.Limits.{Limits}
-use Rattle.layout.specs.Layout.{buffer-codec, all-copies-codec, log-words, place-words, store-words, place-at, place-part}
-use Rattle.layout.specs.Layout.{up-at, member-at, began-at, next-at, ceiling-at, buffer-at, all-copies-at, log-at}
-use Rattle.checks.specs.declared.rows.Whose.the-variants.{Anyone}
-use Rattle.checks.specs.Rows.{ids, table-good}
-use Rattle.checks.specs.Copies.{copies-at-good}
-use Rattle.checks.specs.Chunks.{log-good}
+use Rattle.layout.specs.Disk.{Status}
+use Rattle.layout.specs.Layout.{status-codec, buffer-codec, all-copies-codec, status-words, log-words, place-words, store-words, place-at, place-part}
+use Rattle.layout.specs.Layout.{up-at, member-at, began-at, buffer-at, all-copies-at, log-at}
+use Rattle.checks.specs.Rows.{ids}
+use Rattle.checks.specs.Copies.{copies-sound}
+use Rattle.checks.specs.Chunks.{log-sound}
 
--- flags are 0 or 1, a member is up; next is at most the ceiling
-unfoldable pub status-good : List ℕ → Bool
-status-good w =
-    leb (getD w up-at 0) 1 and leb (getD w member-at 0) (getD w up-at 0) and leb (getD w began-at 0) 1 and leb (getD w next-at 0) (getD w ceiling-at 0)
-    and leb (getD w ceiling-at 0) sequences
+-- the status of the brick at a place
+abbrev pub status-at : List ℕ → Status
+status-at w = status-codec .dec (run up-at status-words w)
 
--- a down brick's buffer is empty
-unfoldable pub buffer-good : Settings → (ℕ → Bool) → Bool → List ℕ → Bool
-buffer-good c good up w =
-    table-good c good Anyone max-waiting (buffer-codec .dec (run buffer-at (buffer-codec .size) w)) and (up or eqb (getD w buffer-at 0) 0)
+-- the rules' test of what is decoded, and flags are 0 or 1
+unfoldable pub status-sound : List ℕ → Bool
+status-sound w =
+    let k = status-at w in
+    sound-status (k .up) (k .member) (k .next) (k .ceiling) and leb (getD w up-at 0) 1 and leb (getD w member-at 0) 1 and leb (getD w began-at 0) 1
 
-unfoldable pub brick-good : Settings → (ℕ → Bool) → List ℕ → Bool
-brick-good c good w =
-    let up = eqb (getD w up-at 0) 1 in
-    status-good w and buffer-good c good up w
-    and all-below (buckets c) (copies-at-good c good up (run all-copies-at (all-copies-codec c .size) w)) and log-good c good (run (log-at c) (log-words c) w)
+abbrev pub waiting-at : List ℕ → List Entry
+waiting-at w = buffer-codec .dec (run buffer-at (buffer-codec .size) w)
+
+unfoldable pub brick-sound : Settings → (ℕ → Bool) → List ℕ → Bool
+brick-sound c keys w =
+    let up = status-at w .up in
+    status-sound w and sound-buffer keys up (waiting-at w)
+    and all-below (buckets c) (copies-sound c keys up (run all-copies-at (all-copies-codec c .size) w)) and log-sound c keys (run (log-at c) (log-words c) w)
 
 pub record PlaceFit (c : Settings) (limits : List ℕ) (bytes : ℕ) : Type 0 where
   pub known : length limits ≡ ids
@@ -45,13 +48,13 @@ pub record PlaceFit (c : Settings) (limits : List ℕ) (bytes : ℕ) : Type 0 wh
 abbrev pub id-at : Settings → List ℕ → ℕ → ℕ
 id-at c ws p = getD ws (place-at c p) 0
 
+-- and it is not this one
 abbrev pub alone-at : Settings → List ℕ → ℕ → ℕ → Bool
 alone-at c ws id q = not (eqb (id-at c ws q) id)
 
-unfoldable pub place-at-good : Settings → (ℕ → Bool) → ℕ → List ℕ → ℕ → Bool
-place-at-good c good given ws p =
-    eqb (id-at c ws p) 0
-    or (leb (id-at c ws p) given and all-below p (alone-at c ws (id-at c ws p)) and brick-good c good (place-part c p ws))
+-- place p, in the words of a store
+abbrev pub place-sound : Settings → (ℕ → Bool) → ℕ → List ℕ → ℕ → Bool
+place-sound c keys given ws p = sound-place given (id-at c ws) (λ q. brick-sound c keys (place-part c q ws)) p
 
 pub record OnePlaceFit (c : Settings) (bytes p : ℕ) : Type 0 where
   pub small : Limits c

@@ -1,12 +1,13 @@
 // The check of a store in lent bytes: exactly the one definition of sound, on any bytes of any length. Its cost grows with what is in use.
 ghost use mathlib.Core.Path.{_≡_};
-ghost use lib.ListN.{length};
+ghost use lib.ListN.{length, getD};
 ghost use Rattle.words.specs.Words.{words};
-ghost use Rattle.rules.specs.Sound.{sound-key};
+ghost use Rattle.rules.specs.Sound.{sound-header, sound-key};
+ghost use Rattle.layout.specs.Layout.{view-at, given-at, started-at};
 ghost use Rattle.layout.specs.Store.{decode, sound-bytes};
 ghost use Rattle.checks.specs.Rows.{key-below};
 ghost use Rattle.sound.specs.Places.{PlacesFit};
-ghost use Rattle.sound.specs.Store.{header-good, contents-good, parts-good, StoreFit};
+ghost use Rattle.sound.specs.Store.{contents-sound, parts-sound, StoreFit};
 use layout::sizes;
 use rules::constants;
 use rules::settings::Checked;
@@ -21,7 +22,8 @@ const IDS: usize = 256;
 // View, the highest id given, and the number of bricks that the view began with are in range.
 fn header_good(settings: Settings, store: &[u8]) -> bool
     requires { ⌜ StoreFit settings (now store) ⌝ }
-    ensures { λ r. ⌜ r ≡ header-good settings (words (now (store .entry))) ⌝ }
+    ensures { λ r. ⌜ r ≡ sound-header settings (getD (words (now (store .entry))) view-at 0) (getD (words (now (store .entry))) given-at 0)
+        (getD (words (now (store .entry))) started-at 0) ⌝ }
 {
     let view = words::read(store, sizes::VIEW_AT);
     let given = words::read(store, sizes::GIVEN_AT);
@@ -35,7 +37,7 @@ fn header_good(settings: Settings, store: &[u8]) -> bool
 // What has keys: the bag, the proxies, the places.
 fn contents_good(settings: Settings, limits: &[u64], given: u64, store: &[u8]) -> bool
     requires { ⌜ PlacesFit settings (now limits) (length (now store)) ⌝ }
-    ensures { λ r. ⌜ r ≡ contents-good settings (key-below (now (limits .entry))) given (words (now (store .entry))) ⌝ }
+    ensures { λ r. ⌜ r ≡ contents-sound settings (key-below (now (limits .entry))) given (words (now (store .entry))) ⌝ }
 {
     let a = 8 * sizes::BAG_AT;
     if !checks::bag::bag_good(settings, limits, &store[a..a + 8 * sizes::BAG_WORDS]) {
@@ -50,7 +52,7 @@ fn contents_good(settings: Settings, limits: &[u64], given: u64, store: &[u8]) -
 // The parts of a store of the length that its settings have.
 fn parts_good(settings: Settings, store: &[u8]) -> bool
     requires { ⌜ StoreFit settings (now store) ⌝ }
-    ensures { λ r. ⌜ r ≡ parts-good settings (sound-key (decode (words (now (store .entry))))) (words (now (store .entry))) ⌝ }
+    ensures { λ r. ⌜ r ≡ parts-sound settings (sound-key (decode (words (now (store .entry))))) (words (now (store .entry))) ⌝ }
 {
     if !header_good(settings, store) {
         return false;

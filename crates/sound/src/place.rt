@@ -4,10 +4,11 @@ ghost use Prim.Native.Nat.{_+_, _*_, _≤_};
 ghost use Rattle.lists.specs.Tests.{all-below};
 ghost use lib.ListN.{length};
 ghost use Rattle.words.specs.Words.{words};
+ghost use Rattle.rules.specs.Sound.{sound-buffer};
 ghost use Rattle.layout.specs.Layout.{buffer-at};
 ghost use Rattle.checks.specs.Rows.{key-below};
 ghost use Rattle.checks.specs.Copies.{Passed};
-ghost use Rattle.sound.specs.Places.{status-good, buffer-good, brick-good, alone-at, place-at-good, PlaceFit, PlacesFit, OnePlaceFit};
+ghost use Rattle.sound.specs.Places.{status-sound, waiting-at, brick-sound, alone-at, place-sound, PlaceFit, PlacesFit, OnePlaceFit};
 use checks::chunks;
 use checks::copies;
 use checks::rows;
@@ -19,7 +20,7 @@ use rules::settings::Settings;
 // Flags are 0 or 1, a member is up, next is at most the ceiling.
 fn status_good(place: &[u8]) -> bool
     requires { ⌜ 8 * buffer-at ≤ length (now place) ⌝ }
-    ensures { λ r. ⌜ r ≡ status-good (words (now (place .entry))) ⌝ }
+    ensures { λ r. ⌜ r ≡ status-sound (words (now (place .entry))) ⌝ }
 {
     let up = words::read(place, sizes::UP_AT);
     let member = words::read(place, sizes::MEMBER_AT);
@@ -36,7 +37,7 @@ fn status_good(place: &[u8]) -> bool
 // The append buffer, which is empty where the brick is down.
 fn buffer_good(settings: Settings, limits: &[u64], up: bool, place: &[u8]) -> bool
     requires { ⌜ PlaceFit settings (now limits) (length (now place)) ⌝ }
-    ensures { λ r. ⌜ r ≡ buffer-good settings (key-below (now (limits .entry))) up (words (now (place .entry))) ⌝ }
+    ensures { λ r. ⌜ r ≡ sound-buffer (key-below (now (limits .entry))) up (waiting-at (words (now (place .entry)))) ⌝ }
 {
     if !up {
         return words::read(place, sizes::BUFFER_AT) == 0;
@@ -55,7 +56,7 @@ fn buffer_good(settings: Settings, limits: &[u64], up: bool, place: &[u8]) -> bo
 fn brick_good(settings: Settings, limits: &[u64], store: &[u8], p: usize, place: &[u8]) -> bool
     requires { ⌜ PlaceFit settings (now limits) (length (now place)) ⌝ }
     requires { ⌜ Passed settings (now limits) (now store) p ⌝ }
-    ensures { λ r. ⌜ r ≡ brick-good settings (key-below (now (limits .entry))) (words (now (place .entry))) ⌝ }
+    ensures { λ r. ⌜ r ≡ brick-sound settings (key-below (now (limits .entry))) (words (now (place .entry))) ⌝ }
 {
     if !status_good(place) {
         return false;
@@ -92,7 +93,7 @@ fn alone(settings: Settings, store: &[u8], p: usize, id: u64) -> bool
 fn place_good(settings: Settings, limits: &[u64], given: u64, store: &[u8], p: usize) -> bool
     requires { ⌜ PlacesFit settings (now limits) (length (now store)) ⌝ }
     requires { ⌜ Passed settings (now limits) (now store) p ⌝ }
-    ensures { λ r. ⌜ r ≡ place-at-good settings (key-below (now (limits .entry))) given (words (now (store .entry))) p ⌝ }
+    ensures { λ r. ⌜ r ≡ place-sound settings (key-below (now (limits .entry))) given (words (now (store .entry))) p ⌝ }
 {
     let at = sizes::place_at(settings, p);
     let id = words::read(store, at);
@@ -112,7 +113,7 @@ fn place_good(settings: Settings, limits: &[u64], given: u64, store: &[u8], p: u
 
 pub fn places_good(settings: Settings, limits: &[u64], given: u64, store: &[u8]) -> bool
     requires { ⌜ PlacesFit settings (now limits) (length (now store)) ⌝ }
-    ensures { λ r. ⌜ r ≡ all-below (settings .places) (place-at-good settings (key-below (now (limits .entry))) given (words (now (store .entry)))) ⌝ }
+    ensures { λ r. ⌜ r ≡ all-below (settings .places) (place-sound settings (key-below (now (limits .entry))) given (words (now (store .entry)))) ⌝ }
 {
     let mut p = 0;
     while p < settings.places {

@@ -3,10 +3,10 @@ use Prim.Native.Nat.{_+_, _*_}
 use borrow.Author.Tests.{not-true, not-false}
 use Rattle.lists.proofs.Tests.{both, no-first, no-second, yes-first}
 use Rattle.rules.specs.Limits.{buckets}
+use Rattle.rules.specs.Sound.{sound-bag}
 use Rattle.layout.specs.Layout.{bag-codec, bag-at, bag-words}
 use Rattle.checks.specs.Rows.{key-below}
-use Rattle.checks.specs.Bag.{bag-good}
-use Rattle.sound.specs.Store.{contents-good}
+use Rattle.sound.specs.Store.{contents-sound}
 use Rattle.layout.proofs.Lent.{lent}
 use native.Mathlib.Omega.{arith}
 use borrow.Author.Needs.{needs}
@@ -42,12 +42,12 @@ unfolding buckets
 bag-good-requires c κs = search needs
 
 returns : tie.Need-returns
-unfolding buckets contents-good
+unfolding buckets contents-sound
 returns c =
     let b = c .before .before .before .before .before in
     let s = b .args .store .now in
     let n = b .args .settings in
-    sym (no-first _ _ (no-first _ _ (ap (bag-good n (key-below (b .args .limits .now))) (ap (bag-codec .dec)
+    sym (no-first _ _ (no-first _ _ (ap (sound-bag (key-below (b .args .limits .now)) n) (ap (bag-codec .dec)
     (sym (lent s (8 * bag-at n) (8 * bag-at n + 8 * bag-words) (bag-at n) bag-words refl refl (omega arith)))) ∙ sym (c .before .bag-good .ensures)
     ∙ not-true _ (c .if1 .taken))))
 
@@ -56,7 +56,7 @@ unfolding buckets
 proxies-good-requires c κs = search needs
 
 returns-2 : tie.Need-returns-2
-unfolding contents-good
+unfolding contents-sound
 returns-2 c = sym (no-first _ _ (no-second _ _ (sym (c .before .proxies-good .ensures) ∙ not-true _ (c .if2 .taken))))
 
 places-good-requires : tie.Need-places-good-requires
@@ -64,12 +64,12 @@ unfolding buckets
 places-good-requires c κs = search needs
 
 returns-3 : tie.Need-returns-3
-unfolding buckets contents-good
+unfolding buckets contents-sound
 returns-3 c =
     let b = c .before .before .before .before .before .before .before .before in
     let s = b .args .store .now in
     let n = b .args .settings in
-    c .places-good .ensures ∙ sym (yes-first _ _ (both _ _ (ap (bag-good n (key-below (b .args .limits .now)))
+    c .places-good .ensures ∙ sym (yes-first _ _ (both _ _ (ap (sound-bag (key-below (b .args .limits .now)) n)
     (ap (bag-codec .dec) (sym (lent s (8 * bag-at n) (8 * bag-at n + 8 * bag-words) (bag-at n) bag-words refl refl (omega arith)))) ∙ sym
     (c .before .before .before .before .bag-good .ensures) ∙ not-false _ (c .before .before .before .if1 .left))
     (sym (c .before .before .proxies-good .ensures) ∙ not-false _ (c .before .if2 .left))))

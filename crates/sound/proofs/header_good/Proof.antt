@@ -1,6 +1,6 @@
 use Rattle.lists.specs.Tests.{_and_}
 use Rattle.rules.specs.Limits.{buckets}
-use Rattle.sound.specs.Store.{header-good}
+use Rattle.rules.specs.Sound.{sound-header}
 use borrow.Author.Needs.{needs}
 use Rattle.sound.proofs.header_good.Statement.{statement}
 use Rattle.sound.proofs.header_good.Tie as tie
@@ -18,7 +18,7 @@ unfolding buckets
 read-requires-3 c κs = search needs
 
 returns : tie.Need-returns
-unfolding header-good _and_
+unfolding sound-header _and_
 returns c = rw (c .before .before .read .ensures, c .before .read2 .ensures, c .read3 .ensures)
 
 pub header-good-spec : {M : Type 1} → statement M

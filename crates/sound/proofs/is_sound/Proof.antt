@@ -8,7 +8,7 @@ use Rattle.rules.proofs.Limits.{Limits, limits}
 use Rattle.layout.specs.Layout.{store-words}
 use Rattle.layout.specs.Store.{decode}
 use Rattle.layout.proofs.Bounds.{store-small}
-use Rattle.sound.specs.Store.{parts-good}
+use Rattle.sound.specs.Store.{parts-sound}
 use Rattle.sound.proofs.ByteLaws.{settings-bad, settings-own, odd-bytes, short-bytes, other-bytes, limit-bytes, parts-bytes}
 use native.Mathlib.Omega.{arith}
 use borrow.Author.Needs.{needs}
@@ -109,7 +109,7 @@ returns-5 c =
     (c .before .before .before .before .before .before .before .read4 .ensures) n (sym (c .before .before .before .before .settings .given .1)
     ∙ c .before .before .before .before .before .before .new .ensures) in
     let size = c .before .if3 .left ∙ ap (λ (k : ℕ). 8 * k) (c .before .before .store-words .ensures) ∙ ap (λ (c : Settings). 8 * store-words c) (sym (o .0)) in
-    c .parts-good .ensures ∙ ap (λ (c : Settings). parts-good c (sound-key (decode (words s))) (words s)) (sym (o .0)) ∙ parts-bytes s
+    c .parts-good .ensures ∙ ap (λ (c : Settings). parts-sound c (sound-key (decode (words s))) (words s)) (sym (o .0)) ∙ parts-bytes s
     (below-of 256 s (λ i. known .given i .fits)) size (o .1)
 
 pub is-sound-spec : {M : Type 1} → statement M

@@ -12,8 +12,8 @@ use Rattle.rules.specs.Sound.{sound-key}
 use Rattle.layout.specs.Layout.{given-at}
 use Rattle.layout.specs.Store.{decode}
 use Rattle.checks.specs.Rows.{ids}
-use Rattle.checks.specs.Agreed.{agreed-at-good}
-use Rattle.sound.specs.Store.{contents-good, parts-good}
+use Rattle.checks.specs.Agreed.{agreed-at-sound}
+use Rattle.sound.specs.Store.{contents-sound, parts-sound}
 use Rattle.sound.proofs.KeyLaws.{zeros, zero-limit, keys-below}
 use Rattle.sound.proofs.ByteLaws.{header-given}
 use native.Mathlib.Omega.{arith}
@@ -26,7 +26,7 @@ unfolding buckets
 header-good-requires c κs = search needs
 
 returns : tie.Need-returns
-unfolding parts-good
+unfolding parts-sound
 returns c = sym (no-first _ _ (no-first _ _ (sym (c .before .header-good .ensures) ∙ not-true _ (c .if1 .taken))))
 
 read-requires : tie.Need-read-requires
@@ -38,12 +38,12 @@ unfolding buckets
 all-agreed-good-requires c κs = search needs
 
 returns-2 : tie.Need-returns-2
-unfolding parts-good
+unfolding parts-sound
 returns-2 c =
     let s = c .before .before .before .before .before .before in
     let n = s .args .settings in
     let ws = words (s .args .store .now) in
-    sym (no-first _ _ (no-second _ _ (ap (λ (k : ℕ). all-below (buckets n) (agreed-at-good k ws)) (sym (c .before .before .read .ensures)) ∙ sym
+    sym (no-first _ _ (no-second _ _ (ap (λ (k : ℕ). all-below (buckets n) (agreed-at-sound k ws)) (sym (c .before .before .read .ensures)) ∙ sym
     (c .before .all-agreed-good .ensures) ∙ not-true _ (c .if2 .taken))))
 
 slice-aggregate-fill-given : tie.Need-slice-aggregate-fill-given
@@ -53,7 +53,7 @@ slice-aggregate-fill-given c = search needs
 fill-given-requires : tie.Need-fill-given-requires
 fill-given-requires c κs =
     let s = c .before .before .before .before .before .before .before in
-    let few : getD (words (s .args .store .now)) given-at 0 ≤ max-id = header-given _ _ (sym
+    let few : getD (words (s .args .store .now)) given-at 0 ≤ max-id = header-given _ _ _ _ (sym
     (c .before .before .before .before .before .header-good .ensures) ∙ not-false _ (c .before .before .before .before .if1 .left)) in search needs
 
 slice-aggregate-fill-places : tie.Need-slice-aggregate-fill-places
@@ -63,7 +63,7 @@ slice-aggregate-fill-places c = search needs
 fill-places-requires : tie.Need-fill-places-requires
 fill-places-requires c κs =
     let s = c .before .before .before .before .before .before .before .before .before .before in
-    let few : getD (words (s .args .store .now)) given-at 0 ≤ max-id = header-given _ _ (sym
+    let few : getD (words (s .args .store .now)) given-at 0 ≤ max-id = header-given _ _ _ _ (sym
     (c .before .before .before .before .before .before .before .before .header-good .ensures) ∙ not-false _
     (c .before .before .before .before .before .before .before .if1 .left)) in
     record { known = c .before .before .fill-given .ensures .long; few = omega arith; small = s .pre .small; size = s .pre .size }
@@ -84,7 +84,7 @@ contents-good-requires c κs =
     }
 
 returns-3 : tie.Need-returns-3
-unfolding parts-good
+unfolding parts-sound
 returns-3 c =
     let s = c .before .before .before .before .before .before .before .before .before .before .before .before .before .before in
     let n = s .args .settings in
@@ -92,13 +92,13 @@ returns-3 c =
     let keys = keys-below ws n (s .pre .own) _ _ _ _ (zeros ids) (c .before .before .before .before .before .before .fill-given .ensures)
     (length-words (s .args .store .now) ∙ omega arith) (c .before .before .before .before .before .before .before .before .before .before .read .ensures)
     (c .before .before .before .fill-places .ensures) in
-    c .contents-good .ensures ∙ ap (λ (good : ℕ → Bool). contents-good n good
+    c .contents-good .ensures ∙ ap (λ (good : ℕ → Bool). contents-sound n good
     (c .before .before .before .before .before .before .before .before .before .before .read .result) ws) keys ∙ ap
-    (λ (k : ℕ). contents-good n (sound-key (decode ws)) k ws)
+    (λ (k : ℕ). contents-sound n (sound-key (decode ws)) k ws)
     (c .before .before .before .before .before .before .before .before .before .before .read .ensures) ∙ sym
     (yes-first _ _ (both _ _ (sym (c .before .before .before .before .before .before .before .before .before .before .before .before .header-good .ensures)
     ∙ not-false _ (c .before .before .before .before .before .before .before .before .before .before .before .if1 .left))
-    (ap (λ (k : ℕ). all-below (buckets n) (agreed-at-good k ws))
+    (ap (λ (k : ℕ). all-below (buckets n) (agreed-at-sound k ws))
     (sym (c .before .before .before .before .before .before .before .before .before .before .read .ensures)) ∙ sym
     (c .before .before .before .before .before .before .before .before .before .all-agreed-good .ensures) ∙ not-false _
     (c .before .before .before .before .before .before .before .before .if2 .left))))

@@ -1,5 +1,5 @@
 use Rattle.lists.specs.Tests.{_and_}
-use Rattle.checks.specs.Agreed.{agreed-good}
+use Rattle.checks.proofs.AgreedLaws.{agreed-is}
 use borrow.Author.Needs.{needs}
 use Rattle.checks.proofs.agreed.agreed_good.Statement.{statement}
 use Rattle.checks.proofs.agreed.agreed_good.Tie as tie
@@ -35,9 +35,10 @@ read-requires-8 : tie.Need-read-requires-8
 read-requires-8 c κs = search needs
 
 returns : tie.Need-returns
-unfolding agreed-good _and_
+unfolding _and_
 returns c =
     rw (
+      agreed-is _ _,
       c .before .before .before .before .before .before .before .pair-good .ensures,
       c .before .before .before .before .pair-good2 .ensures,
       c .before .before .before .before .before .before .before .before .before .read .ensures,

@@ -7,7 +7,7 @@ use Rattle.lists.proofs.Tests.{all-true, all-false}
 use Rattle.words.specs.Words.{words}
 use Rattle.rules.specs.Limits.{buckets}
 use Rattle.layout.specs.Layout.{agreed-words, agreed-at}
-use Rattle.checks.specs.Agreed.{agreed-good, agreed-at-good}
+use Rattle.checks.specs.Agreed.{agreed-sound, agreed-at-sound}
 use Rattle.layout.proofs.Lent.{lent}
 use native.Mathlib.Omega.{arith}
 use borrow.Author.Needs.{needs}
@@ -15,7 +15,7 @@ use Rattle.checks.proofs.agreed.all_agreed_good.Statement.{statement}
 use Rattle.checks.proofs.agreed.all_agreed_good.Tie as tie
 
 abbrev Inv-loop : tie.InvT-loop
-Inv-loop given store g₀ g = (g ≤ 16) × ((k : ℕ) → k < g → agreed-at-good given (words store) k ≡ true)
+Inv-loop given store g₀ g = (g ≤ 16) × ((k : ℕ) → k < g → agreed-at-sound given (words store) k ≡ true)
 
 abbrev μ-loop : tie.MeasureT-loop
 μ-loop given store g₀ g = 16 - g
@@ -60,12 +60,12 @@ unfolding buckets
 agreed-good-requires c κs = search needs
 
 returns : tie.Need-returns Inv-loop μ-loop
-unfolding buckets agreed-at-good
+unfolding buckets agreed-at-sound
 returns c =
     let b = c .before .before .before .before .before .before in
     let s = b .args .store .now in
     let a = 8 * agreed-at (c .before .before .before .before .loop .g) in
-    sym (all-false _ _ (c .before .before .before .before .loop .g) (search needs) (ap (agreed-good (b .args .given))
+    sym (all-false _ _ (c .before .before .before .before .loop .g) (search needs) (ap (agreed-sound (b .args .given))
     (sym (lent s a (a + 8 * agreed-words) (agreed-at (c .before .before .before .before .loop .g)) agreed-words (omega arith) refl (omega arith))) ∙ sym
     (c .before .agreed-good .ensures) ∙ not-true _ (c .if1 .taken)))
 
@@ -78,14 +78,14 @@ unfolding buckets
 loop-less c = search needs
 
 loop-again : tie.Need-loop-again Inv-loop μ-loop
-unfolding buckets agreed-at-good
+unfolding buckets agreed-at-sound
 loop-again c =
     let b = c .before .before .before .before .before .before in
     let s = b .args .store .now in
     let a = 8 * agreed-at (c .before .before .before .before .loop .g) in (
       search needs,
       below-more _ (c .before .before .before .before .loop .g) (c .before .before .before .before .loop .inv .1)
-          (ap (agreed-good (b .args .given)) (sym (lent s a (a + 8 * agreed-words) (agreed-at (c .before .before .before .before .loop .g)) agreed-words
+          (ap (agreed-sound (b .args .given)) (sym (lent s a (a + 8 * agreed-words) (agreed-at (c .before .before .before .before .loop .g)) agreed-words
           (omega arith) refl (omega arith))) ∙ sym (c .before .agreed-good .ensures) ∙ not-false _ (c .if1 .left)),
     )
 

@@ -3,9 +3,9 @@ use Prim.Native.Nat.{_-_, _≤_}
 use lib.ListN.{getD}
 use borrow.Author.Tests.{not-true, not-false}
 use Rattle.words.specs.Words.{words}
+use Rattle.rules.specs.Sound.{sound-bag}
 use Rattle.layout.specs.Layout.{bag-codec}
 use Rattle.checks.specs.Rows.{key-below}
-use Rattle.checks.specs.Bag.{bag-good}
 use Rattle.checks.proofs.BagLaws.{relays-left, bag-over, bag-begin, bag-end, bag-bad, bag-next}
 use native.Mathlib.Omega.{arith}
 use borrow.Author.Needs.{needs}
@@ -14,7 +14,7 @@ use Rattle.checks.proofs.bag.bag_good.Tie as tie
 
 abbrev Inv-loop : tie.InvT-loop
 Inv-loop settings limits bag count i₀ i =
-    (i ≤ count) × (bag-good settings (key-below limits) (bag-codec .dec (words bag)) ≡ relays-left settings (key-below limits) (words bag)
+    (i ≤ count) × (sound-bag (key-below limits) settings (bag-codec .dec (words bag)) ≡ relays-left settings (key-below limits) (words bag)
     (getD (words bag) 0 0) refl i)
 
 abbrev μ-loop : tie.MeasureT-loop

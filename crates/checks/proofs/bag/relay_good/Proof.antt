@@ -1,5 +1,5 @@
 use Rattle.lists.specs.Tests.{_and_}
-use Rattle.checks.specs.Bag.{relay-good}
+use Rattle.rules.specs.Sound.{sound-relay, in-bucket}
 use borrow.Author.Needs.{needs}
 use Rattle.checks.proofs.bag.relay_good.Statement.{statement}
 use Rattle.checks.proofs.bag.relay_good.Tie as tie
@@ -44,7 +44,7 @@ key-below-requires : tie.Need-key-below-requires
 key-below-requires c κs = search needs
 
 returns : tie.Need-returns
-unfolding relay-good _and_
+unfolding sound-relay in-bucket _and_
 returns c =
     rw (
       c .key-below .ensures,

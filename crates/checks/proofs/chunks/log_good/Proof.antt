@@ -22,7 +22,7 @@ returns-2 : tie.Need-returns-2
 returns-2 c =
     let s = c .before .before .before .before .before in
     let k = s .pre .small in
-    c .pass .ensures ∙ sym (log-pass _ (key-below (s .args .limits .now)) (words (s .args .log .now))
+    c .pass .ensures ∙ sym (log-pass _ (key-below (s .args .limits .now)) (words (s .args .log .now)) k
     (length-words (s .args .log .now) ∙ omega (arith, s .pre .size)) (zero-not-below (s .args .limits .now) (s .pre .none)) _
     (c .before .before .read .ensures) (c .before .if1 .left))
 

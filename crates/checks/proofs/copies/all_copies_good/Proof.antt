@@ -7,7 +7,7 @@ use Rattle.lists.proofs.Tests.{all-true, all-false}
 use Rattle.words.specs.Words.{words}
 use Rattle.rules.specs.Limits.{buckets}
 use Rattle.checks.specs.Rows.{key-below}
-use Rattle.checks.specs.Copies.{copies-at-good}
+use Rattle.checks.specs.Copies.{copies-sound}
 use Rattle.layout.proofs.Lent.{lent}
 use Rattle.checks.proofs.CopyLaws.{copies-part}
 use native.Mathlib.Omega.{arith}
@@ -17,7 +17,7 @@ use Rattle.checks.proofs.copies.all_copies_good.Tie as tie
 
 abbrev Inv-loop : tie.InvT-loop
 Inv-loop settings limits up store p copies size g₀ g =
-    (g ≤ buckets settings) × ((k : ℕ) → k < g → copies-at-good settings (key-below limits) up (words copies) k ≡ true)
+    (g ≤ buckets settings) × ((k : ℕ) → k < g → copies-sound settings (key-below limits) up (words copies) k ≡ true)
 
 abbrev μ-loop : tie.MeasureT-loop
 μ-loop settings limits up store p copies size g₀ g = buckets settings - g

@@ -4,8 +4,9 @@ use native.Mathlib.Omega.{arith}
 use borrow.Author.Needs.{needs}
 use borrow.Author.Tests.{not-true, not-false}
 use Rattle.lists.proofs.Tests.{both, no-first, no-second, yes-first}
+use Rattle.rules.specs.Sound.{sound-table, in-bucket}
 use Rattle.checks.specs.declared.rows.Whose.the-variants.{Bucket}
-use Rattle.checks.specs.Rows.{key-below, table-good}
+use Rattle.checks.specs.Rows.{key-below}
 use Rattle.checks.proofs.RowLaws.{table-over}
 use Rattle.checks.proofs.CopyLaws.{copies-lent, disk-bad, disk-same, disk-other, disk-alone}
 use Rattle.checks.proofs.copies.copies_good.Statement.{statement}
@@ -66,7 +67,7 @@ returns c =
     let e = copies-lent (a .settings) (key-below (a .limits .now)) (a .up) (a .bucket) (8 * c .before .before .before .before .copy-words .result)
     (a .copies .now) (s .pre .size)
     (omega (arith, c .before .before .before .before .copy-words .ensures)) in
-    sym (e ∙ no-first _ _ (table-over _ _ _ _ _ (c .before .read .result) (c .before .read .ensures) (c .if1 .taken)))
+    sym (e ∙ no-first _ _ (table-over (a .settings) (key-below (a .limits .now)) (Bucket (a .bucket)) (a .settings .entries) _ (c .before .read .result) (c .before .read .ensures) (c .if1 .taken)))
 
 -- src/copies.rt:153:36
 read-requires-2 : tie.Need-read-requires-2
@@ -80,7 +81,7 @@ returns-2 c =
     let a = s .args in
     let e = copies-lent (a .settings) (key-below (a .limits .now)) (a .up) (a .bucket) (8 * at-copy-words .copy-words .result) (a .copies .now) (s .pre .size)
     (omega (arith, at-copy-words .copy-words .ensures)) in
-    sym (e ∙ no-second _ _ (disk-bad (a .settings) _ (a .bucket) (a .up) _ _ (table-over _ _ _ _ _ (c .before .read2 .result) (c .before .read2 .ensures)
+    sym (e ∙ no-second _ _ (disk-bad (a .settings) _ (a .bucket) (a .up) _ _ (table-over (a .settings) (key-below (a .limits .now)) (Bucket (a .bucket)) (a .settings .entries) _ (c .before .read2 .result) (c .before .read2 .ensures)
     (c .if2 .taken))))
 
 -- src/copies.rt:156:9
@@ -96,7 +97,7 @@ memory-good-requires c κs =
       limits-size = s .pre .known;
       few = search needs;
       passed = λ y. let k = c .compared .ensures .0 y in
-          ap (table-good (a .settings) (key-below (a .limits .now)) (Bucket (a .bucket)) (a .settings .entries)) (sym (k .same))
+          ap (sound-table (key-below (a .limits .now)) (in-bucket (a .settings) (a .bucket)) (a .settings .entries)) (sym (k .same))
           ∙ s .pre .passed .each (a .bucket) (k .place) (s .pre .bucket) (k .below) (k .brick);
       size = search needs;
     }

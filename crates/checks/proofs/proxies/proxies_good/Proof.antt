@@ -1,22 +1,28 @@
 use mathlib.Core.Path.{_≡_, refl, sym, ap, _∙_}
-use mathlib.Core.Bool.{true}
+use mathlib.Core.List.{List}
+use mathlib.Core.Bool.{Bool, true}
 use Prim.Native.Nat.{ℕ, _+_, _*_, _-_, _≤_, _<_}
 use borrow.Author.Count.{below-more, below-none}
 use borrow.Author.Tests.{not-true, not-false}
 use Rattle.lists.proofs.Tests.{all-true, all-false}
 use Rattle.words.specs.Words.{words}
 use Rattle.rules.specs.Limits.{buckets, proxies}
+use Rattle.rules.specs.Sound.{sound-proxy}
 use Rattle.layout.specs.Layout.{proxy-codec, proxy-words, proxy-at, proxies-at}
 use Rattle.checks.specs.Rows.{key-below}
-use Rattle.checks.specs.Proxies.{proxy-good, proxy-at-good}
+use Rattle.checks.specs.Proxies.{proxy-sound}
 use Rattle.layout.proofs.Lent.{lent}
 use native.Mathlib.Omega.{arith}
 use borrow.Author.Needs.{needs}
 use Rattle.checks.proofs.proxies.proxies_good.Statement.{statement}
 use Rattle.checks.proofs.proxies.proxies_good.Tie as tie
 
+-- a proxy, in its words
+abbrev test : (ℕ → Bool) → ℕ → List ℕ → Bool
+test keys p w = sound-proxy keys p (proxy-codec .dec w .known) (proxy-codec .dec w .items)
+
 abbrev Inv-loop : tie.InvT-loop
-Inv-loop settings limits store p₀ p = (p ≤ proxies) × ((k : ℕ) → k < p → proxy-at-good settings (key-below limits) (words store) k ≡ true)
+Inv-loop settings limits store p₀ p = (p ≤ proxies) × ((k : ℕ) → k < p → proxy-sound settings (key-below limits) (words store) k ≡ true)
 
 abbrev μ-loop : tie.MeasureT-loop
 μ-loop settings limits store p₀ p = proxies - p
@@ -61,14 +67,14 @@ unfolding buckets
 proxy-good-requires c κs = search needs
 
 returns : tie.Need-returns Inv-loop μ-loop
-unfolding buckets proxy-at-good
+unfolding buckets proxy-sound
 returns c =
     let b = c .before .before .before .before .before .before .before in
     let s = b .args .store .now in
     let a = 8 * (proxies-at (b .args .settings) + c .before .before .before .before .loop .p * proxy-words) in
-    sym (all-false _ _ (c .before .before .before .before .loop .p) (search needs) (ap (proxy-good _ (key-below (b .args .limits .now))
-    (c .before .before .before .before .loop .p)) (ap (proxy-codec .dec) (sym (lent s a (a + 8 * proxy-words)
-    (proxy-at (b .args .settings) (c .before .before .before .before .loop .p)) proxy-words (omega arith) refl (omega arith)))) ∙ sym
+    sym (all-false _ _ (c .before .before .before .before .loop .p) (search needs) (ap (test (key-below (b .args .limits .now))
+    (c .before .before .before .before .loop .p)) (sym (lent s a (a + 8 * proxy-words)
+    (proxy-at (b .args .settings) (c .before .before .before .before .loop .p)) proxy-words (omega arith) refl (omega arith))) ∙ sym
     (c .before .proxy-good .ensures) ∙ not-true _ (c .if1 .taken)))
 
 add-p : tie.Need-add-p Inv-loop μ-loop
@@ -80,16 +86,16 @@ unfolding buckets
 loop-less c = search needs
 
 loop-again : tie.Need-loop-again Inv-loop μ-loop
-unfolding buckets proxy-at-good
+unfolding buckets proxy-sound
 loop-again c =
     let b = c .before .before .before .before .before .before .before in
     let s = b .args .store .now in
     let a = 8 * (proxies-at (b .args .settings) + c .before .before .before .before .loop .p * proxy-words) in (
       search needs,
       below-more _ (c .before .before .before .before .loop .p) (c .before .before .before .before .loop .inv .1)
-          (ap (proxy-good _ (key-below (b .args .limits .now)) (c .before .before .before .before .loop .p))
-          (ap (proxy-codec .dec) (sym (lent s a (a + 8 * proxy-words) (proxy-at (b .args .settings) (c .before .before .before .before .loop .p)) proxy-words
-          (omega arith) refl (omega arith)))) ∙ sym (c .before .proxy-good .ensures) ∙ not-false _ (c .if1 .left)),
+          (ap (test (key-below (b .args .limits .now)) (c .before .before .before .before .loop .p))
+          (sym (lent s a (a + 8 * proxy-words) (proxy-at (b .args .settings) (c .before .before .before .before .loop .p)) proxy-words
+          (omega arith) refl (omega arith))) ∙ sym (c .before .proxy-good .ensures) ∙ not-false _ (c .if1 .left)),
     )
 
 returns-2 : tie.Need-returns-2 Inv-loop μ-loop

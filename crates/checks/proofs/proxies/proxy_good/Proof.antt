@@ -20,7 +20,7 @@ returns : tie.Need-returns
 returns c =
     let b = c .before .before .before .before in
     let s = b .args .proxy .now in
-    sym (proxy-is _ (key-below (b .args .limits .now)) (b .args .p) (words s) _ (length-words s ∙ omega arith) refl ∙ no-first _ _
+    sym (proxy-is (key-below (b .args .limits .now)) (b .args .p) (words s) _ (length-words s ∙ omega arith) refl ∙ no-first _ _
     (rw (sym (c .before .read .ensures)) (lt-leb _ _ (c .if1 .taken))))
 
 mul-a : tie.Need-mul-a
@@ -45,7 +45,7 @@ returns-2 : tie.Need-returns-2
 returns-2 c =
     let b = c .before .before .before .before .before .before in
     let s = b .args .proxy .now in
-    c .table-good .ensures ∙ sym (proxy-is _ (key-below (b .args .limits .now)) (b .args .p) (words s) _ (length-words s ∙ omega arith)
+    c .table-good .ensures ∙ sym (proxy-is (key-below (b .args .limits .now)) (b .args .p) (words s) _ (length-words s ∙ omega arith)
     (lent s (8 * items-at) (8 * proxy-words) items-at (items-codec .size) refl refl (omega arith)) ∙ yes-first _ _
     (rw (sym (c .before .before .before .read .ensures)) (le-leb _ _ (c .before .before .if1 .left))))
 

@@ -1,3 +1,4 @@
+use Rattle.rules.specs.Sound.{in-bucket}
 use Rattle.checks.specs.Rows.{belongs}
 use borrow.Author.Needs.{needs}
 use Rattle.checks.proofs.rows.belongs.Statement.{statement}
@@ -19,7 +20,7 @@ enum-told : tie.Need-enum-told
 enum-told c = search needs
 
 returns : tie.Need-returns
-unfolding belongs
+unfolding belongs in-bucket
 returns c = rw (c .before .before .whose .given .1, c .bucket .ensures)
 
 returns-2 : tie.Need-returns-2

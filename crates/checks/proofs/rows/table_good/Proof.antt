@@ -1,5 +1,6 @@
 use mathlib.Core.Path.{sym, _∙_}
 use Rattle.words.specs.Words.{words}
+use Rattle.checks.specs.Rows.{key-below}
 use Rattle.checks.proofs.RowLaws.{table-over, table-rows}
 use borrow.Author.Needs.{needs}
 use Rattle.checks.proofs.rows.table_good.Statement.{statement}
@@ -11,7 +12,7 @@ read-requires c κs = search needs
 returns : tie.Need-returns
 returns c =
     let s = c .before .before .before .before in
-    sym (table-over _ _ _ _ (words (s .args .bytes .now)) (c .before .read .result) (c .before .read .ensures) (c .if1 .taken))
+    sym (table-over (s .args .settings) (key-below (s .args .limits .now)) (s .args .whose) (s .args .most) (words (s .args .bytes .now)) (c .before .read .result) (c .before .read .ensures) (c .if1 .taken))
 
 rows-good-requires : tie.Need-rows-good-requires
 rows-good-requires c κs = search needs
@@ -19,7 +20,7 @@ rows-good-requires c κs = search needs
 returns-2 : tie.Need-returns-2
 returns-2 c =
     let s = c .before .before .before .before .before in
-    c .rows-good .ensures ∙ sym (table-rows _ _ _ _ (words (s .args .bytes .now)) (c .before .before .read .result) (c .before .before .read .ensures)
+    c .rows-good .ensures ∙ sym (table-rows (s .args .settings) (key-below (s .args .limits .now)) (s .args .whose) (s .args .most) (words (s .args .bytes .now)) (c .before .before .read .result) (c .before .before .read .ensures)
     (c .before .if1 .left))
 
 pub table-good-spec : {M : Type 1} → statement M

@@ -12,10 +12,12 @@ use Rattle.rules.specs.Limits.{buckets}
 use Rattle.layout.specs.Layout.{all-copies-codec, all-copies-at, log-at, log-words}
 use Rattle.layout.proofs.Bounds.{place-small}
 use Rattle.checks.specs.Rows.{key-below}
-use Rattle.checks.specs.Copies.{copies-at-good}
-use Rattle.checks.specs.Chunks.{log-good}
-use Rattle.sound.specs.Places.{buffer-good, brick-good}
+use Rattle.checks.specs.Copies.{copies-sound}
+use Rattle.checks.specs.Chunks.{log-sound}
+use Rattle.sound.specs.Places.{waiting-at, brick-sound}
+use Rattle.rules.specs.Sound.{sound-buffer}
 use Rattle.layout.proofs.Lent.{lent}
+use Rattle.sound.proofs.PlaceLaws.{up-is}
 use native.Mathlib.Omega.{arith}
 use borrow.Author.Needs.{needs}
 use Rattle.sound.proofs.place.brick_good.Statement.{statement}
@@ -26,7 +28,7 @@ unfolding buckets
 status-good-requires c κs = search needs
 
 returns : tie.Need-returns
-unfolding brick-good
+unfolding brick-sound
 returns c = sym (no-first _ _ (no-first _ _ (no-first _ _ (sym (c .before .status-good .ensures) ∙ not-true _ (c .if1 .taken)))))
 
 read-requires : tie.Need-read-requires
@@ -38,13 +40,13 @@ unfolding buckets
 buffer-good-requires c κs = search needs
 
 returns-2 : tie.Need-returns-2
-unfolding brick-good
+unfolding brick-sound
 returns-2 c =
     let at-start = c .before .before .before .before .before .before .before .before in
     let s = at-start .args .place .now in
     let n = at-start .args .settings in
-    let up = ap (λ (k : ℕ). eqb k 1) (c .before .before .read .ensures) in
-    sym (no-first _ _ (no-first _ _ (no-second _ _ (ap (λ (b : Bool). buffer-good n (key-below (at-start .args .limits .now)) b (words s)) (sym up) ∙ sym
+    let up = sym (up-is (words s) ∙ ap (λ (k : ℕ). eqb k 1) (sym (c .before .before .read .ensures))) in
+    sym (no-first _ _ (no-first _ _ (no-second _ _ (ap (λ (b : Bool). sound-buffer (key-below (at-start .args .limits .now)) b (waiting-at (words s))) (sym up) ∙ sym
     (c .before .buffer-good .ensures) ∙ not-true _ (c .if2 .taken)))))
 
 mul-from : tie.Need-mul-from
@@ -76,15 +78,15 @@ unfolding buckets
 all-copies-good-requires c κs = search needs
 
 returns-3 : tie.Need-returns-3
-unfolding brick-good buckets
+unfolding brick-sound buckets
 returns-3 c =
     let at-start = c .before .before .before .before .before .before .before .before .before .before .before .before in
     let s = at-start .args .place .now in
     let n = at-start .args .settings in
-    let up = ap (λ (k : ℕ). eqb k 1) (c .before .before .before .before .before .before .read .ensures) in
-    sym (no-first _ _ (no-second _ _ (ap (λ (b : Bool). all-below (buckets n) (copies-at-good n (key-below (at-start .args .limits .now)) b
+    let up = sym (up-is (words s) ∙ ap (λ (k : ℕ). eqb k 1) (sym (c .before .before .before .before .before .before .read .ensures))) in
+    sym (no-first _ _ (no-second _ _ (ap (λ (b : Bool). all-below (buckets n) (copies-sound n (key-below (at-start .args .limits .now)) b
     (run all-copies-at (all-copies-codec n .size) (words s)))) (sym up) ∙ ap (λ (v : List ℕ). all-below (buckets n)
-    (copies-at-good n (key-below (at-start .args .limits .now)) (eqb (c .before .before .before .before .before .before .read .result) 1) v))
+    (copies-sound n (key-below (at-start .args .limits .now)) (eqb (c .before .before .before .before .before .before .read .result) 1) v))
     (sym (lent s (8 * all-copies-at) (8 * c .before .before .before .log-at .result) all-copies-at (all-copies-codec n .size) refl (omega arith)
     (omega arith))) ∙ sym (c .before .all-copies-good .ensures) ∙ not-true _ (c .if3 .taken))))
 
@@ -113,22 +115,22 @@ unfolding buckets
 log-good-requires c κs = search needs
 
 returns-4 : tie.Need-returns-4
-unfolding brick-good buckets
+unfolding brick-sound buckets
 returns-4 c =
     let at-start = c .before .before .before .before .before .before .before .before .before .before .before .before .before .before .before in
     let s = at-start .args .place .now in
     let n = at-start .args .settings in
-    let up = ap (λ (k : ℕ). eqb k 1) (c .before .before .before .before .before .before .before .before .before .read .ensures) in
-    c .log-good .ensures ∙ ap (log-good n (key-below (at-start .args .limits .now))) (lent s
+    let up = sym (up-is (words s) ∙ ap (λ (k : ℕ). eqb k 1) (sym (c .before .before .before .before .before .before .before .before .before .read .ensures))) in
+    c .log-good .ensures ∙ ap (log-sound n (key-below (at-start .args .limits .now))) (lent s
     (8 * c .before .before .before .before .before .before .log-at .result) (8 * c .before .before .place-words .result) (log-at n) (log-words n)
     (omega arith) (omega arith) (omega arith)) ∙ sym (yes-first _ _ (both _ _ (both _ _ (sym
     (c .before .before .before .before .before .before .before .before .before .before .before .status-good .ensures) ∙ not-false _
     (c .before .before .before .before .before .before .before .before .before .before .if1 .left))
-    (ap (λ (b : Bool). buffer-good n (key-below (at-start .args .limits .now)) b (words s)) (sym up) ∙ sym
+    (ap (λ (b : Bool). sound-buffer (key-below (at-start .args .limits .now)) b (waiting-at (words s))) (sym up) ∙ sym
     (c .before .before .before .before .before .before .before .before .buffer-good .ensures) ∙ not-false _
     (c .before .before .before .before .before .before .before .if2 .left))) (ap (λ (b : Bool). all-below (buckets n)
-    (copies-at-good n (key-below (at-start .args .limits .now)) b (run all-copies-at (all-copies-codec n .size) (words s)))) (sym up) ∙ ap
-    (λ (v : List ℕ). all-below (buckets n) (copies-at-good n (key-below (at-start .args .limits .now))
+    (copies-sound n (key-below (at-start .args .limits .now)) b (run all-copies-at (all-copies-codec n .size) (words s)))) (sym up) ∙ ap
+    (λ (v : List ℕ). all-below (buckets n) (copies-sound n (key-below (at-start .args .limits .now))
     (eqb (c .before .before .before .before .before .before .before .before .before .read .result) 1) v))
     (sym (lent s (8 * all-copies-at) (8 * c .before .before .before .before .before .before .log-at .result) all-copies-at (all-copies-codec n .size) refl
     (omega arith) (omega arith))) ∙ sym (c .before .before .before .before .all-copies-good .ensures) ∙ not-false _ (c .before .before .before .if3 .left))))

@@ -16,7 +16,7 @@ unfolding buckets
 read-requires c κs = search needs
 
 returns : tie.Need-returns
-returns c = buffer-down _ _ _ (words (c .before .before .before .before .args .place .now)) (not-true _ (c .before .if1 .taken)) _ (c .read .ensures)
+returns c = buffer-down _ _ (words (c .before .before .before .before .args .place .now)) (not-true _ (c .before .if1 .taken)) _ (c .read .ensures)
 
 mul-a : tie.Need-mul-a
 unfolding buckets
@@ -51,7 +51,7 @@ unfolding buckets
 returns-2 c =
     let b = c .before .before .before .before .before in
     let s = b .args .place .now in
-    c .table-good .ensures ∙ buffer-up _ _ _ (words s) (not-false _ (c .before .before .if1 .left)) _
+    c .table-good .ensures ∙ buffer-up _ _ (words s) (not-false _ (c .before .before .if1 .left)) _
     (lent s (8 * buffer-at) (8 * buffer-at + 8 * buffer-codec .size) buffer-at (buffer-codec .size) refl refl (omega arith))
 
 pub buffer-good-spec : {M : Type 1} → statement M

@@ -3,10 +3,10 @@ use Prim.Native.Nat.{ℕ, _+_, _*_}
 use lib.ListN.{getD}
 use borrow.Author.Tests.{not-true, not-false}
 use Rattle.words.specs.Words.{words}
-use Rattle.layout.specs.Layout.{place-at, place-words}
+use Rattle.layout.specs.Layout.{place-at, place-words, place-part}
 use Rattle.layout.proofs.Bounds.{store-small}
 use Rattle.checks.specs.Rows.{key-below}
-use Rattle.sound.specs.Places.{brick-good}
+use Rattle.sound.specs.Places.{brick-sound}
 use Rattle.layout.proofs.Lent.{lent}
 use Rattle.sound.proofs.PlaceLaws.{place-empty, place-far, place-twice, place-brick}
 use native.Mathlib.Omega.{arith}
@@ -24,13 +24,13 @@ returns : tie.Need-returns
 returns c =
     let ws = words (c .before .before .before .before .before .args .store .now) in
     let r = c .before .read .ensures ∙ ap (λ (k : ℕ). getD ws k 0) (c .before .before .place-at .ensures .0) in
-    sym (place-empty _ _ _ ws (c .before .before .before .before .before .args .p) _ r (c .if1 .taken))
+    sym (place-empty _ _ _ (c .before .before .before .before .before .args .p) _ r (c .if1 .taken))
 
 returns-2 : tie.Need-returns-2
 returns-2 c =
     let ws = words (c .before .before .before .before .before .before .args .store .now) in
     let r = c .before .before .read .ensures ∙ ap (λ (k : ℕ). getD ws k 0) (c .before .before .before .place-at .ensures .0) in
-    sym (place-far _ _ _ ws (c .before .before .before .before .before .before .args .p) _ r (c .before .if1 .left) (c .if2 .taken))
+    sym (place-far _ _ _ (c .before .before .before .before .before .before .args .p) _ r (c .before .if1 .left) (c .if2 .taken))
 
 alone-requires : tie.Need-alone-requires
 alone-requires c κs = search needs
@@ -40,7 +40,7 @@ returns-3 c =
     let s = c .before .before .before .before .before .before .before .before in
     let ws = words (s .args .store .now) in
     let r = c .before .before .before .before .read .ensures ∙ ap (λ (k : ℕ). getD ws k 0) (c .before .before .before .before .before .place-at .ensures .0) in
-    sym (place-twice _ _ _ ws (s .args .p) _ r (c .before .before .before .if1 .left) (sym (c .before .alone .ensures) ∙ not-true _ (c .if3 .taken)))
+    sym (place-twice _ _ _ (s .args .p) _ r (c .before .before .before .if1 .left) (sym (c .before .alone .ensures) ∙ not-true _ (c .if3 .taken)))
 
 mul-a : tie.Need-mul-a
 mul-a c = omega (arith, store-small _ (c .before .before .before .before .before .before .before .before .pre .0 .small))
@@ -74,11 +74,11 @@ returns-4 c =
     (c .before .before .before .before .before .before .before .before .place-at .ensures .0) in
     let s = b .args .store .now in
     let n = b .args .settings in
-    c .brick-good .ensures ∙ ap (brick-good n (key-below (b .args .limits .now)))
+    c .brick-good .ensures ∙ ap (brick-sound n (key-below (b .args .limits .now)))
     (lent s (8 * c .before .before .before .before .before .before .before .before .place-at .result)
     (8 * c .before .before .before .before .before .before .before .before .place-at .result + 8 * c .before .before .place-words .result)
     (place-at n (b .args .p)) (place-words n) (omega arith) (omega arith) (omega arith)) ∙ sym
-    (place-brick _ _ _ ws (b .args .p) _ r (c .before .before .before .before .before .before .if1 .left)
+    (place-brick _ _ (λ p. brick-sound n (key-below (b .args .limits .now)) (place-part n p ws)) (b .args .p) _ r (c .before .before .before .before .before .before .if1 .left)
     (c .before .before .before .before .before .if2 .left) (sym (c .before .before .before .before .alone .ensures) ∙ not-false _
     (c .before .before .before .if3 .left)))
 

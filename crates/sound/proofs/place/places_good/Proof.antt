@@ -6,7 +6,7 @@ use borrow.Author.Tests.{not-true, not-false}
 use Rattle.lists.proofs.Tests.{all-true, all-false}
 use Rattle.words.specs.Words.{words}
 use Rattle.checks.specs.Rows.{key-below}
-use Rattle.sound.specs.Places.{place-at-good}
+use Rattle.sound.specs.Places.{place-sound}
 use Rattle.sound.proofs.PlaceLaws.{passed-below}
 use native.Mathlib.Omega.{arith}
 use borrow.Author.Needs.{needs}
@@ -14,7 +14,7 @@ use Rattle.sound.proofs.place.places_good.Statement.{statement}
 use Rattle.sound.proofs.place.places_good.Tie as tie
 
 abbrev Inv-loop : tie.InvT-loop
-Inv-loop settings limits given store p₀ p = (p ≤ settings .places) × ((k : ℕ) → k < p → place-at-good settings (key-below limits) given (words store) k ≡ true)
+Inv-loop settings limits given store p₀ p = (p ≤ settings .places) × ((k : ℕ) → k < p → place-sound settings (key-below limits) given (words store) k ≡ true)
 
 abbrev μ-loop : tie.MeasureT-loop
 μ-loop settings limits given store p₀ p = settings .places - p

@@ -1,5 +1,5 @@
 use Rattle.lists.specs.Tests.{_and_}
-use Rattle.sound.specs.Places.{status-good}
+use Rattle.sound.proofs.PlaceLaws.{status-words-sound}
 use borrow.Author.Needs.{needs}
 use Rattle.sound.proofs.place.status_good.Statement.{statement}
 use Rattle.sound.proofs.place.status_good.Tie as tie
@@ -20,9 +20,10 @@ read-requires-5 : tie.Need-read-requires-5
 read-requires-5 c κs = search needs
 
 returns : tie.Need-returns
-unfolding status-good _and_
+unfolding _and_
 returns c =
     rw (
+      ← (status-words-sound _),
       c .before .before .before .before .read .ensures,
       c .before .before .before .read2 .ensures,
       c .before .before .read3 .ensures,
