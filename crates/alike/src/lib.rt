@@ -12,7 +12,6 @@ ghost use Rattle.lent.specs.Stores.{SoundStore};
 ghost use Rattle.lent.specs.Stores.{StoreOf};
 ghost use Rattle.lent.specs.Places.{PlaceOf};
 ghost use Rattle.alike.specs.Alike.{member-in, same-primary, Two, alike-answer};
-use layout::sizes;
 use lent::brick;
 use lent::brick::Found;
 use lent::bucket;
@@ -109,7 +108,7 @@ fn same_memories(one: &[u8], other: &[u8], settings: Settings) -> bool
     requires { ⌜ Two settings (now one) (now other) ⌝ }
     ensures { λ r. ⌜ r ≡ all-below (buckets settings) (same-primary (decode (words (now (one .entry)))) (decode (words (now (other .entry))))) ⌝ }
 {
-    let count = sizes::buckets(settings);
+    let count = settings.buckets();
     let mut g = 0;
     while g < count {
         if !same_memory(one, other, settings, g) {

@@ -56,7 +56,7 @@ fn all_calm(store: &[u8], settings: Settings) -> bool
     requires { ⌜ StoreOf settings (now store) ⌝ }
     ensures { λ r. ⌜ r ≡ all-below (buckets settings) (λ g. calm (decode (words (now (store .entry))) .bucket g)) ⌝ }
 {
-    let count = sizes::buckets(settings);
+    let count = settings.buckets();
     let mut bucket = 0;
     while bucket < count {
         if !calm::calm(store, settings, bucket) {
@@ -131,8 +131,8 @@ fn collect_log(store: &mut [u8], settings: Settings, place: usize)
     ensures { λ _. ⌜ words (now (store .exit))
         ≡ render (collect-effect (decode (words (now (store .entry)))) (decode (words (now (store .entry))) .ids place)) (words (now (store .entry))) ⌝ }
 {
-    let count = sizes::buckets(settings);
-    let mut tables = [0usize; named::MAX_BUCKETS];
+    let count = settings.buckets();
+    let mut tables = [0usize; constants::MAX_BUCKETS];
     collect_in(store, settings, place, &mut tables[0..count]);
 }
 

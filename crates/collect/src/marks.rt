@@ -60,7 +60,7 @@ pub fn mark_tables(store: &mut [u8], settings: Settings, at: usize, tables: &[us
     ensures { λ _. ⌜ words (now (store .exit))
         ≡ marks settings at (named-first (words (now (store .entry))) (now (tables .entry)) (buckets settings)) (words (now (store .entry))) ⌝ }
 {
-    let count = sizes::buckets(settings);
+    let count = settings.buckets();
     let mut bucket = 0;
     while bucket < count {
         mark_named(store, settings, at, tables[bucket]);

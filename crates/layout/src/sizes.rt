@@ -16,7 +16,7 @@ pub const ENTRY_WORDS: usize = 2;
 
 pub const RELAY_WORDS: usize = 5;
 
-pub const BUCKETS: usize = constants::BUCKETS as usize;
+pub const BUCKETS: usize = constants::BUCKETS;
 
 // N, S, M, L, view, given, started
 pub const HEAD_WORDS: usize = 7;
@@ -57,12 +57,10 @@ pub const PROXY_WORDS: usize = ITEMS_AT + ITEMS_WORDS;
 
 pub const BAG_WORDS: usize = 1 + constants::MAX_RELAYS * RELAY_WORDS;
 
-// where the proxies, the bag and the places lie in the store
+// where the proxies and the bag lie in the store
 pub const PROXIES_AT: usize = HEAD_WORDS + BUCKETS * AGREED_WORDS;
 
 pub const BAG_AT: usize = PROXIES_AT + constants::PROXIES * PROXY_WORDS;
-
-pub const PLACES_AT: usize = BAG_AT + BAG_WORDS;
 
 // a place: id, flags, numbers, the append buffer, the copies, the log
 pub const ID_AT: usize = 0;
@@ -86,7 +84,7 @@ pub const COPIES_AT: usize = BUFFER_AT + BUFFER_WORDS;
 pub fn buckets(settings: Settings) -> usize
     ensures { λ r. ⌜ r ≡ buckets settings ⌝ }
 {
-    BUCKETS
+    settings.buckets()
 }
 
 // One copy of a bucket at a place, and both.
@@ -116,7 +114,7 @@ pub fn log_at(settings: Settings) -> usize
     requires { ⌜ Limits settings ⌝ }
     ensures { λ r. ⌜ r ≡ log-at settings ⌝ }
 {
-    COPIES_AT + BUCKETS * copies_words(settings)
+    COPIES_AT + settings.buckets() * copies_words(settings)
 }
 
 pub fn place_words(settings: Settings) -> usize
@@ -130,7 +128,7 @@ pub fn place_words(settings: Settings) -> usize
 pub fn proxies_at(settings: Settings) -> usize
     ensures { λ r. ⌜ r ≡ proxies-at settings ⌝ }
 {
-    HEAD_WORDS + BUCKETS * AGREED_WORDS
+    HEAD_WORDS + settings.buckets() * AGREED_WORDS
 }
 
 pub fn bag_at(settings: Settings) -> usize

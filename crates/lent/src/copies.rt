@@ -46,7 +46,7 @@ pub fn match_all(copies: &mut [u8], settings: Settings, saving: bool)
     requires { ⌜ AllCopiesFit settings (words (now copies)) (length (now copies)) ⌝ }
     ensures { λ _. ⌜ words (now (copies .exit)) ≡ change (all-copies-codec settings) (all-matched saving) (words (now (copies .entry))) ⌝ }
 {
-    let count = sizes::buckets(settings);
+    let count = settings.buckets();
     let size = sizes::copies_words(settings);
     let mut bucket = 0;
     while bucket < count {

@@ -113,12 +113,7 @@ pub fn memory_at(settings: Settings, bucket: usize) -> usize
     requires { ⌜ Limits settings × (bucket < buckets settings) ⌝ }
     ensures { λ r. ⌜ (r ≡ copies-at settings bucket) × (r + copies-words settings ≤ log-at settings) ⌝ }
 {
-    sizes::COPIES_AT
-        + words::offset(
-            bucket,
-            sizes::copies_words(settings),
-            sizes::buckets(settings),
-        )
+    sizes::COPIES_AT + words::offset(bucket, sizes::copies_words(settings), settings.buckets())
 }
 
 pub fn disk_at(settings: Settings, bucket: usize) -> usize

@@ -11,6 +11,7 @@ use lib.ListN.{length, getD}
 use borrow.Author.Tests.{le-leb}
 use Rattle.lists.specs.Tests.{count-below}
 use Rattle.lists.proofs.Tests.{by-eq, count-at-most}
+use Rattle.rules.proofs.Limits.{few-buckets}
 use Rattle.words.specs.Words.{words}
 use Rattle.words.proofs.Laws.{length-words}
 use Rattle.rules.specs.declared.settings.Settings.{Settings}
@@ -25,7 +26,6 @@ use Rattle.lent.specs.Stores.{StoreOf}
 use Rattle.lent.specs.Parts.{LogPart}
 use Rattle.named.specs.Tables.{EntriesAt, named, AllNamed}
 use Rattle.named.proofs.Copies.{inside-store, entries-inside, table-length, table-key}
-use Rattle.layout.proofs.Bounds.{few-buckets}
 use Rattle.mend.specs.Keys.{key-at, before, adds, added-in, added}
 use Rattle.mend.proofs.Flagged.{met-by}
 use Rattle.mend.proofs.Mending.{before-more, before-bucket, buckets-length}

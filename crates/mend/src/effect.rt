@@ -73,7 +73,7 @@ pub fn mend_all(store: &mut [u8], settings: Settings, place: usize, tables: &[us
     ensures { λ _. ⌜ words (now (store .exit))
         ≡ render (mend-effect (decode (words (now (store .entry)))) (decode (words (now (store .entry))) .ids place)) (words (now (store .entry))) ⌝ }
 {
-    let count = sizes::buckets(settings);
+    let count = settings.buckets();
     let mut bucket = 0;
     while bucket < count {
         mend_named(store, settings, place, tables[bucket]);

@@ -11,9 +11,9 @@ ghost use Rattle.layout.specs.Store.{decode, render};
 ghost use Rattle.lent.specs.Performs.{Performs};
 ghost use Rattle.lent.specs.Stores.{StoreOf};
 ghost use Rattle.mend.specs.Fit.{UpAt};
-use layout::sizes;
 use lent::Answer;
 use lent::place;
+use rules::constants;
 use rules::settings::Settings;
 
 pub mod act;
@@ -45,8 +45,8 @@ pub fn mend(store: &mut [u8], settings: Settings, place: u64) -> Answer
     if no != 0 {
         return Answer::No(no);
     }
-    let count = sizes::buckets(settings);
-    let mut tables = [0usize; named::MAX_BUCKETS];
+    let count = settings.buckets();
+    let mut tables = [0usize; constants::MAX_BUCKETS];
     if mend_in(store, settings, place as usize, &mut tables[0..count]) {
         return Answer::Yes(0);
     }

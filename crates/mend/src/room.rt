@@ -106,7 +106,7 @@ fn added_by(
         × Met settings (decode (words (now store))) (decode (words (now store)) .ids place) (before (decode (words (now store))) 0 0) (now flags) ⌝ }
     ensures { λ r. ⌜ r ≡ added (decode (words (now (store .entry)))) (decode (words (now (store .entry))) .ids place) (buckets settings) ⌝ }
 {
-    let n = sizes::buckets(settings);
+    let n = settings.buckets();
     let mut count = 0;
     let mut bucket = 0;
     while bucket < n {
@@ -130,7 +130,7 @@ fn named_count(store: &[u8], settings: Settings, tables: &[usize]) -> usize
     requires { ⌜ AllNamed settings (now store) (now tables) ⌝ }
     ensures { λ r. ⌜ r ≡ named-below (decode (words (now (store .entry)))) (buckets settings) ⌝ }
 {
-    let n = sizes::buckets(settings);
+    let n = settings.buckets();
     let mut count = 0;
     let mut bucket = 0;
     while bucket < n {

@@ -14,9 +14,6 @@ use lent::bucket;
 use lent::place;
 use rules::settings::Settings;
 
-// there are at most so many buckets: an array of this length has room for a word of each
-pub const MAX_BUCKETS: usize = sizes::BUCKETS;
-
 // The word at which a brick's copy of a bucket in memory begins; 0 where no place holds the brick.
 fn memory_at(store: &[u8], settings: Settings, bucket: usize, id: u64) -> usize
     requires { ⌜ StoreOf settings (now store) × (bucket < buckets settings) ⌝ }
@@ -45,7 +42,7 @@ pub fn all_named(store: &[u8], settings: Settings, tables: &mut [usize])
     requires { ⌜ StoreOf settings (now store) × (length (now tables) ≡ buckets settings) ⌝ }
     ensures { λ _. ⌜ AllNamed settings (now (store .entry)) (now (tables .exit)) ⌝ }
 {
-    let count = sizes::buckets(settings);
+    let count = settings.buckets();
     let mut bucket = 0;
     while bucket < count {
         tables[bucket] = named_at(store, settings, bucket);

@@ -5,7 +5,6 @@ ghost use Rattle.rules.specs.Question.{first-no};
 ghost use Rattle.layout.specs.Store.{decode};
 ghost use Rattle.lent.specs.Stores.{StoreOf};
 ghost use Rattle.recovery.specs.Asks.{bucket-asks};
-use layout::sizes;
 use lent::brick;
 use rules::settings::Settings;
 
@@ -14,7 +13,7 @@ pub fn bucket_asks(store: &[u8], settings: Settings, bucket: u64) -> u64
     requires { ⌜ StoreOf settings (now store) ⌝ }
     ensures { λ r. ⌜ r ≡ first-no (bucket-asks (decode (words (now (store .entry)))) bucket) ⌝ }
 {
-    if sizes::buckets(settings) as u64 <= bucket {
+    if settings.buckets() as u64 <= bucket {
         return 3;
     }
     let agreed = lent::bucket::agreed(store, settings, bucket as usize);

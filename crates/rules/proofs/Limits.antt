@@ -9,7 +9,7 @@ use Rattle.lists.specs.Tests.{_and_}
 use Rattle.lists.proofs.Tests.{by, and-l, and-r, both}
 use Rattle.rules.specs.declared.settings.Settings.{Settings}
 use Rattle.rules.specs.declared.settings.Checked.the-variants.{Good, Bad}
-use Rattle.rules.specs.Limits.{in-range, in-limits, checked, buckets}
+use Rattle.rules.specs.Limits.{in-range, in-limits, checked, buckets, max-buckets}
 
 pub record Limits (c : Settings) : Type 0 where
   pub places-from : 3 ≤ c .places
@@ -79,7 +79,11 @@ pub bad : (n s m l : ℕ) → (Tests (settings n s m l) → ⊥) → Bad ≡ che
 unfolding checked
 bad n s m l h = by (in-limits (settings n s m l)) (λ y. absurd (h (tests (settings n s m l) y))) (λ q. rw q)
 
--- ---- there is a bucket
+-- ---- all that is known of the number of buckets
 pub some-buckets : (c : Settings) → 0 < buckets c
 unfolding buckets
 some-buckets c = omega arith
+
+pub few-buckets : (c : Settings) → buckets c ≤ max-buckets
+unfolding buckets
+few-buckets c = omega arith

@@ -60,6 +60,10 @@ proxies = 4
 unfoldable pub buckets : Settings → ℕ
 buckets settings = 16
 
+-- whatever has room for a number of each bucket has it for so many
+abbrev pub max-buckets : ℕ
+max-buckets = 64
+
 -- the bag holds at most 64 relays, a proxy at most 32 items, an append buffer at most 32 entries
 abbrev pub max-relays : ℕ
 max-relays = 64

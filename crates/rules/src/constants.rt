@@ -20,7 +20,10 @@ pub const MAX_NUMBER: u64 = 0xffff_ffff;
 
 pub const MAX_ID: u64 = 255;
 
-pub const BUCKETS: u64 = 16;
+pub const BUCKETS: usize = 16;
+
+// there is room for so many
+pub const MAX_BUCKETS: usize = 64;
 
 pub const PROXIES: usize = 4;
 

@@ -29,7 +29,7 @@ impl BlockNumber {
     pub fn bucket(self, settings: Settings) -> u64
         ensures { λ r. ⌜ r ≡ bucket-of (buckets settings) (self .0) ⌝ }
     {
-        self.0 / constants::RUN_BLOCKS % constants::BUCKETS
+        self.0 / constants::RUN_BLOCKS % settings.buckets() as u64
     }
 }
 

@@ -1,6 +1,7 @@
 // A store's settings, fixed at format.
 ghost use mathlib.Core.Path.{_≡_};
-ghost use Rattle.rules.specs.Limits.{in-range, checked};
+ghost use Rattle.rules.specs.Limits.{in-range, checked, buckets};
+use crate::constants;
 
 pub struct Settings {
     // places for bricks
@@ -63,6 +64,13 @@ impl Settings {
             entries,
             chunks,
         })
+    }
+
+    // The number of buckets.
+    pub fn buckets(self) -> usize
+        ensures { λ r. ⌜ r ≡ buckets self ⌝ }
+    {
+        constants::BUCKETS
     }
 }
 

@@ -15,9 +15,6 @@ use crate::slots;
 use layout::sizes;
 use rules::settings::Settings;
 
-// of at most 64 buckets
-const MAX_SLOTS: usize = 128;
-
 // A view begins with so many bricks, and with these pairs.
 fn write(store: &mut [u8], settings: Settings, started: u64, pairs: &[u64])
     requires { ⌜ StoreOf settings (now store) × Begins settings (decode (words (now store))) started × (now pairs ≡ view-pairs (decode (words (now store)))) ⌝ }
@@ -52,7 +49,7 @@ pub fn begin(store: &mut [u8], settings: Settings)
     ensures { λ _. ⌜ words (now (store .exit)) ≡ render (view-effect (decode (words (now (store .entry))))) (words (now (store .entry))) ⌝ }
 {
     let started = members::count(store, settings, false) as u64;
-    let used = 2 * sizes::buckets(settings);
-    let mut room = [0; MAX_SLOTS];
+    let used = 2 * settings.buckets();
+    let mut room = [0; pairing::MAX_SLOTS];
     begin_in(store, settings, started, &mut room[0..used]);
 }

@@ -8,7 +8,6 @@ ghost use Rattle.rules.specs.Views.{last-pairs, view-pairs};
 ghost use Rattle.layout.specs.Store.{decode};
 ghost use Rattle.lent.specs.Stores.{StoreOf};
 use crate::members;
-use layout::sizes;
 use rules::constants;
 use rules::settings::Settings;
 
@@ -17,7 +16,7 @@ fn last_pairs(store: &[u8], settings: Settings, slots: &mut [u64])
     requires { ⌜ StoreOf settings (now store) × (length (now slots) ≡ 2 * buckets settings) ⌝ }
     ensures { λ _. ⌜ now (slots .exit) ≡ last-pairs (decode (words (now (store .entry)))) ⌝ }
 {
-    let count = sizes::buckets(settings);
+    let count = settings.buckets();
     let mut bucket = 0;
     while bucket < count {
         let agreed = lent::bucket::agreed(store, settings, bucket);
@@ -35,5 +34,5 @@ pub fn view_pairs(store: &[u8], settings: Settings, slots: &mut [u64])
     let mut ids = [0; constants::MAX_ID as usize];
     let count = members::up_ids(store, settings, &mut ids);
     last_pairs(store, settings, slots);
-    pairing::assign(&ids[0..count], slots, sizes::buckets(settings));
+    pairing::assign(&ids[0..count], slots, settings.buckets());
 }

@@ -1,6 +1,6 @@
 use native.Mathlib.Omega.{arith}
 use borrow.Author.Needs.{needs}
-use Rattle.layout.proofs.Bounds.{few-buckets}
+use Rattle.rules.proofs.Limits.{few-buckets}
 use Rattle.collect.proofs.collect_log.Statement.{statement}
 use Rattle.collect.proofs.collect_log.Tie as tie
 

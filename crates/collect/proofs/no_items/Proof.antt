@@ -6,11 +6,11 @@ use borrow.Author.Count.{below-more, below-none}
 use lib.Dec.{eqb}
 use lib.ListN.{length}
 use borrow.Author.Tests.{eq-eqb, ne-eqb}
+use Rattle.rules.proofs.Limits.{few-buckets}
 use Rattle.collect.proofs.Questions.{items-count}
 use Rattle.lists.proofs.Tests.{all-true, all-false}
 use Rattle.words.specs.Words.{words}
 use Rattle.layout.specs.Store.{decode}
-use Rattle.layout.proofs.Bounds.{few-buckets}
 use borrow.Author.Needs.{needs}
 use Rattle.collect.proofs.no_items.Statement.{statement}
 use Rattle.collect.proofs.no_items.Tie as tie

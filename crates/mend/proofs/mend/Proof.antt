@@ -1,5 +1,6 @@
 use mathlib.Core.Path.{_≡_, sym, _∙_}
 use native.Mathlib.Omega.{arith}
+use Rattle.rules.proofs.Limits.{few-buckets}
 use Rattle.words.specs.Words.{words}
 use Rattle.rules.specs.Event.{Event}
 use Rattle.rules.specs.Question.{first-no}
@@ -9,7 +10,6 @@ use Rattle.layout.specs.Store.{decode}
 use Rattle.lent.specs.Asks.{place-asks}
 use Rattle.lent.proofs.Performs.{refused}
 use Rattle.lent.proofs.Places.{place-yes}
-use Rattle.layout.proofs.Bounds.{few-buckets}
 use Rattle.mend.proofs.Answers.{full, done}
 use borrow.Author.Needs.{needs}
 use Rattle.mend.proofs.mend.Statement.{statement}

@@ -1,15 +1,14 @@
-use Rattle.rules.specs.Limits.{buckets}
+use native.Mathlib.Omega.{arith}
+use Rattle.rules.proofs.Limits.{few-buckets}
 use borrow.Author.Needs.{needs}
 use Rattle.layout.proofs.sizes.agreed_at.Statement.{statement}
 use Rattle.layout.proofs.sizes.agreed_at.Tie as tie
 
 mul-result : tie.Need-mul-result
-unfolding buckets
-mul-result c = search needs
+mul-result c = omega (arith, few-buckets (c .args .settings))
 
 add-result : tie.Need-add-result
-unfolding buckets
-add-result c = search needs
+add-result c = omega (arith, few-buckets (c .args .settings))
 
 returns : tie.Need-returns
 returns c = search needs

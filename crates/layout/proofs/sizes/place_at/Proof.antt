@@ -2,7 +2,7 @@ use mathlib.Core.Path.{_≡_, ap, _∙_}
 use Prim.Native.Nat.{ℕ, _*_, _^_, _≤_}
 use native.Mathlib.Omega.{arith}
 use Rattle.lists.proofs.Runs.{fits-in}
-use Rattle.rules.specs.Limits.{buckets}
+use Rattle.rules.proofs.Limits.{few-buckets}
 use Rattle.layout.specs.Layout.{place-words}
 use Rattle.layout.proofs.Bounds.{places-small}
 use borrow.Author.Needs.{needs}
@@ -22,11 +22,10 @@ offset-requires c κs =
     (omega arith, omega arith)
 
 add-result : tie.Need-add-result
-unfolding buckets
 add-result c =
     let b = c .before .before .before in
     let h : b .args .settings .places * c .before .place-words .result ≤ 2 ^ 30 = rw (c .before .place-words .ensures) (places-small _ (b .pre .0)) in
-    omega arith
+    omega (arith, few-buckets (b .args .settings))
 
 returns : tie.Need-returns
 returns c =

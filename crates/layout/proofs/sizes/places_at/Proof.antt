@@ -1,4 +1,5 @@
-use Rattle.rules.specs.Limits.{buckets}
+use native.Mathlib.Omega.{arith}
+use Rattle.rules.proofs.Limits.{few-buckets}
 use borrow.Author.Needs.{needs}
 use Rattle.layout.proofs.sizes.places_at.Statement.{statement}
 use Rattle.layout.proofs.sizes.places_at.Tie as tie
@@ -7,8 +8,7 @@ bag-at-requires : tie.Need-bag-at-requires
 bag-at-requires c κs = search needs
 
 add-result : tie.Need-add-result
-unfolding buckets
-add-result c = search needs
+add-result c = omega (arith, few-buckets (c .before .args .settings))
 
 returns : tie.Need-returns
 returns c = search needs

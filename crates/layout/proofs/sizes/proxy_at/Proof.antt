@@ -1,4 +1,5 @@
-use Rattle.rules.specs.Limits.{buckets}
+use native.Mathlib.Omega.{arith}
+use Rattle.rules.proofs.Limits.{few-buckets}
 use borrow.Author.Needs.{needs}
 use Rattle.layout.proofs.sizes.proxy_at.Statement.{statement}
 use Rattle.layout.proofs.sizes.proxy_at.Tie as tie
@@ -10,8 +11,7 @@ mul-result : tie.Need-mul-result
 mul-result c = search needs
 
 add-result : tie.Need-add-result
-unfolding buckets
-add-result c = search needs
+add-result c = omega (arith, few-buckets (c .before .args .settings))
 
 returns : tie.Need-returns
 returns c = search needs

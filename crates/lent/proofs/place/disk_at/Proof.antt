@@ -1,5 +1,5 @@
 use native.Mathlib.Omega.{arith}
-use Rattle.rules.specs.Limits.{buckets}
+use Rattle.layout.proofs.Bounds.{copies-small}
 use borrow.Author.Needs.{needs}
 use Rattle.lent.proofs.place.disk_at.Statement.{statement}
 use Rattle.lent.proofs.place.disk_at.Tie as tie
@@ -11,8 +11,7 @@ copy-words-requires : tie.Need-copy-words-requires
 copy-words-requires c κs = search needs
 
 add-result : tie.Need-add-result
-unfolding buckets
-add-result c = omega arith
+add-result c = let b = c .before .before in omega (arith, copies-small (b .args .settings) (b .pre .0))
 
 returns : tie.Need-returns
 returns c = search needs

@@ -3,11 +3,11 @@ use Prim.Native.Nat.{_-_}
 use native.Mathlib.Omega.{arith}
 use lib.ListN.{length-take}
 use borrow.Author.Needs.{needs}
+use Rattle.rules.proofs.Limits.{few-buckets}
 use Rattle.words.specs.Words.{words}
 use Rattle.layout.specs.Store.{decode}
 use Rattle.lent.proofs.Stores.{settings-are}
 use Rattle.views.proofs.Counts.{view-pairs-are}
-use Rattle.layout.proofs.Bounds.{few-buckets}
 use Rattle.views.proofs.slots.view_pairs.Statement.{statement}
 use Rattle.views.proofs.slots.view_pairs.Tie as tie
 
