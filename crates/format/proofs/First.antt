@@ -11,8 +11,8 @@ use Rattle.lists.proofs.Runs.{run-length, on-right, on-length, on-by, on-set}
 use Rattle.rules.specs.declared.settings.Settings.{Settings}
 use Rattle.rules.specs.Limits.{buckets, max-relays}
 use Rattle.rules.specs.Chunks.{Chunk}
-use Rattle.rules.specs.Format.{format}
-use Rattle.rules.proofs.Limits.{Limits}
+use Rattle.rules.specs.Pairs.{Slots}
+use Rattle.rules.specs.Format.{first-pairs, format}
 use Rattle.log.specs.Log.{log-enc}
 use Rattle.log.proofs.Changes.{cleared}
 use Rattle.codec.specs.Codec.{Codec, _&_, enc-two, _then_, Row, table}
@@ -27,7 +27,7 @@ use Rattle.layout.specs.Layout.{bag-codec, all-agreed-codec, all-proxies-codec,
 use Rattle.layout.specs.Layout.{proxies-at, bag-at, places-at}
 use Rattle.layout.specs.Store.{to-disk, render}
 use Rattle.layout.proofs.Codecs.{status-law, buffer-law, copy-law, all-copies-law, head-law, all-agreed-law, all-proxies-law, bag-law}
-use Rattle.format.specs.First.{first-head, agreed-in-turn, new-brick, first-place}
+use Rattle.format.specs.First.{first-head, agreed-in, new-brick, first-place}
 use Rattle.format.proofs.Pairs.{format-agreed, format-place}
 
 -- ---- a count of 0 is all that an empty list writes
@@ -169,27 +169,27 @@ module _ (c : Settings) (d : Disk) (w : List ℕ) (h : length w ≡ store-words 
       ∙ then-written bag-codec (all-places-codec c) bag-law (d .bag & d .place) (bag-at c) with-proxies (omega arith)
 
 abbrev first-disk : Settings → Disk
-first-disk c = record { head = first-head c; agreed = agreed-in-turn (c .places); proxy = λ p. blank-proxy; bag = []; place = first-place }
+first-disk c = record { head = first-head c; agreed = agreed-in (first-pairs c); proxy = λ p. blank-proxy; bag = []; place = first-place }
 
 -- the first state, as it lies
-as-first : (c : Settings) → Limits c → (w : List ℕ) → render (format c) w ≡ disk-codec c .enc (first-disk c) w
+as-first : (c : Settings) (w : List ℕ) → render (format c) w ≡ disk-codec c .enc (first-disk c) w
 unfolding render format enc-two
-as-first c l w =
+as-first c w =
     let rest : List ℕ = drop head-words w in
     let places : List ℕ = drop bag-words (drop (all-proxies-codec .size) (drop (all-agreed-codec c .size) rest)) in
     rw (
-      many-same agreed-codec (buckets c) (to-disk (format c) .agreed) (agreed-in-turn (c .places)) (take (all-agreed-codec c .size) rest) (format-agreed c l),
-      many-same (place-codec c) (c .places) (to-disk (format c) .place) first-place places (format-place c l),
+      many-same agreed-codec (buckets c) (to-disk (format c) .agreed) (agreed-in (first-pairs c)) (take (all-agreed-codec c .size) rest) (format-agreed c),
+      many-same (place-codec c) (c .places) (to-disk (format c) .place) first-place places (format-place c),
     )
 
 -- the writes of the first state, one after the other
-pub first-steps : (c : Settings) → Limits c → (p b q : ℕ) (w0 w1 w2 w3 w4 w5 : List ℕ) → length w0 ≡ store-words c → p ≡ proxies-at c → b ≡ bag-at c
-    → q ≡ places-at c → w1 ≡ on-run 0 head-words (head-codec .enc (first-head c)) w0
-    → w2 ≡ on-run head-words (all-agreed-codec c .size) (all-agreed-codec c .enc (agreed-in-turn (c .places))) w1
+pub first-steps : (c : Settings) (slots : Slots) → slots ≡ first-pairs c → (p b q : ℕ) (w0 w1 w2 w3 w4 w5 : List ℕ) → length w0 ≡ store-words c
+    → p ≡ proxies-at c → b ≡ bag-at c → q ≡ places-at c → w1 ≡ on-run 0 head-words (head-codec .enc (first-head c)) w0
+    → w2 ≡ on-run head-words (all-agreed-codec c .size) (all-agreed-codec c .enc (agreed-in slots)) w1
     → w3 ≡ on-run p (all-proxies-codec .size) (all-proxies-codec .enc (λ _. blank-proxy)) w2 → w4 ≡ set w3 b 0
     → w5 ≡ on-run q (all-places-codec c .size) (all-places-codec c .enc first-place) w4 → w5 ≡ render (format c) w0
-first-steps c l p b q w0 w1 w2 w3 w4 w5 h ep eb eq e1 e2 e3 e4 e5 =
+first-steps c slots es p b q w0 w1 w2 w3 w4 w5 h ep eb eq e1 e2 e3 e4 e5 =
     let d : Disk = first-disk c in
     let all : List ℕ → List ℕ = on-run (places-at c) (all-places-codec c .size) (all-places-codec c .enc first-place) in
     let bag = table-run relay-row max-relays (bag-at c) (with-proxies c d w0 h) (rw (proxies-long c d w0 h) (omega arith)) in
-    e5 ∙ rw (eq, e4, eb, e3, ep, e2, e1) (ap all (sym bag) ∙ sym (disk-written c d w0 h) ∙ sym (as-first c l w0))
+    e5 ∙ rw (eq, e4, eb, e3, ep, e2, es, e1) (ap all (sym bag) ∙ sym (disk-written c d w0 h) ∙ sym (as-first c w0))

@@ -1,72 +1,71 @@
--- The pairs that format makes: the bricks take the slots in turn.
-use mathlib.Core.Path.{_≡_, refl, sym, ap, ap₂, subst, _∙_, fun-ext}
-use mathlib.Core.List.{List, [], _∷_, _++_}
+-- The pairs that format makes, and the buckets and bricks of its state.
+use mathlib.Core.Path.{_≡_, refl, sym, ap, _∙_, fun-ext}
+use mathlib.Core.List.{List, [], _∷_}
 use mathlib.Core.Bool.{Bool, true}
-use Prim.Native.Nat.{ℕ, zero, suc, _+_, _*_, _-_, _%_, _<_}
+use Prim.Native.Nat.{ℕ, zero, suc, _+_, _*_, _-_, _≤_, _<_}
 use native.Mathlib.Numerals.{add-one}
 use native.Mathlib.Omega.{arith}
 use lib.Dec.{ltb}
-use lib.ListN.{length, getD, replicate, length-append, List·getD-append}
-use lib.Seq.{getD-at}
+use lib.ListN.{length, take, replicate, length-take, length-replicate}
 use borrow.Author.Tests.{lt-ltb, le-leb}
-use Rattle.lists.specs.Tests.{_and_, _or_}
-use Rattle.lists.proofs.Tests.{by, by-eq, both}
+use Rattle.lists.proofs.Tests.{by, both}
 use Rattle.rules.specs.declared.settings.Settings.{Settings}
-use Rattle.rules.specs.Limits.{buckets}
-use Rattle.rules.specs.Pairs.{at, among, load, ids-of, preferred, choose, least-loaded, kept, keep-at, fill-slot, give-way, in-order, filled, walked}
-use Rattle.rules.specs.Pairs.{share, pairs}
+use Rattle.rules.specs.Limits.{buckets, max-buckets, max-places, max-id}
+use Rattle.rules.specs.Pairs.{Slots, ids-of, pairs}
 use Rattle.rules.specs.Format.{first-id, is-first, first-pairs, format}
-use Rattle.rules.proofs.Limits.{Limits}
+use Rattle.rules.proofs.Limits.{Limits, few-buckets}
+use Rattle.pairs.proofs.Facts.{pairs-length}
 use Rattle.codec.specs.Codec.{_&_}
 use Rattle.layout.specs.Disk.{Copies, Brick, blank-copies}
 use Rattle.layout.specs.Store.{brick-in, to-disk}
-use Rattle.format.specs.First.{first-agreed, agreed-in-turn, first-brick, first-place}
+use Rattle.format.specs.First.{agreed-in, first-brick, first-place}
 
--- m slots: slot k has brick k mod n, plus 1
-unfoldable in-turn : ℕ → ℕ → List ℕ
-in-turn n zero = []
-in-turn n (suc m) = in-turn n m ++ suc (m % n) ∷ []
+-- the ids of the bricks, as the code has them
+abbrev all-ids : List ℕ
+all-ids = 1 ∷ 2 ∷ 3 ∷ 4 ∷ 5 ∷ 6 ∷ 7 ∷ 8 ∷ []
 
-six : (m : ℕ) → m < 6 → pairs 16 (ids-of (3 + m) (λ i. true)) (replicate 32 0) ≡ in-turn (3 + m) 32
-unfolding in-turn _and_ _or_ among load ids-of preferred choose least-loaded kept keep-at fill-slot give-way in-order filled walked share pairs
-six zero h = refl
-six (suc zero) h = refl
-six (suc (suc zero)) h = refl
-six (suc (suc (suc zero))) h = refl
-six (suc (suc (suc (suc zero)))) h = refl
-six (suc (suc (suc (suc (suc zero))))) h = refl
-six (suc (suc (suc (suc (suc (suc m)))))) h = absurd (omega arith)
+pub ids-few : (n : ℕ) → length (take n all-ids) ≤ max-id
+ids-few n = omega (arith, length-take n all-ids)
 
-length-turn : (n m : ℕ) → length (in-turn n m) ≡ m
-unfolding in-turn
-length-turn n zero = refl
-length-turn n (suc m) = rw (length-append, length-turn n m) (omega arith)
+first-ids : (n : ℕ) → n ≤ max-places → take n all-ids ≡ ids-of n (λ i. true)
+unfolding ids-of
+first-ids zero h = refl
+first-ids (suc zero) h = refl
+first-ids (suc (suc zero)) h = refl
+first-ids (suc (suc (suc zero))) h = refl
+first-ids (suc (suc (suc (suc zero)))) h = refl
+first-ids (suc (suc (suc (suc (suc zero))))) h = refl
+first-ids (suc (suc (suc (suc (suc (suc zero)))))) h = refl
+first-ids (suc (suc (suc (suc (suc (suc (suc zero))))))) h = refl
+first-ids (suc (suc (suc (suc (suc (suc (suc (suc zero)))))))) h = refl
+first-ids (suc (suc (suc (suc (suc (suc (suc (suc (suc n))))))))) h = absurd (omega arith)
 
-turn-at : (n m k : ℕ) → k < m → getD (in-turn n m) k 0 ≡ k % n + 1
-unfolding in-turn
-turn-at n zero k h = absurd (omega arith)
-turn-at n (suc m) k h =
-    by-eq k m (λ _ e. rw e (getD-at (in-turn n m) (suc (m % n)) [] 0 m (length-turn n m) ∙ sym (add-one (m % n))))
-    (λ _ e. let l : k < m = omega arith in List·getD-append (in-turn n m) (suc (m % n) ∷ []) 0 k (rw (length-turn n m) l) ∙ turn-at n m k l)
+pub take-zeros : (n size : ℕ) → size ≤ n → take {A = ℕ} size (replicate n 0) ≡ replicate size 0
+take-zeros n zero h = refl
+take-zeros zero (suc size) h = absurd (omega arith)
+take-zeros (suc n) (suc size) h = ap (λ (l : List ℕ). 0 ∷ l) (take-zeros n size (omega arith))
+
+-- no bucket had a pair before
+pub no-pairs : (c : Settings) (n : ℕ) → n ≡ buckets c → take {A = ℕ} (2 * n - 0) (replicate (2 * max-buckets) 0) ≡ replicate (2 * buckets c) 0
+no-pairs c n e =
+    let k : 2 * n - 0 ≡ 2 * buckets c = omega arith in
+    rw k (take-zeros (2 * max-buckets) (2 * buckets c) (omega (arith, few-buckets c)))
+
+pub first-pairs-are : (c : Settings) → Limits c → (n : ℕ) → n ≡ buckets c → (last slots : Slots) → last ≡ replicate (2 * buckets c) 0
+    → slots ≡ pairs n (take (c .places) all-ids) last → slots ≡ first-pairs c
+unfolding first-pairs
+first-pairs-are c l n en last slots el e = e ∙ rw (en, el, first-ids (c .places) (l .places-to))
+
+pub first-pairs-long : (c : Settings) → length (first-pairs c) ≡ 2 * buckets c
+unfolding first-pairs
+first-pairs-long c = pairs-length _ _ _ ∙ length-replicate _ 0
 
 -- ---- in the state that format makes
-module _ (c : Settings) (l : Limits c) where
-  slots-are : first-pairs c ≡ in-turn (c .places) 32
-  unfolding first-pairs buckets
-  slots-are =
-      let e : 3 + (c .places - 3) ≡ c .places = omega (arith, l .places-from) in
-      subst (λ (n : ℕ). pairs 16 (ids-of n (λ i. true)) (replicate 32 0) ≡ in-turn n 32) e (six (c .places - 3) (omega (arith, l .places-to)))
+pub format-agreed : (c : Settings) (g : ℕ) → g < buckets c → to-disk (format c) .agreed g ≡ agreed-in (first-pairs c) g
+unfolding format
+format-agreed c g h = rw (lt-ltb g (buckets c) h)
 
-  slot-is : (k : ℕ) → k < 2 * buckets c → at (first-pairs c) k ≡ k % c .places + 1
-  unfolding buckets
-  slot-is k h = ap (λ (s : List ℕ). getD s k 0) slots-are ∙ turn-at (c .places) 32 k h
-
-  pub format-agreed : (g : ℕ) → g < buckets c → to-disk (format c) .agreed g ≡ agreed-in-turn (c .places) g
-  unfolding format
-  format-agreed g h =
-      rw (lt-ltb g (buckets c) h)
-      (ap₂ (λ (p b : ℕ). first-agreed p b) (slot-is (2 * g) (omega arith)) (slot-is (2 * g + 1) (omega arith)))
-
+module _ (c : Settings) where
   copies-none : (i g : ℕ) → brick-in (format c) i .copies g ≡ blank-copies
   unfolding format
   copies-none i g = by (ltb g (buckets c)) (λ q. rw q) (λ q. rw q)

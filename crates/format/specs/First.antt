@@ -1,8 +1,9 @@
 -- The parts of the state that format makes.
 use mathlib.Core.List.{[]}
 use mathlib.Core.Bool.{true, false}
-use Prim.Native.Nat.{ℕ, _+_, _*_, _%_}
+use Prim.Native.Nat.{ℕ, _+_, _*_}
 use Rattle.rules.specs.declared.settings.Settings.{Settings}
+use Rattle.rules.specs.Pairs.{Slots, at}
 use Rattle.codec.specs.Codec.{_&_}
 use Rattle.layout.specs.Disk.{Head, Agreed, Status, Brick, Place, blank-copies}
 
@@ -14,9 +15,9 @@ first-head c = record { settings = c; view = 1; given = c .places; started = c .
 abbrev pub first-agreed : ℕ → ℕ → Agreed
 first-agreed p b = record { primary = p; backup = b; last-primary = p; last-backup = b; ready = true; fetched = false; order = 0; taken = 0 }
 
--- the bricks take the slots of the pairs in turn
-abbrev pub agreed-in-turn : ℕ → ℕ → Agreed
-agreed-in-turn n g = first-agreed (2 * g % n + 1) ((2 * g + 1) % n + 1)
+-- the pairs are those in the slots
+abbrev pub agreed-in : Slots → ℕ → Agreed
+agreed-in slots g = first-agreed (at slots (2 * g)) (at slots (2 * g + 1))
 
 abbrev pub first-status : Status
 first-status = record { up = true; member = true; began = true; next = 0; ceiling = 0 }

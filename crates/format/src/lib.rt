@@ -1,10 +1,10 @@
 // Format: the first state, rendered over the lent bytes.
 ghost use mathlib.Core.Path.{_≡_};
 ghost use Prim.Native.Nat.{_+_, _*_, _<_, _≤_};
-ghost use lib.ListN.{length};
+ghost use lib.ListN.{length, replicate};
 ghost use Rattle.words.specs.Words.{words};
 ghost use Rattle.rules.specs.Limits.{buckets};
-ghost use Rattle.rules.specs.Format.{format};
+ghost use Rattle.rules.specs.Format.{first-pairs, format};
 ghost use Rattle.rules.proofs.Limits.{Limits};
 ghost use Rattle.codec.specs.Codec.{_&_};
 ghost use Rattle.layout.specs.Disk.{blank-proxy, blank-copies};
@@ -12,7 +12,7 @@ ghost use Rattle.layout.specs.Layout.{all-agreed-codec, proxy-codec, all-proxie
 ghost use Rattle.layout.specs.Layout.{agreed-words, proxy-words, copies-words, place-words};
 ghost use Rattle.layout.specs.Store.{render, store-bytes};
 ghost use Rattle.parts.specs.Parts.{agreed-of, status-of};
-ghost use Rattle.format.specs.First.{agreed-in-turn, new-brick, first-place};
+ghost use Rattle.format.specs.First.{first-agreed, agreed-in, new-brick, first-place};
 use layout::sizes;
 use parts::agreed::Agreed;
 use parts::head::Head;
@@ -21,14 +21,23 @@ use rules::constants;
 use rules::numbers::ViewNumber;
 use rules::settings::Settings;
 
-// Bucket g's record: the bricks take the slots of the pairs in turn.
-fn agreed_in_turn(settings: Settings, g: usize) -> Agreed
-    requires { ⌜ Limits settings × (g < buckets settings) ⌝ }
-    ensures { λ r. ⌜ agreed-of r ≡ agreed-in-turn (settings .places) g ⌝ }
+// the bricks' ids, in the order of their places
+const FIRST_IDS: [u64; Settings::MAX_PLACES] = [1, 2, 3, 4, 5, 6, 7, 8];
+
+// The pairs of the first view go into the slots: no bucket had a pair before.
+fn first_pairs(settings: Settings, slots: &mut [u64])
+    requires { ⌜ Limits settings × (now slots ≡ replicate (2 * buckets settings) 0) ⌝ }
+    ensures { λ _. ⌜ now (slots .exit) ≡ first-pairs settings ⌝ }
 {
-    let places = settings.places;
-    let primary = (2 * g % places + 1) as u64;
-    let backup = ((2 * g + 1) % places + 1) as u64;
+    let ids = FIRST_IDS;
+    let count = settings.places;
+    pairing::assign(&ids[0..count], slots, settings.buckets());
+}
+
+// A bucket's record: it is ready.
+fn first_agreed(primary: u64, backup: u64) -> Agreed
+    ensures { λ r. ⌜ agreed-of r ≡ first-agreed primary backup ⌝ }
+{
     Agreed {
         primary,
         backup,
@@ -41,16 +50,16 @@ fn agreed_in_turn(settings: Settings, g: usize) -> Agreed
     }
 }
 
-// All buckets' records.
-fn bucket_records(s: &mut [u8], settings: Settings)
-    requires { ⌜ Limits settings × (length (now s) ≡ 8 * (buckets settings * agreed-words)) ⌝ }
-    ensures { λ _. ⌜ words (now (s .exit)) ≡ all-agreed-codec settings .enc (agreed-in-turn (settings .places)) (words (now (s .entry))) ⌝ }
+// All buckets' records, with the pairs in the slots.
+fn bucket_records(s: &mut [u8], settings: Settings, slots: &[u64])
+    requires { ⌜ (length (now s) ≡ 8 * (buckets settings * agreed-words)) × (length (now slots) ≡ 2 * buckets settings) ⌝ }
+    ensures { λ _. ⌜ words (now (s .exit)) ≡ all-agreed-codec settings .enc (agreed-in (now (slots .entry))) (words (now (s .entry))) ⌝ }
 {
-    let count = sizes::buckets(settings);
+    let count = settings.buckets();
     let mut g = 0;
     while g < count {
         let at = 8 * words::offset(g, sizes::AGREED_WORDS, count);
-        let agreed = agreed_in_turn(settings, g);
+        let agreed = first_agreed(slots[2 * g], slots[2 * g + 1]);
         parts::agreed::write(&mut s[at..at + 8 * sizes::AGREED_WORDS], agreed);
         g += 1;
     }
@@ -92,7 +101,7 @@ fn all_copies(s: &mut [u8], settings: Settings)
     requires { ⌜ Limits settings × (length (now s) ≡ 8 * (buckets settings * copies-words settings)) ⌝ }
     ensures { λ _. ⌜ words (now (s .exit)) ≡ all-copies-codec settings .enc (λ g. blank-copies) (words (now (s .entry))) ⌝ }
 {
-    let count = sizes::buckets(settings);
+    let count = settings.buckets();
     let size = sizes::copies_words(settings);
     let mut g = 0;
     while g < count {
@@ -137,9 +146,9 @@ fn places(s: &mut [u8], settings: Settings)
     }
 }
 
-// The first state over a store of the right length.
-pub fn first_state(s: &mut [u8], settings: Settings)
-    requires { ⌜ Limits settings × (length (now s) ≡ store-bytes settings) ⌝ }
+// The first state, with the pairs in the slots.
+fn write(s: &mut [u8], settings: Settings, slots: &[u64])
+    requires { ⌜ Limits settings × (length (now s) ≡ store-bytes settings) × (now slots ≡ first-pairs settings) ⌝ }
     ensures { λ _. ⌜ words (now (s .exit)) ≡ render (format settings) (words (now (s .entry))) ⌝ }
 {
     let proxies_at = sizes::proxies_at(settings);
@@ -153,8 +162,31 @@ pub fn first_state(s: &mut [u8], settings: Settings)
         started: settings.places as u64,
     };
     parts::head::write(&mut s[0..8 * sizes::HEAD_WORDS], head);
-    bucket_records(&mut s[8 * sizes::HEAD_WORDS..8 * proxies_at], settings);
+    bucket_records(
+        &mut s[8 * sizes::HEAD_WORDS..8 * proxies_at],
+        settings,
+        slots,
+    );
     proxies(&mut s[8 * proxies_at..8 * bag_at]);
     words::write(s, bag_at, 0);
     places(&mut s[8 * places_at..end], settings);
+}
+
+// The same, with room for the pairs.
+fn write_in(s: &mut [u8], settings: Settings, slots: &mut [u64])
+    requires { ⌜ Limits settings × (length (now s) ≡ store-bytes settings) × (now slots ≡ replicate (2 * buckets settings) 0) ⌝ }
+    ensures { λ _. ⌜ words (now (s .exit)) ≡ render (format settings) (words (now (s .entry))) ⌝ }
+{
+    first_pairs(settings, slots);
+    write(s, settings, slots);
+}
+
+// The first state over a store of the right length.
+pub fn first_state(s: &mut [u8], settings: Settings)
+    requires { ⌜ Limits settings × (length (now s) ≡ store-bytes settings) ⌝ }
+    ensures { λ _. ⌜ words (now (s .exit)) ≡ render (format settings) (words (now (s .entry))) ⌝ }
+{
+    let used = 2 * settings.buckets();
+    let mut room = [0; pairing::MAX_SLOTS];
+    write_in(s, settings, &mut room[0..used]);
 }
