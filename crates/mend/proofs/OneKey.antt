@@ -1,24 +1,28 @@
 -- What becomes of one key, as the code decides it.
-use mathlib.Core.Path.{_≡_, sym, ap, subst, _∙_}
+use mathlib.Core.Path.{_≡_, sym, ap, _∙_}
 use mathlib.Core.Bool.{true, false}
 use mathlib.Core.List.{List, [], _∷_}
-use Prim.Native.Nat.{ℕ}
+use Prim.Native.Nat.{ℕ, _<_}
 use native.Mathlib.Omega.{arith}
 use lib.ListN.{length, length-append}
 use Rattle.lists.specs.Runs.{Below}
 use Rattle.words.specs.Words.{words}
 use Rattle.rules.specs.declared.settings.Settings.{Settings}
+use Rattle.rules.specs.Numbers.{home-of}
 use Rattle.rules.specs.Chunks.{Chunk, chunk, held, bytes-in, append, save-key}
 use Rattle.rules.specs.State.{State}
-use Rattle.log.specs.Answers.{FoundAt}
-use Rattle.layout.specs.Store.{decode, render}
-use Rattle.lent.proofs.Logs.{log-changed}
-use Rattle.transfer.specs.Brings.{Brings, brought}
+use Rattle.rules.specs.Parts.{circle, holder}
+use Rattle.rules.proofs.Parts.{seek-held}
+use Rattle.log.specs.Log.{chunk-at}
+use Rattle.log.proofs.Rules.{found-bytes}
+use Rattle.layout.specs.Store.{decode}
+use Rattle.lent.proofs.Stores.{facts}
+use Rattle.holders.proofs.Contents.{held-size}
 use Rattle.mend.specs.Fit.{with-log-at, log-of, Mends, key-mended}
 use Rattle.mend.specs.Keys.{wants}
 use Rattle.mend.specs.Acts.{Lacking}
 use Rattle.mend.proofs.Mending.{key-none, key-saved, key-added}
-use Rattle.mend.proofs.OnStore.{stands, log-still}
+use Rattle.mend.proofs.OnStore.{log-still}
 
 module _ (c : Settings) (bs : List ℕ) (p k : ℕ) (m : Mends c bs p k) where
   abbrev s : State
@@ -35,27 +39,36 @@ module _ (c : Settings) (bs : List ℕ) (p k : ℕ) (m : Mends c bs p k) where
       → vs ≡ with-log-at c p (key-mended p k (words bs)) (words bs)
   saved w h vs q = q ∙ ap (λ (l : List Chunk). with-log-at c p l (words bs)) (sym (key-saved s (s .ids p) log k w h))
 
+  -- the chunk comes from the place and row where it lies with its holder
   module _ (from row : ℕ) (o : Lacking c s (s .ids p) k from row) where
     abbrev bytes : List ℕ
-    bytes = bytes-in (log-of from (words bs)) k
+    bytes = bytes-in (s .bricks .log (holder s k)) k
 
     grown : key-mended p k (words bs) ≡ append log (chunk k true bytes)
-    grown =
-        key-added s (s .ids p) log k (o .wanted) (o .missing)
-        ∙ ap (λ (i : ℕ). append log (chunk k true (bytes-in (s .bricks .log i) k))) (sym (o .from .stands .here))
+    grown = key-added s (s .ids p) log k (o .wanted) (o .missing)
 
-    pub brings : Brings c bs from row p k
-    brings = record {
-      store = m .there .store;
-      from-in = o .from .stands .inside;
-      from-filled = rw (o .from .stands .here) (o .from .stands .some);
-      found = subst (λ (i : ℕ). FoundAt (s .bricks .log i) k row) (sym (o .from .stands .here)) (o .from .found);
-      to-in = m .there .inside;
-      to-filled = stands c bs p (m .there);
-      room = omega (arith, m .room, ap length grown ∙ length-append log (chunk k true bytes ∷ []));
-    }
+    pub some-room : length log < c .chunks
+    some-room = omega (arith, m .room, ap length grown ∙ length-append log (chunk k true bytes ∷ []))
 
-    pub added : (vs : List ℕ) → vs ≡ render (brought s from p k true) (words bs) → vs ≡ with-log-at c p (key-mended p k (words bs)) (words bs)
-    added vs q =
-        q ∙ log-changed c bs (m .there .store) p (m .there .inside) (stands c bs p (m .there)) (append log (chunk k true bytes))
-        ∙ ap (λ (l : List Chunk). with-log-at c p l (words bs)) (sym grown)
+    pub row-lies : (from < c .places) × (0 < s .ids from) × (row < length (log-of from (words bs)))
+    row-lies =
+        let at = o .from in
+        let same = ap (λ (i : ℕ). length (s .bricks .log i)) (at .stands .here) in
+        (at .stands .inside, rw (at .stands .here) (at .stands .some), omega (arith, at .found .in-use))
+
+    row-bytes : chunk-at (log-of from (words bs)) row .bytes ≡ bytes
+    row-bytes =
+        let id = holder s k in
+        let at = o .from in
+        ap (λ (i : ℕ). chunk-at (s .bricks .log i) row .bytes) (at .stands .here)
+        ∙ sym (found-bytes k (s .bricks .log id) row (facts c bs (m .there .store) .logs id .apart) (at .found .in-use) (at .found .same))
+
+    pub row-whole : length (chunk-at (log-of from (words bs)) row .bytes) ≡ c .size
+    row-whole =
+        ap length row-bytes
+        ∙ held-size c bs (m .there .store) (holder s k) k (unfold holder in seek-held (s .bricks) k (circle s (home-of k)) (o .from .stands .some))
+
+    pub added : (d vs : List ℕ) → d ≡ chunk-at (log-of from (words bs)) row .bytes → vs ≡ with-log-at c p (append log (chunk k true d)) (words bs)
+        → vs ≡ with-log-at c p (key-mended p k (words bs)) (words bs)
+    added d vs e q =
+        q ∙ ap (λ (l : List Chunk). with-log-at c p l (words bs)) (ap (λ (x : List ℕ). append log (chunk k true x)) (e ∙ row-bytes) ∙ sym grown)

@@ -1,8 +1,12 @@
-// A chunk on a place's part, which is all of the store that the function gets.
+// A chunk on a place's part, which is all of the store that these functions get.
 ghost use mathlib.Core.Path.{_≡_};
-ghost use lib.ListN.{length};
+ghost use mathlib.Core.Bool.{true};
+ghost use Prim.Native.Nat.{_<_};
+ghost use lib.ListN.{length, getD};
+ghost use Rattle.lists.specs.Runs.{run};
 ghost use Rattle.words.specs.Words.{words};
-ghost use Rattle.rules.specs.Chunks.{save-key};
+ghost use Rattle.rules.specs.Chunks.{chunk, append, save-key};
+ghost use Rattle.layout.specs.Layout.{log-words, log-at};
 ghost use Rattle.lent.specs.Places.{PlaceLog};
 ghost use Rattle.mend.specs.Fit.{change-log};
 use layout::sizes;
@@ -21,5 +25,24 @@ pub fn save_chunk(part: &mut [u8], settings: Settings, key: ChunkKey)
         settings.chunks,
         settings.size / sizes::WORD_BYTES,
         key,
+    );
+}
+
+// The chunk comes in saved, after the others.
+pub fn append_saved(part: &mut [u8], settings: Settings, key: ChunkKey, bytes: &[u8])
+    requires { ⌜ PlaceLog settings (words (now part)) (length (now part)) ⌝ }
+    requires { ⌜ (getD (run (log-at settings) (log-words settings) (words (now part))) 0 0 < settings .chunks) × (length (now bytes) ≡ settings .size) ⌝ }
+    ensures { λ _. ⌜ words (now (part .exit))
+        ≡ change-log settings (λ l. append l (chunk (key .0) true (now (bytes .entry)))) (words (now (part .entry))) ⌝ }
+{
+    let a = 8 * sizes::log_at(settings);
+    let e = a + 8 * sizes::log_words(settings);
+    log::append(
+        &mut part[a..e],
+        settings.chunks,
+        settings.size / sizes::WORD_BYTES,
+        key,
+        true,
+        bytes,
     );
 }

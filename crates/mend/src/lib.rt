@@ -21,9 +21,15 @@ pub mod chunk;
 pub mod effect;
 pub mod room;
 
-// The place gets them all, or none where there is no room. `tables` has room for where the named entries lie.
-fn mend_in(store: &mut [u8], settings: Settings, place: usize, tables: &mut [usize]) -> bool
-    requires { ⌜ UpAt settings (now store) place × (length (now tables) ≡ buckets settings) ⌝ }
+// The place gets them all, or none where there is no room. `tables` has room for where the named entries lie, `area` for a chunk's bytes on their way.
+fn mend_in(
+    store: &mut [u8],
+    settings: Settings,
+    place: usize,
+    tables: &mut [usize],
+    area: &mut [u8],
+) -> bool
+    requires { ⌜ UpAt settings (now store) place × (length (now tables) ≡ buckets settings) × (length (now area) ≡ settings .size) ⌝ }
     ensures { λ r. ⌜ (r ≡ leb (length (mended (decode (words (now (store .entry)))) (decode (words (now (store .entry))) .ids place))) (settings .chunks))
         × (words (now (store .exit))
         ≡ cond r (render (mend-effect (decode (words (now (store .entry)))) (decode (words (now (store .entry))) .ids place)) (words (now (store .entry))))
@@ -33,7 +39,7 @@ fn mend_in(store: &mut [u8], settings: Settings, place: usize, tables: &mut [usi
     if !room::has_room(store, settings, place, tables) {
         return false;
     }
-    effect::mend_all(store, settings, place, tables);
+    effect::mend_all(store, settings, place, tables, area);
     true
 }
 
@@ -47,7 +53,15 @@ pub fn mend(store: &mut [u8], settings: Settings, place: u64) -> Answer
     }
     let count = settings.buckets();
     let mut tables = [0usize; constants::MAX_BUCKETS];
-    if mend_in(store, settings, place as usize, &mut tables[0..count]) {
+    let size = settings.size;
+    let mut area = [0u8; Settings::MAX_SIZE];
+    if mend_in(
+        store,
+        settings,
+        place as usize,
+        &mut tables[0..count],
+        &mut area[0..size],
+    ) {
         return Answer::Yes(0);
     }
     Answer::No(10)

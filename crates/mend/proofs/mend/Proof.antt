@@ -45,20 +45,29 @@ part-tables-start c = search needs
 part-tables-end : tie.Need-part-tables-end
 part-tables-end c = omega (arith, few-buckets (c .before .before .before .before .before .before .args .settings), c .before .buckets .ensures)
 
+sub-mend-in-2 : tie.Need-sub-mend-in-2
+sub-mend-in-2 c = search needs
+
+part-area-start : tie.Need-part-area-start
+part-area-start c = search needs
+
+part-area-end : tie.Need-part-area-end
+part-area-end c = omega (arith, c .before .before .before .before .before .before .before .pre .limits .size-to)
+
 mend-in-requires : tie.Need-mend-in-requires
 mend-in-requires c κs =
-    let else = c .before .before .before in
+    let else = c .before .before .before .before in
     let b = else .before .before .before .before in
     let y = place-yes (b .args .settings) (b .args .store .now) (b .pre) (b .args .place) (asked else) in
-    (record { store = b .pre; inside = y .inside; up = y .up }, search needs)
+    (record { store = b .pre; inside = y .inside; up = y .up }, search needs, search needs)
 
 same-length-2 : tie.Need-same-length-2
 same-length-2 c = search needs
 
 returns-2 : tie.Need-returns-2
 returns-2 c =
-    let m = c .before .before .before .before in
-    let else = m .before .before .before .before in
+    let m = c .before .before .before .before .before in
+    let else = m .before .before .before .before .before in
     done _ _ (else .before .before .before .before .pre) _ (asked else) _ (m .mend-in .ensures .0) _ (m .mend-in .ensures .1) (c .if2 .taken)
 
 same-length-3 : tie.Need-same-length-3
@@ -66,8 +75,8 @@ same-length-3 c = search needs
 
 returns-3 : tie.Need-returns-3
 returns-3 c =
-    let m = c .before .before .before .before in
-    let else = m .before .before .before .before in
+    let m = c .before .before .before .before .before in
+    let else = m .before .before .before .before .before in
     full _ _ (else .before .before .before .before .pre) _ (asked else) _ (m .mend-in .ensures .0) _ (m .mend-in .ensures .1) (c .if2 .left)
 
 pub mend-spec : {M : Type 1} → statement M
@@ -81,6 +90,9 @@ mend-spec =
     sub-mend-in
     part-tables-start
     part-tables-end
+    sub-mend-in-2
+    part-area-start
+    part-area-end
     mend-in-requires
     same-length-2
     returns-2

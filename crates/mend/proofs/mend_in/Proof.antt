@@ -21,12 +21,15 @@ returns c = (sym (not-true _ (c .if1 .taken)) ∙ c .before .has-room .ensures, 
 
 mend-all-requires : tie.Need-mend-all-requires
 mend-all-requires c κs =
-    let i = c .before .before in
-    record {
-      there = c .before .before .before .before .before .before .before .before .before .before .before .before .before .pre .0;
-      known = c .before .before .before .before .before .before .before .before .all-named .ensures;
-      room = leb-true _ _ (sym (i .before .has-room .ensures) ∙ not-false _ (i .if1 .left));
-    }
+    let i = c .before .before .before in
+    let s = c .before .before .before .before .before .before .before .before .before .before .before .before .before .before .before in (
+      record {
+        there = s .pre .0;
+        known = c .before .before .before .before .before .before .before .before .before .all-named .ensures;
+        room = leb-true _ _ (sym (i .before .has-room .ensures) ∙ not-false _ (i .if1 .left));
+      },
+      s .pre .2,
+    )
 
 same-length-3 : tie.Need-same-length-3
 same-length-3 c = search needs
@@ -34,10 +37,13 @@ same-length-3 c = search needs
 same-length-4 : tie.Need-same-length-4
 same-length-4 c = search needs
 
+same-length-5 : tie.Need-same-length-5
+same-length-5 c = search needs
+
 returns-2 : tie.Need-returns-2
 returns-2 c =
-    let i = c .before .before .before .before .before in
-    (sym (not-false _ (i .if1 .left)) ∙ i .before .has-room .ensures, c .before .before .mend-all .ensures)
+    let i = c .before .before .before .before .before .before .before .before in
+    (sym (not-false _ (i .if1 .left)) ∙ i .before .has-room .ensures, c .before .before .before .before .mend-all .ensures)
 
 pub mend-in-spec : {M : Type 1} → statement M
 mend-in-spec =
@@ -51,4 +57,5 @@ mend-in-spec =
     mend-all-requires
     same-length-3
     same-length-4
+    same-length-5
     returns-2)

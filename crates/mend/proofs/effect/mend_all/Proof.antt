@@ -1,4 +1,4 @@
-use mathlib.Core.Path.{_≡_, refl}
+use mathlib.Core.Path.{_≡_, refl, sym, _∙_}
 use Prim.Native.Nat.{_-_, _≤_}
 use native.Mathlib.Omega.{arith}
 use lib.ListN.{length}
@@ -14,39 +14,42 @@ use Rattle.mend.proofs.effect.mend_all.Statement.{statement}
 use Rattle.mend.proofs.effect.mend_all.Tie as tie
 
 abbrev Inv-loop : tie.InvT-loop
-Inv-loop store₀ settings place tables count bucket₀ store bucket =
-    (bucket ≤ count) × (count ≡ buckets settings) × (length store ≡ length store₀)
+Inv-loop store₀ settings place tables area₀ count bucket₀ store area bucket =
+    (bucket ≤ count) × (count ≡ buckets settings) × (length store ≡ length store₀) × (length area ≡ settings .size)
     × (words store ≡ with-log-at settings place (mend-buckets (decode (words store₀)) (decode (words store₀) .ids place) bucket) (words store₀))
 
 abbrev μ-loop : tie.MeasureT-loop
-μ-loop store₀ settings place tables count bucket₀ store bucket = count - bucket
+μ-loop store₀ settings place tables area₀ count bucket₀ store area bucket = count - bucket
 
 buckets-requires : tie.Need-buckets-requires Inv-loop μ-loop
 buckets-requires c κs = search needs
 
 loop-holds : tie.Need-loop-holds Inv-loop μ-loop
 loop-holds c =
-    let k = c .before .before in
+    let k = c .before .before .before in
     let s = k .before in
     let a = s .args in (
       search needs,
       search needs,
       refl,
-      buckets-start (a .settings) (a .store .now) (a .place) (a .tables .now) (s .pre) (below-of 256 (a .store .now) (λ i. k .slice-known .given i .fits)),
+      s .pre .1,
+      buckets-start (a .settings) (a .store .now) (a .place) (a .tables .now) (s .pre .0) (below-of 256 (a .store .now) (λ i. k .slice-known .given i .fits)),
     )
 
 mul-mend-named : tie.Need-mul-mend-named Inv-loop μ-loop
 mul-mend-named c = search needs
 
 shared-slice-read-mend-named : tie.Need-shared-slice-read-mend-named Inv-loop μ-loop
-shared-slice-read-mend-named c = omega (arith, c .before .before .before .before .before .before .before .pre .known .many)
+shared-slice-read-mend-named c = omega (arith, c .before .before .before .before .before .before .before .before .pre .0 .known .many)
 
 mend-named-requires : tie.Need-mend-named-requires Inv-loop μ-loop
 mend-named-requires c κs =
-    let l = c .before .before .before in
-    let s = l .before .before .before .before in
-    let a = s .args in
-    bucket-mends (a .settings) (a .store .now) (a .place) (a .tables .now) (s .pre) (l .loop .bucket) (omega arith) _ (l .loop .inv .2) (l .loop .inv .3)
+    let l = c .before .before .before .before in
+    let s = l .before .before .before .before .before in
+    let a = s .args in (
+      bucket-mends (a .settings) (a .store .now) (a .place) (a .tables .now) (s .pre .0) (l .loop .bucket) (omega arith) _ (l .loop .inv .2) (l .loop .inv .4),
+      l .loop .inv .3,
+    )
 
 add-bucket : tie.Need-add-bucket Inv-loop μ-loop
 add-bucket c = search needs
@@ -56,26 +59,30 @@ loop-less c = search needs
 
 loop-again : tie.Need-loop-again Inv-loop μ-loop
 loop-again c =
-    let m = c .before .before in
-    let l = m .before .before .before .before in
-    let s = l .before .before .before .before in
+    let m = c .before .before .before .before in
+    let l = m .before .before .before .before .before in
+    let s = l .before .before .before .before .before in
     let a = s .args in (
       search needs,
       search needs,
       search needs,
-      buckets-turn (a .settings) (a .store .now) (a .place) (a .tables .now) (s .pre) (l .loop .bucket) (omega arith) _ (l .loop .inv .2) (l .loop .inv .3) _
+      search needs,
+      buckets-turn (a .settings) (a .store .now) (a .place) (a .tables .now) (s .pre .0) (l .loop .bucket) (omega arith) _ (l .loop .inv .2) (l .loop .inv .4) _
           (m .mend-named .ensures),
     )
 
 same-length : tie.Need-same-length Inv-loop μ-loop
 same-length c = search needs
 
+same-length-2 : tie.Need-same-length-2 Inv-loop μ-loop
+same-length-2 c = c .before .loop .inv .3 ∙ sym (c .before .before .before .before .before .before .pre .1)
+
 returns : tie.Need-returns Inv-loop μ-loop
 returns c =
     let l = c .before in
-    let s = l .before .before .before .before in
+    let s = l .before .before .before .before .before in
     let a = s .args in
-    buckets-end (a .settings) (a .store .now) (a .place) (a .tables .now) (s .pre) (l .loop .bucket) _ (omega arith) (l .loop .inv .3)
+    buckets-end (a .settings) (a .store .now) (a .place) (a .tables .now) (s .pre .0) (l .loop .bucket) _ (omega arith) (l .loop .inv .4)
 
 pub mend-all-spec : {M : Type 1} → statement M
 mend-all-spec =
@@ -92,4 +99,5 @@ mend-all-spec =
     loop-less
     loop-again
     same-length
+    same-length-2
     returns)
