@@ -163,7 +163,7 @@ module _ (s : State) (h : History) (v : Aged s h) (o : Sound s) (n : ℕ) (y : Y
 
   in-bag : List·Memᴰ relay (s .bag)
   unfolding rule
-  in-bag = getD-in (s .bag) n blank-relay (ltb-true _ _ (y .0))
+  in-bag = getD-in (s .bag) n blank-relay (search ltb-true)
 
   home : bucket-of (buckets (s .settings)) (relay .block) ≡ relay .bucket
   home = o .relays relay in-bag .bucket
@@ -186,7 +186,7 @@ module _ (s : State) (h : History) (v : Aged s h) (o : Sound s) (n : ℕ) (y : Y
         let u = v .buckets (relay .bucket) inside in
         let f = u .flight in
         let ready : its .ready ≡ true = u .queue .while-ready relay it-flies in
-        let here = member-here o (its .backup) (if-so (is-taken s n) _ (y .1 .0) due) in
+        let here = member-here o (its .backup) (if-so (is-taken s n) _ (search) due) in
         let apart : its .primary ≡ its .backup → ⊥ = o .buckets-ok (relay .bucket) inside .pair .apart in
         let floor = u .copies .memory (its .backup) (backup-relied its (u .same ready) here) (relay .block) .floor home in
         let l = insert (its .memory (its .backup)) (relay .block) (relay .key) in

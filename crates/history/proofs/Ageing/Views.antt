@@ -40,7 +40,7 @@ source-relied s o g =
 pub ready-relied : (s : State) → Sound s → (g : ℕ) → Yes s (Event.ready g) → ReliedOn (s .bricks .here) (s .bucket g) (s .bucket g .primary)
 unfolding rule
 ready-relied s o g y =
-    let fetched : s .bucket g .fetched ≡ true = search in record { present = member-here o _ (y .1 .0); role = inr (inr (fetched, refl)) }
+    let fetched : s .bucket g .fetched ≡ true = search in record { present = member-here o (s .bucket g .primary) (search); role = inr (inr (fetched, refl)) }
 
 module _ (s : State) (h : History) (v : Aged s h) where
   -- ---- view: no relay is of the new one
@@ -204,5 +204,5 @@ module _ (s : State) (h : History) (v : Aged s h) where
     pub ready-aged : Yes s (Event.ready g) → Aged (rule s (Event.ready g) .after) h
     unfolding rule ready-effect
     ready-aged y =
-        let z = ltb-true _ _ (y .0) in
+        let z : g < buckets (s .settings) = search ltb-true in
         moves-aged v (v .relays) (upd-all (AgeOf (rule s (Event.ready g) .after) h) (s .bucket) g _ (rested z) (λ _. readied z y))

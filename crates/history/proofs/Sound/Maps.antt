@@ -4,15 +4,17 @@ use mathlib.Core.List.{List, [], _∷_, _++_}
 use mathlib.Core.Bool.{true}
 use Prim.Native.Nat.{ℕ, _<_}
 use native.Mathlib.Omega.{arith}
+use lib.Dec.{ltb}
 use lib.ListN.{length, length-append}
 use borrow.Author.Tests.{ltb-true}
+use Rattle.lists.specs.Tests.{_or_}
 use Rattle.lists.proofs.Columns.{upd-blank}
 use Rattle.lists.proofs.Tests.{either, and-l, or-second, if-so, one-more, getD-in}
-use Rattle.rules.specs.Limits.{buckets, max-relays, max-number}
-use Rattle.rules.specs.Entries.{Entry, entry, has, remove}
+use Rattle.rules.specs.Limits.{buckets, max-relays, max-waiting, max-number}
+use Rattle.rules.specs.Entries.{Entry, entry, has, remove, takes}
 use Rattle.rules.specs.State.{State, blank-relay, blank-bucket, with-copies}
-use Rattle.rules.specs.Parts.{bucket-at, primary-memory, item}
-use Rattle.rules.specs.Question.{AllYes, is-proxy}
+use Rattle.rules.specs.Parts.{up-member, bucket-at, primary-memory, backup-memory, item}
+use Rattle.rules.specs.Question.{AllYes, is-proxy, primary-up, has-item}
 use Rattle.rules.specs.Maps.{map-asks, map-effect, send-asks, new-relay, send-effect, relay-at, is-taken, deliver-asks, remove-at, deliver-effect, drop-effect}
 use Rattle.rules.specs.Maps.{savemap-asks, saved-bucket, savemap-effect, item-goes, learn-effect, reset-effect}
 use Rattle.rules.proofs.Entries.{has-entry}
@@ -36,19 +38,20 @@ module _ {s : State} (v : Sound s) where
   map-sound p b y =
       let k = bucket-at s b in
       let x = k .primary in
-      let up = y .1 .1 .1 .1 .0 in
-      let has-item = y .1 .1 .1 .1 .1 .1 .1 .0 in
+      let up : primary-up s b ≡ true = search in
+      let with-item : has-item s p b ≡ true = search in
       let inside = bucket-below (s .settings) b in
       let f = v .buckets-ok _ inside in
       let g = groups v in
       either Sound (k .ready)
       (λ ready.
-      let room = if-so _ _ (y .1 .1 .1 .1 .1 .1 .1 .1 .0) ready in
-      let memory = one-memory (copies f) x (member-here v x up) (and-l _ _ up) (table-insert b _ (f .memory x) room (item-ok p b has-item refl)) in
+      let room : takes (s .settings .entries) (primary-memory k) b ≡ true = if-so (k .ready) _ (search) ready in
+      let memory = one-memory (copies f) x (member-here v x up) (and-l _ _ up) (table-insert b _ (f .memory x) room (item-ok p b with-item refl)) in
       new-parts v (g .logs) (g .buffers) (one-bucket (g .bucket) _ inside (new-copies f memory)) (g .bag) (g .items) (g .known))
       (λ unready.
-      let room = ltb-true _ _ (or-second _ _ (y .1 .1 .1 .1 .1 .1 .1 .1 .1 .0) unready) in
-      let buffer = one-buffer (g .buffers) x (and-l _ _ up) (buffer-append _ (v .buffers x) room (item-ok p b has-item tt)) in
+      let few : (k .ready or ltb (length (s .bricks .buffer x)) max-waiting) ≡ true = search in
+      let room = ltb-true _ _ (or-second _ _ few unready) in
+      let buffer = one-buffer (g .buffers) x (and-l _ _ up) (buffer-append _ (v .buffers x) room (item-ok p b with-item tt)) in
       new-parts v (g .logs) buffer (g .bucket) (g .bag) (g .items) (g .known))
 
   -- ---- send
@@ -58,12 +61,12 @@ module _ {s : State} (v : Sound s) where
       let k = bucket-at s b in
       let inside = bucket-below (s .settings) b in
       let f = v .buckets-ok _ inside in
-      let t = has-entry (primary-memory k) b (y .1 .1 .1 .1 .1 .0) in
+      let t = has-entry (primary-memory k) b search in
       let e = f .memory (k .primary) .each (t .0) (t .1) in
-      let room : length (s .bag) < max-relays = ltb-true _ _ (y .1 .1 .1 .0) in
-      let few : k .order < max-number = ltb-true _ _ (y .1 .1 .1 .1 .0) in
+      let room : length (s .bag) < max-relays = search ltb-true in
+      let few : k .order < max-number = search ltb-true in
       let new : RelayOk (KeyOf s) (buckets (s .settings)) (new-relay s b)
-      = record { view = v .view-last; bucket = refl; order = few; small = ltb-true _ _ (y .0); key = rw (t .3) (e .key) } in
+      = record { view = v .view-last; bucket = refl; order = few; small = search ltb-true; key = rw (t .3) (e .key) } in
       let bag : BagOk (KeyOf s) (buckets (s .settings)) (s .bag ++ (new-relay s b ∷ []))
       = record {
         room = omega (arith, length-append (s .bag) (new-relay s b ∷ []));
@@ -89,11 +92,11 @@ module _ {s : State} (v : Sound s) where
       let g = groups v in
       either Sound (is-taken s n)
       (λ taken.
-      let o = v .relays r (getD-in (s .bag) n blank-relay (ltb-true _ _ (y .0))) in
+      let o = v .relays r (getD-in (s .bag) n blank-relay (search ltb-true)) in
       let inside : r .bucket < buckets (s .settings) = rw (o .bucket) at (bucket-below (s .settings) (r .block)) in
       let f = v .buckets-ok (r .bucket) inside in
-      let up = if-so _ _ (y .1 .0) taken in
-      let room = if-so _ _ (y .1 .1 .0) taken in
+      let up : up-member s x ≡ true = if-so (is-taken s n) _ (search) taken in
+      let room : takes (s .settings .entries) (backup-memory k) (r .block) ≡ true = if-so (is-taken s n) _ (search) taken in
       let new = table-insert (r .block) (r .key) (f .memory x) room (record { mine = o .bucket; small = o .small; key = o .key }) in
       let memory = one-memory (copies f) x (member-here v x up) (and-l _ _ up) new in
       let bucket = one-bucket (g .bucket) (r .bucket) inside (bucket-ok (f .pair) (f .last) (f .order) (o .order) memory) in
@@ -105,7 +108,7 @@ module _ {s : State} (v : Sound s) where
   unfolding savemap-effect
   savemap-sound i y =
       let x = s .ids i in
-      let up = y .1 .0 in
+      let up : up-member s x ≡ true = search in
       let g = groups v in
       let bucket = all-buckets (g .bucket) (saved-bucket x) (ap (λ (d : ℕ → List Entry). with-copies blank-bucket (λ i. []) d) (upd-blank [] x))
       (λ g o. new-copies o (one-disk (copies o) x (member-here v x up) (and-l _ _ up) (o .memory x))) in

@@ -108,7 +108,7 @@ module _ {s : State} (v : Sound s) where
       let x = s .ids i in
       let b = v .bricks in
       let g = groups v in
-      let here : k .here x ≡ true = b .up-here x (y .1 .0) in
+      let here : k .here x ≡ true = b .up-here x (search) in
       let more : (j : ℕ) → KeyOf s j → KeyOk (s .given) (k .here) (upd (k .next) x (k .ceiling x)) j = λ j. next-grows x _ (v .numbers .below x) in
       let logs = logs-map (g .logs) more in
       from-groups (record {
@@ -159,7 +159,7 @@ module _ {s : State} (v : Sound s) where
       let x = s .ids i in
       let b = v .bricks in
       let g = groups v in
-      let first = occupied i (y .1 .0) in
+      let first = occupied i (search) in
       let more : (j : ℕ) → KeyOf s j → KeyOk (s .given) (upd (k .here) x false) (upd (k .next) x 0) j
       = λ j. key-stays j (omega arith)
       (λ i _ z. let n = unflag (k .here) x i z in (n .0, omega (arith, upd-other (k .next) x i 0 (n .1)))) in
@@ -212,7 +212,7 @@ module _ {s : State} (v : Sound s) where
           stands = b .stands;
           somewhere = b .somewhere;
           first = b .first;
-          up-here = upd-all (λ j m. m ≡ true → k .here j ≡ true) (k .up) x true (b .up-here) (λ _. b .stands i (occupied i (and-l _ _ (y .1 .0))));
+          up-here = upd-all (λ j m. m ≡ true → k .here j ≡ true) (k .up) x true (b .up-here) (λ _. b .stands i (occupied i (search and-l)));
           member-up = upd-all (λ j m. k .member j ≡ true → m ≡ true) (k .up) x true (b .member-up) (λ _. refl);
           began-here = b .began-here;
         };
@@ -270,8 +270,8 @@ module _ {s : State} (v : Sound s) where
       let x = fresh in
       let b = v .bricks in
       let g = groups v in
-      let few : s .given < max-id = ltb-true _ _ (y .1 .0) in
-      let inside : i < s .settings .places = ltb-true _ _ (y .0) in
+      let few : s .given < max-id = search ltb-true in
+      let inside : i < s .settings .places = search ltb-true in
       let more : (j : ℕ) → KeyOf s j → KeyOk x (upd (k .here) x true) (upd (k .next) x 0) j
       = λ j. key-stays j (omega arith)
       (λ i l z.
@@ -285,7 +285,7 @@ module _ {s : State} (v : Sound s) where
           born = upd-all (λ _ m. m ≤ x) (s .ids) i x (λ p. omega (arith, b .born p)) (omega arith);
           apart = join-apart i;
           stands = join-stands i;
-          somewhere = join-somewhere i inside (eqb-true (s .ids i) 0 (y .1 .1 .0));
+          somewhere = join-somewhere i inside (search eqb-true);
           first = upd-all (λ j m. m ≡ true → 0 < j) (k .here) x true (b .first) (λ _. omega arith);
           up-here = upd-implies (k .up) (k .here) x true true (λ z. z) (b .up-here);
           member-up = upd-implies (k .member) (k .up) x false true impossible (b .member-up);

@@ -23,8 +23,8 @@ module _ {s : State} (v : Sound s) where
   pub mend-sound : (i : ℕ) → AllYes (mend-asks s i) → Sound (mend-effect s (s .ids i))
   unfolding mend-effect save-key
   mend-sound i y =
-      log-sound v _ (y .1 .0) (mend-keeps s (s .ids i) Log (λ l k o. log-save o _) (λ l k n h o. log-append o _ n (held-ok v _ k true h)) (v .logs (s .ids i)))
-      (leb-true _ _ (y .1 .1 .0))
+      log-sound v (s .ids i) (search) (mend-keeps s (s .ids i) Log (λ l k o. log-save o _) (λ l k n h o. log-append o _ n (held-ok v _ k true h)) (v .logs (s .ids i)))
+      (search leb-true)
 
   -- ---- collect
   pub collect-sound : (i : ℕ) → AllYes (collect-asks s i) → Sound (collect-effect s (s .ids i))
@@ -32,4 +32,4 @@ module _ {s : State} (v : Sound s) where
   collect-sound i y =
       let x = s .ids i in
       let named : Chunk → Bool = λ c. is-named s (c .key) in
-      log-sound v x (y .1 .0) (log-only (v .logs x) named) (omega (arith, length-only named (s .bricks .log x), v .log-room x))
+      log-sound v x (search) (log-only (v .logs x) named) (omega (arith, length-only named (s .bricks .log x), v .log-room x))

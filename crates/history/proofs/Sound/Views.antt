@@ -61,7 +61,7 @@ module _ {s : State} (v : Sound s) where
       let first : (p : ℕ) → is-up s p ≡ true → 0 < s .ids p = λ p z. b .first _ (b .up-here _ z) in
       let up-in : (p : ℕ) → is-up s p ≡ true → List·Memᴰ (s .ids p) (ids-of (s .given) (s .bricks .up))
       = λ p z. in-ids (s .given) (s .bricks .up) (s .ids p) (first p z) (b .born p) z in
-      let two : 1 < count-below n (is-up s) = ltb-true _ _ (y .1 .0) in
+      let two : 1 < count-below n (is-up s) = search ltb-true in
       let t = count-one n (is-up s) (omega arith) in
       let u = count-two n (is-up s) (t .0) two in
       let members = two-members (s .given) (s .bricks .up) (s .ids (t .0)) (s .ids (u .0)) (up-in (t .0) (t .2)) (up-in (u .0) (u .2))
@@ -97,7 +97,7 @@ module _ {s : State} (v : Sound s) where
         };
         numbers = v .numbers;
         view-first = omega arith;
-        view-last = ltb-true (s .view) max-number (y .0);
+        view-last = search ltb-true;
         started = count-at-most (s .settings .places) (is-up s);
         logs = g .logs;
         buffers = record { each = λ i. buffer-none; down = λ i _. refl };
@@ -114,11 +114,11 @@ module _ {s : State} (v : Sound s) where
   pub fetch-sound : (g : ℕ) → AllYes (fetch-asks s g) → Sound (fetch-effect s g)
   unfolding fetch-effect
   fetch-sound g y =
-      let inside = ltb-true _ _ (y .0) in
+      let inside : g < buckets (s .settings) = search ltb-true in
       let k = s .bucket g in
       let x = k .primary in
-      let up = and-l _ _ (y .1 .0) in
-      let here = member-here v x (y .1 .0) in
+      let here = member-here v x (search) in
+      let up : s .bricks .up x ≡ true = search and-l in
       let f = v .buckets-ok g inside in
       let new = f .memory (source s g) in
       let c = one-disk (one-memory (copies f) x here up new) x here up new in
@@ -130,16 +130,16 @@ module _ {s : State} (v : Sound s) where
   pub ready-sound : (g : ℕ) → AllYes (ready-asks s g) → Sound (ready-effect s g)
   unfolding ready-effect
   ready-sound g y =
-      let inside = ltb-true _ _ (y .0) in
+      let inside : g < buckets (s .settings) = search ltb-true in
       let k = s .bucket g in
       let x = k .primary in
       let z = k .backup in
       let waits = s .bricks .buffer x in
       let mine = waits-for (buckets (s .settings)) g in
-      let xh = member-here v x (y .1 .0) in
-      let xu = and-l _ _ (y .1 .0) in
-      let zh = member-here v z (y .1 .1 .0) in
-      let zu = and-l _ _ (y .1 .1 .0) in
+      let xh = member-here v x (search) in
+      let xu : s .bricks .up x ≡ true = search and-l in
+      let zh = member-here v z (search) in
+      let zu : s .bricks .up z ≡ true = search and-l in
       let f = v .buckets-ok g inside in
       let drained = table-drain (only mine waits) (f .memory x) (λ e m.
       let t = only-in mine waits m in

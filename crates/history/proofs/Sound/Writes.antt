@@ -3,14 +3,16 @@ use mathlib.Core.Path.{_≡_, refl, ap}
 use mathlib.Core.List.{List, [], _∷_, List·Memᴰ, List·Memᴰ·head, List·Memᴰ·tail}
 use mathlib.Core.Bool.{Bool, true, false}
 use mathlib.Core.Logic.{_⊎_, inl, inr}
-use Prim.Native.Nat.{ℕ, suc, _≤_, _<_}
+use Prim.Native.Nat.{ℕ, suc, _+_, _≤_, _<_}
 use native.Mathlib.Omega.{arith}
-use lib.Dec.{eqb}
+use lib.Dec.{eqb, ltb, leb}
 use lib.ListN.{length, length-append}
 use borrow.Author.Tests.{eqb-true, eq-eqb, ltb-true, leb-true}
+use Rattle.lists.specs.Tests.{_or_}
 use Rattle.lists.specs.Columns.{upd}
 use Rattle.lists.proofs.Tests.{by, by-eq, either, clash, both, or-cases, or-l, or-r, or-second}
 use Rattle.lists.proofs.Columns.{upd-same, upd-all, upd-up}
+use Rattle.rules.specs.Limits.{ceiling-step}
 use Rattle.rules.specs.Numbers.{sequences, home-of}
 use Rattle.rules.specs.Entries.{takes}
 use Rattle.rules.specs.Chunks.{chunk, held, bytes-in, save-all}
@@ -40,11 +42,15 @@ module _ {s : State} (v : Sound s) (p i b : ℕ) (d : List ℕ) (y : AllYes (put
   New = KeyOk (s .given) (s .bricks .here) (upd (s .bricks .next) brick (suc next))
 
   brick-here : s .bricks .here brick ≡ true
-  brick-here = member-here v brick (y .1 .1 .1 .1 .1 .0)
+  brick-here = member-here v brick search
+
+  -- question 12
+  numbers-left : (ltb next ceiling or leb (ceiling + ceiling-step) sequences) ≡ true
+  numbers-left = search
 
   next-inside : next < sequences
   next-inside =
-      elim (or-cases _ _ (y .1 .1 .1 .1 .1 .1 .1 .1 .1 .0)) [
+      elim (or-cases _ _ numbers-left) [
         | inl e ↦ omega (arith, ltb-true, v .numbers .most brick)
         | inr e ↦ omega (arith, leb-true, v .numbers .below brick)
       ]
@@ -53,7 +59,7 @@ module _ {s : State} (v : Sound s) (p i b : ℕ) (d : List ℕ) (y : AllYes (put
   unfolding raised
   raised-most =
       by-eq next ceiling
-      (λ q e. rw q (elim (or-cases _ _ (y .1 .1 .1 .1 .1 .1 .1 .1 .1 .0)) [ inl z ↦ absurd (omega (arith, ltb-true)) | inr z ↦ leb-true _ _ z ]))
+      (λ q e. rw q (elim (or-cases _ _ numbers-left) [ inl z ↦ absurd (omega (arith, ltb-true)) | inr z ↦ leb-true _ _ z ]))
       (λ q e. rw q (v .numbers .most brick))
 
   raised-below : (j : ℕ) → upd (s .bricks .next) brick (suc next) j ≤ upd (s .bricks .ceiling) brick (raised next ceiling) j
@@ -85,7 +91,7 @@ module _ {s : State} (v : Sound s) (p i b : ℕ) (d : List ℕ) (y : AllYes (put
   put-sound =
       let k = s .bricks in
       let g = groups v in
-      let room : length (k .log brick) < s .settings .chunks = ltb-true _ _ (y .1 .1 .1 .1 .1 .1 .1 .1 .0) in
+      let room : length (k .log brick) < s .settings .chunks = search ltb-true in
       let more : (j : ℕ) → KeyOf s j → New j = λ j. next-grows brick (suc next) (omega arith) in
       let logs = logs-map (g .logs) more in
       let items = items-map (g .items) more in
@@ -101,13 +107,13 @@ module _ {s : State} (v : Sound s) (p i b : ℕ) (d : List ℕ) (y : AllYes (put
         view-first = v .view-first;
         view-last = v .view-last;
         started = v .started;
-        logs = one-log logs brick brick-here (log-append (logs .each brick) _ key-unheld (record { key = key-new; bytes = y .1 .1 .1 .0 }))
+        logs = one-log logs brick brick-here (log-append (logs .each brick) _ key-unheld (record { key = key-new; bytes = search }))
             (omega (arith, length-append (k .log brick) (chunk (new-key s brick) false d ∷ [])));
         buffers = buffers-map (g .buffers) more;
         bucket = buckets-map (g .bucket) more;
         bag = bag-map (g .bag) more;
-        items = one-items items p (ltb-true _ _ (y .0)) (table-insert b _ (items .each p) (or-r _ _ (y .1 .1 .1 .1 .1 .1 .1 .0))
-            (record { mine = eqb-true _ _ (y .1 .1 .1 .1 .0); small = ltb-true _ _ (y .1 .1 .0); key = key-new }));
+        items = one-items items p (search ltb-true) (table-insert b _ (items .each p) (or-r _ _ search)
+            (record { mine = search eqb-true; small = search ltb-true; key = key-new }));
         known = g .known;
       })
 
@@ -147,12 +153,13 @@ module _ {s : State} (v : Sound s) where
       (λ q.
       let unheld : held l k ≡ false = by (held l k) (λ z. clash q (or-r _ _ z)) (λ z. z) in
       let up : up-member s t ≡ true = elim (target-up k) [ inl e ↦ clash q (or-l _ _ (eq-eqb t 0 e)) | inr z ↦ z ] in
-      let room : length l < s .settings .chunks = ltb-true _ _ (or-second _ _ (y .1 .1 .0) q) in
-      log-sound v t up (log-append (v .logs t) new unheld (held-ok (home-of k) k false (y .1 .1 .1 .0)))
+      let enough : (nothing-to-copy s k or ltb (length l) (s .settings .chunks)) ≡ true = search in
+      let room : length l < s .settings .chunks = ltb-true _ _ (or-second _ _ enough q) in
+      log-sound v t up (log-append (v .logs t) new unheld (held-ok (home-of k) k false search))
       (omega (arith, length-append l (new ∷ []))))
 
   pub savelog-sound : (i : ℕ) → AllYes (savelog-asks s i) → Sound (savelog-effect s (s .ids i))
   unfolding savelog-effect save-all
   savelog-sound i y =
       let x = s .ids i in
-      log-sound v x (y .1 .0) (log-save (v .logs x) (λ k. true)) (omega (arith, length-save (λ k. true) (s .bricks .log x), v .log-room x))
+      log-sound v x (search) (log-save (v .logs x) (λ k. true)) (omega (arith, length-save (λ k. true) (s .bricks .log x), v .log-room x))

@@ -122,7 +122,7 @@ module _ (s : State) (h : History) (v : Aged s h) (z : Sound s) (o : ℕ → Boo
         waiting = λ j e m. absurd (none-waiting x j e m);
         buckets = λ g l.
             let k = s .bucket g in
-            struck-bucket x (s .ids) i (ltb-true _ _ (y .0)) gone g l _ _ _ _ (copies-crashed _ (copies-elsewhere x _ g l) x) (λ b _.
+            struck-bucket x (s .ids) i (search ltb-true) gone g l _ _ _ _ (copies-crashed _ (copies-elsewhere x _ g l) x) (λ b _.
             let agreed = agree-all k b (calmed g l .one-key b) in
             by-eq (k .backup) x (λ q e. rw (q, ← e) (agreed .2)) (λ q _. rw q (agreed .1)));
       }
@@ -136,7 +136,7 @@ module _ (s : State) (h : History) (v : Aged s h) (z : Sound s) (o : ℕ → Boo
         buckets = λ g l.
             let k = s .bucket g in
             let c = calmed g l in
-            struck-bucket x _ i (ltb-true _ _ (y .0)) (no-member x i) g l _ _ _ _ (copies-blank _ (copies-elsewhere x _ g l) x (lost-relied s x k)) (λ b n.
+            struck-bucket x _ i (search ltb-true) (no-member x i) g l _ _ _ _ (copies-blank _ (copies-elsewhere x _ g l) x (lost-relied s x k)) (λ b n.
             let primary = rw (← c .same .one) at (w .buckets g l .pair .all (c .ready) full .0) in
             let struck : k .primary ≡ x = by-eq (k .primary) x (λ _ e. e) (λ _ d. clash n (still-flagged (s .bricks .member) x _ d primary)) in
             let apart : k .backup ≡ x → ⊥ = λ e. z .buckets-ok g l .pair .apart (struck ∙ sym e) in
@@ -178,7 +178,7 @@ module _ (s : State) (z : Sound s) (o : ℕ → Bool) (w : Stocked s o) where
           pair = record {
             tracked = u .pair .tracked;
             one = elim (u .pair .one) [ inl m ↦ inl (still-member _ m) | inr m ↦ inr (still-member _ m) ];
-            all = λ _ f. absurd (unflag (s .bricks .member) new new (rw (upd-same (s .ids) i new) at (f i (ltb-true _ _ (y .0)))) .1 refl);
+            all = λ _ f. absurd (unflag (s .bricks .member) new new (rw (upd-same (s .ids) i new) at (f i (search ltb-true))) .1 refl);
           };
           copies = copies-map _ _ (λ _. still-kept) (λ _ r. r) (copies-blank _ (u .copies) new (joined-relied s z g l));
           flown = λ r m t. still-kept _ (u .flown r m t);

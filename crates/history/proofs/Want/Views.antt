@@ -79,8 +79,8 @@ module _ (s : State) (h : History) (v : Aged s h) (z : Sound s) (o : ℕ → Boo
       let k = s .bucket g in
       let u = w .buckets g l in
       let unready : k .ready ≡ false = search not-true in
-      let one : s .bricks .member (k .primary) ≡ true = and-r _ _ (y .1 .0) in
-      let two : s .bricks .member (k .backup) ≡ true = and-r _ _ (y .1 .1 .0) in
+      let one : s .bricks .member (k .primary) ≡ true = search and-r in
+      let two : s .bricks .member (k .backup) ≡ true = search and-r in
       let apart : k .backup ≡ k .primary → ⊥ = λ e. z .buckets-ok g l .pair .apart (sym e) in
       let relied = ready-relied s z g y in
       let top = u .copies .memory (k .primary) relied in
@@ -99,7 +99,7 @@ module _ (s : State) (h : History) (v : Aged s h) (z : Sound s) (o : ℕ → Boo
   pub ready-stocked : (g : ℕ) → Yes s (Event.ready g) → Stocked (rule s (Event.ready g) .after) (opens o (readies g))
   unfolding rule ready-effect
   ready-stocked g y =
-      let l = ltb-true _ _ (y .0) in
+      let l : g < buckets (s .settings) = search ltb-true in
       record {
         waiting = λ i e m. w .waiting i e (waits-yet s h v z g l i e m .0);
         buckets = upd-all (WantOf (KeptBy s) s (opens o (readies g))) (s .bucket) g _ others (readied g y);
