@@ -21,7 +21,7 @@ pub record Answer : Type 0 where
 abbrev pub only-key : ℕ → Answer
 only-key k = record { key = k; bytes = [] }
 
--- the questions in the order of their numbers, and what an accepted event answers and leaves
+-- the questions, asked in the order of the list, and what an accepted event answers and leaves
 pub record Rule : Type 0 where
   pub questions : List Question
   pub said : Answer

@@ -75,7 +75,7 @@ pub fn write(s: &mut [u8], i: usize, v: u64)
     store(s, 8 * i, v)
 }
 
-// Where record i of n records of a size starts. The one place that multiplies two variables.
+// Where record i of n records of a size starts.
 pub fn offset(i: usize, size: usize, n: usize) -> usize
     requires { ⌜ (i < n) × (n * size < 2 ^ 63) ⌝ }
     ensures { λ r. ⌜ (r ≡ i * size) × (r + size ≤ n * size) ⌝ }
