@@ -20,6 +20,7 @@ use Rattle.layout.specs.Store.{decode}
 use Rattle.lent.specs.Parts.{LogPart}
 use Rattle.lent.specs.Stores.{StoreOf}
 use Rattle.lent.proofs.Stores.{settings-are, facts}
+use Rattle.holders.specs.Members.{LiesAt}
 
 -- those of the row that look-up has found
 pub row-bytes : (c : Settings) (l : List Chunk) (bs : List ℕ) → LogPart c l bs → (k row : ℕ) → FoundAt (log-codec c .dec (words bs)) k row → keys-apart l ≡ true
@@ -27,6 +28,14 @@ pub row-bytes : (c : Settings) (l : List Chunk) (bs : List ℕ) → LogPart c l 
 row-bytes c l bs h k row f y =
     let g : FoundAt l k row = subst (λ (x : List Chunk). FoundAt x k row) (h .same) f in
     ap (λ (x : List Chunk). chunk-at x row .bytes) (h .same) ∙ sym (found-bytes k l row y (g .in-use) (g .same))
+
+-- those of the row where the brick with an id has it
+pub bytes-at-holder : (c : Settings) (bs : List ℕ) → StoreOf c bs → (id k place row : ℕ) → LiesAt c (decode (words bs)) id k place row
+    → chunk-at (decode (words bs) .bricks .log (decode (words bs) .ids place)) row .bytes ≡ bytes-in (decode (words bs) .bricks .log id) k
+bytes-at-holder c bs v id k place row at =
+    let s = decode (words bs) in
+    ap (λ (i : ℕ). chunk-at (s .bricks .log i) row .bytes) (at .stands .here)
+    ∙ sym (found-bytes k (s .bricks .log id) row (facts c bs v .logs id .apart) (at .found .in-use) (at .found .same))
 
 -- those of a chunk that is held are a block's
 pub held-size : (c : Settings) (bs : List ℕ) → StoreOf c bs → (id key : ℕ) → held (decode (words bs) .bricks .log id) key ≡ true

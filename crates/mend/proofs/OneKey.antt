@@ -14,10 +14,8 @@ use Rattle.rules.specs.State.{State}
 use Rattle.rules.specs.Parts.{circle, holder}
 use Rattle.rules.proofs.Parts.{seek-held}
 use Rattle.log.specs.Log.{chunk-at}
-use Rattle.log.proofs.Rules.{found-bytes}
 use Rattle.layout.specs.Store.{decode}
-use Rattle.lent.proofs.Stores.{facts}
-use Rattle.holders.proofs.Contents.{held-size}
+use Rattle.holders.proofs.Contents.{bytes-at-holder, held-size}
 use Rattle.mend.specs.Fit.{with-log-at, log-of, Mends, key-mended}
 use Rattle.mend.specs.Keys.{wants}
 use Rattle.mend.specs.Acts.{Lacking}
@@ -57,11 +55,7 @@ module _ (c : Settings) (bs : List ℕ) (p k : ℕ) (m : Mends c bs p k) where
         (at .stands .inside, rw (at .stands .here) (at .stands .some), omega (arith, at .found .in-use))
 
     row-bytes : chunk-at (log-of from (words bs)) row .bytes ≡ bytes
-    row-bytes =
-        let id = holder s k in
-        let at = o .from in
-        ap (λ (i : ℕ). chunk-at (s .bricks .log i) row .bytes) (at .stands .here)
-        ∙ sym (found-bytes k (s .bricks .log id) row (facts c bs (m .there .store) .logs id .apart) (at .found .in-use) (at .found .same))
+    row-bytes = bytes-at-holder c bs (m .there .store) (holder s k) k from row (o .from)
 
     pub row-whole : length (chunk-at (log-of from (words bs)) row .bytes) ≡ c .size
     row-whole =

@@ -16,14 +16,13 @@ use Rattle.rules.specs.Parts.{circle, holder}
 use Rattle.rules.specs.Reads.{zeros}
 use Rattle.rules.proofs.Parts.{seek-held}
 use Rattle.log.specs.Log.{chunk-at}
-use Rattle.log.proofs.Rules.{found-bytes}
 use Rattle.layout.specs.Disk.{Brick}
 use Rattle.layout.specs.Store.{decode}
 use Rattle.lent.specs.Stores.{StoreOf}
 use Rattle.lent.proofs.Places.{zero-blank}
-use Rattle.lent.proofs.Stores.{settings-are, facts}
+use Rattle.lent.proofs.Stores.{settings-are}
 use Rattle.holders.specs.Members.{LiesAt}
-use Rattle.holders.proofs.Contents.{held-size}
+use Rattle.holders.proofs.Contents.{bytes-at-holder, held-size}
 use Rattle.reads.specs.Get.{is-found, key-bytes}
 
 -- ---- whether it is found
@@ -59,9 +58,7 @@ module _ (c : Settings) (bs : List ℕ) (v : StoreOf c bs) (k : ℕ) where
         → chunk-at (decode (words bs) .bricks .log (decode (words bs) .ids place)) row .bytes ≡ key-bytes (decode (words bs)) k
     lying-bytes place row at =
         let h = holder (decode (words bs)) k in
-        ap (λ (i : ℕ). chunk-at (decode (words bs) .bricks .log i) row .bytes) (at .stands .here)
-        ∙ sym (found-bytes k (decode (words bs) .bricks .log h) row (facts c bs v .logs h .apart) (at .found .in-use) (at .found .same))
-        ∙ held-bytes h refl
+        bytes-at-holder c bs v h k place row at ∙ held-bytes h refl
 
     pub no-bytes : holder (decode (words bs)) k ≡ 0 → [] ≡ key-bytes (decode (words bs)) k
     unfolding bytes-in
