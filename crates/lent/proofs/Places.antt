@@ -97,4 +97,4 @@ module _ (c : Settings) (bs : List ℕ) (v : StoreOf c bs) where
   unfolding _and_
   place-yes p e =
       let y = all-yes (place-asks (decode (words bs)) p) refl e in
-      record { inside = place-inside p (y .0); up = y .1 .0; filled = up-filled p (and-l _ _ (y .1 .0)) }
+      record { inside = place-inside p (search); up = search; filled = up-filled p (search and-l) }

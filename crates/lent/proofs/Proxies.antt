@@ -67,7 +67,7 @@ pub block-yes : (p b : ℕ) → first-no (block-asks p b) ≡ 0 → OwnBlock p b
 unfolding _and_
 block-yes p b e =
     let y = all-yes (block-asks p b) refl e in
-    record { proxy = ltb-true p proxies (y .0); block = ltb-true b blocks (y .1 .0); own = y .1 .1 .0 }
+    record { proxy = search ltb-true; block = search ltb-true; own = search }
 
 -- one after the other
 module _ (p b : ℕ) where

@@ -1,19 +1,19 @@
 -- What a step is: refused with nothing changed, or accepted with every answer yes.
-use mathlib.Core.Path.{_≡_, refl, sym, subst}
+use mathlib.Core.Path.{_≡_, refl, sym, subst, _∙_}
 use mathlib.Core.List.{List, [], _∷_}
-use mathlib.Core.Bool.{Bool, true, false}
+use mathlib.Core.Bool.{true, cond}
 use mathlib.Core.Logic.{_⊎_, inl, inr}
 use Prim.Native.Nat.{ℕ, zero, suc, _≤_, _<_}
 use native.Mathlib.Omega.{arith}
-use lib.Dec.{leb}
-use borrow.Author.Tests.{leb-true}
+use lib.Dec.{eqb}
+use borrow.Author.Tests.{eq-eqb, leb-true}
 use Rattle.lists.specs.Tests.{_and_}
-use Rattle.lists.proofs.Tests.{by, either, and-l, and-r}
+use Rattle.lists.proofs.Tests.{by, either, clash, and-l, and-r}
 use Rattle.rules.specs.Event.{Event}
 use Rattle.rules.specs.State.{State}
 use Rattle.rules.specs.Question.{Question, first-no, AllYes}
 use Rattle.rules.specs.Step.{Outcome, only-key, rule, finish, step}
-use Rattle.rules.proofs.Questions.{numbered, all-yes}
+use Rattle.rules.proofs.Questions.{first-yes, first-stop, none-asked, numbered, all-yes}
 
 -- an event's questions have the numbers 3 to 15
 pub rule-numbered : (s : State) (e : Event) → numbered (rule s e .questions) ≡ true
@@ -79,17 +79,28 @@ first-numbered (q ∷ qs) t =
 pub step-numbers : (s : State) (e : Event) → Numbered (step s e .code)
 step-numbers s e = subst Numbered (sym (code-is s e)) (first-numbered _ (rule-numbered s e))
 
--- ---- refused with a number: the questions before were answered yes, and one of that number no
-abbrev pub Stops : List Question → ℕ → Type 0
-Stops [] c = ⊥
-Stops (q ∷ qs) c = ((q .yes ≡ false) × (q .code ≡ c)) ⊎ ((q .yes ≡ true) × Stops qs c)
+-- ---- refused with a number: the questions before the first of that number were answered yes, and one of that number no
+abbrev pub before : ℕ → List Question → List Question
+before c [] = []
+before c (q ∷ qs) = cond (eqb (q .code) c) [] (q ∷ before c qs)
 
-pub first-stops : (qs : List Question) (c : ℕ) → first-no qs ≡ c → 0 < c → Stops qs c
-unfolding first-no
-first-stops [] c e l = absurd (omega arith)
-first-stops (q ∷ qs) c e l = by (q .yes) (λ y. inr (y, first-stops qs c (cc) l)) (λ y. inl (y, cc))
+abbrev pub of-number : ℕ → List Question → List Question
+of-number c [] = []
+of-number c (q ∷ qs) = cond (eqb (q .code) c) (q ∷ of-number c qs) (of-number c qs)
 
--- past a question of another number
-pub past : {A B : Type 0} {m n : ℕ} → (A × (m ≡ n)) ⊎ B → (m ≡ n → ⊥) → B
-past (inl z) u = absurd (u (z .1))
-past (inr z) u = z
+yes-before : (c : ℕ) (qs : List Question) → first-no qs ≡ c → AllYes (before c qs)
+yes-before c [] e = tt
+yes-before c (q ∷ qs) e =
+    either AllYes (eqb (q .code) c) (λ _. tt)
+    (λ n. by (q .yes) (λ y. (y, yes-before c qs (sym (first-yes (q .code) qs y) ∙ e))) (λ z. clash n (eq-eqb _ _ (sym (first-stop (q .code) qs z) ∙ e))))
+
+one-no : (c : ℕ) (qs : List Question) → first-no qs ≡ c → 0 < c → AllYes (of-number c qs) → ⊥
+one-no c [] e l = λ y. omega (arith, none-asked)
+one-no c (q ∷ qs) e l =
+    either (λ rs. AllYes rs → ⊥) (eqb (q .code) c)
+    (λ _ y. one-no c qs (sym (first-yes (q .code) qs (y .0)) ∙ e) l (y .1))
+    (λ n y. by (q .yes) (λ z. one-no c qs (sym (first-yes (q .code) qs z) ∙ e) l y) (λ z. clash n (eq-eqb _ _ (sym (first-stop (q .code) qs z) ∙ e))))
+
+-- no refusal has a number whose questions are answered yes wherever those before them are
+pub never-answered : (c : ℕ) (qs : List Question) → 0 < c → (AllYes (before c qs) → AllYes (of-number c qs)) → first-no qs ≡ c → ⊥
+never-answered c qs l h e = one-no c qs e l (h (yes-before c qs e))

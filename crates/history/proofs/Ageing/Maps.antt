@@ -3,9 +3,8 @@ use mathlib.Core.Path.{_≡_, refl, sym, ap, _∙_}
 use mathlib.Core.List.{List, [], _∷_, _++_, List·Memᴰ, List·Memᴰ·not-nil}
 use mathlib.Core.Bool.{true, false}
 use mathlib.Core.Logic.{_⊎_, inl, inr}
-use Prim.Native.Nat.{ℕ, _+_, _≤_, _<_}
+use Prim.Native.Nat.{ℕ, _≤_, _<_}
 use native.Mathlib.Omega.{arith}
-use Rattle.lists.specs.Tests.{_or_}
 use Rattle.lists.specs.Columns.{upd}
 use Rattle.lists.proofs.Tests.{by-eq, either, clash, only-in, one-more}
 use Rattle.lists.proofs.Columns.{upd-same, upd-other, upd-all}

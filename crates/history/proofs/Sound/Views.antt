@@ -8,7 +8,7 @@ use lib.ListN.{length, List·getD-eq-default}
 use borrow.Author.Tests.{eqb-true, ltb-true}
 use Rattle.lists.specs.Tests.{only, count-below}
 use Rattle.lists.proofs.Tests.{either, and-l, count-one, count-two, count-at-most, only-in}
-use Rattle.rules.specs.Limits.{buckets, max-number}
+use Rattle.rules.specs.Limits.{buckets}
 use Rattle.rules.specs.Entries.{Entry, waits-for}
 use Rattle.rules.specs.State.{State}
 use Rattle.rules.specs.Pairs.{at, ids-of}

@@ -7,7 +7,7 @@ use Prim.Native.Nat.{ℕ, suc, _<_}
 use native.Mathlib.Omega.{arith}
 use lib.ListN.{length}
 use borrow.Author.Tests.{ltb-true, leb-true}
-use Rattle.lists.specs.Tests.{_and_, every}
+use Rattle.lists.specs.Tests.{every}
 use Rattle.lists.specs.Columns.{upd}
 use Rattle.lists.proofs.Tests.{by, by-eq, clash, and-l, and-r, all-at, every-in}
 use Rattle.lists.proofs.Columns.{upd-same, upd-other, unflag, still-flagged}

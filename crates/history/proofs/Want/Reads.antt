@@ -4,18 +4,17 @@ use mathlib.Core.Bool.{Bool, true}
 use mathlib.Core.Logic.{inl, inr}
 use Prim.Native.Nat.{ℕ}
 use native.Mathlib.Omega.{arith}
-use lib.Dec.{ltb, eqb}
+use lib.Dec.{ltb}
 use borrow.Author.Tests.{lt-ltb}
-use Rattle.lists.specs.Tests.{_or_}
-use Rattle.lists.proofs.Tests.{by-eq, clash, or-l, or-r}
+use Rattle.lists.proofs.Tests.{by-eq, or-l, or-r}
 use Rattle.rules.specs.Numbers.{home-of}
 use Rattle.rules.specs.Event.{Event}
 use Rattle.rules.specs.State.{State}
 use Rattle.rules.specs.Parts.{circle, holder, bucket-no, bucket-at}
-use Rattle.rules.specs.Question.{first-no}
-use Rattle.rules.specs.Reads.{mapped}
+use Rattle.rules.specs.Question.{first-no, is-ready}
+use Rattle.rules.specs.Reads.{mapped, get-asks}
 use Rattle.rules.specs.Step.{rule}
-use Rattle.rules.proofs.Step.{first-stops, past}
+use Rattle.rules.proofs.Step.{never-answered}
 use Rattle.rules.proofs.Parts.{bucket-below, in-ids, ids-in, in-circle, circle-in, seek-found}
 use Rattle.rules.proofs.Chunks.{saved-held}
 use Rattle.rules.proofs.Sound.{Sound}
@@ -38,19 +37,12 @@ module _ (s : State) (z : Sound s) where
 
   pub get-found : (h : History) → Aged s h → (o : ℕ → Bool) → Stocked s o → (p b : ℕ) → first-no (rule s (Event.get p b) .questions) ≡ 11 → ⊥
   unfolding rule
-  get-found h v o w p b e =
-      let s₁ = past (first-stops _ 11 e (omega arith)) (omega arith) in
-      let s₂ = past (s₁ .1) (omega arith) in
-      let s₃ = past (s₂ .1) (omega arith) in
-      let s₄ = past (s₃ .1) (omega arith) in
-      let s₅ = past (s₄ .1) (omega arith) in
-      let s₆ = past (s₅ .1) (omega arith) in
-      let s₇ = past (s₆ .1) (omega arith) in
-      let s₈ = past (s₇ .1) (omega arith) in
+  get-found h v o w p b =
+      never-answered 11 (get-asks s p b) (omega arith)
+      (λ y.
       let k = bucket-at s b in
       let l = bucket-below (s .settings) b in
-      let relied = primary-relied k (v .buckets (bucket-no s b) l .same (s₆ .0)) (member-here z (k .primary) (s₅ .0)) in
+      let ready : is-ready s b ≡ true = search in
+      let relied = primary-relied k (v .buckets (bucket-no s b) l .same ready) (member-here z (k .primary) (search)) in
       let kept = w .buckets (bucket-no s b) l .copies .memory (k .primary) relied b in
-      let found : (eqb (mapped s b) 0 or ltb 0 (holder s (mapped s b))) ≡ true
-      = by-eq (mapped s b) 0 (λ q _. or-l _ _ q) (λ _ n. or-r _ _ (kept-found _ kept n)) in
-      elim (s₈ .1) [ inl t ↦ clash (t .0) found | inr t ↦ t .1 ]
+      (by-eq (mapped s b) 0 (λ q _. or-l _ _ q) (λ _ n. or-r _ _ (kept-found _ kept n)), tt))

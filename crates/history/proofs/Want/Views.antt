@@ -7,7 +7,7 @@ use Prim.Native.Nat.{ℕ, _<_}
 use native.Mathlib.Omega.{arith}
 use lib.Dec.{ltb}
 use borrow.Author.Tests.{ltb-true, lt-ltb, not-true}
-use Rattle.lists.specs.Tests.{_and_, only}
+use Rattle.lists.specs.Tests.{only}
 use Rattle.lists.proofs.Tests.{either, impossible, clash, and-r, both, only-in}
 use Rattle.lists.proofs.Columns.{upd-same, upd-all, unflag}
 use Rattle.rules.specs.Limits.{buckets}
@@ -16,9 +16,9 @@ use Rattle.rules.specs.Event.{Event}
 use Rattle.rules.specs.State.{State}
 use Rattle.rules.specs.Parts.{up-member}
 use Rattle.rules.specs.Question.{first-no}
-use Rattle.rules.specs.Views.{view-effect, source, fetch-effect, ready-bucket, ready-effect}
+use Rattle.rules.specs.Views.{view-effect, source, fetch-asks, fetch-effect, ready-bucket, ready-effect}
 use Rattle.rules.specs.Step.{rule}
-use Rattle.rules.proofs.Step.{Yes, first-stops, past}
+use Rattle.rules.proofs.Step.{Yes, never-answered}
 use Rattle.rules.proofs.Sound.{Sound}
 use Rattle.history.specs.Claim.{History, views, readies, opens}
 use Rattle.history.proofs.Copies.{relied-anew, relied-before, in-drain, copies-map, copies-fetched, copies-ready}
@@ -129,11 +129,6 @@ module _ (s : State) (h : History) (v : Aged s h) (z : Sound s) (o : ℕ → Boo
 
   pub fetch-found : (g : ℕ) → o g ≡ true → first-no (rule s (Event.fetch g) .questions) ≡ 13 → ⊥
   unfolding rule
-  fetch-found g opened e =
-      let s₁ = past (first-stops _ 13 e (omega arith)) (omega arith) in
-      let s₂ = past (s₁ .1) (omega arith) in
-      let l = ltb-true _ _ (s₁ .0) in
-      elim (s₂ .1) [
-        | inl t ↦ clash (t .0) (ap not (w .buckets g l .pair .tracked opened))
-        | inr t ↦ elim (t .1) [ inl u ↦ clash (u .0) (source-found g l) | inr u ↦ u .1 ]
-      ]
+  fetch-found g opened =
+      never-answered 13 (fetch-asks s g) (omega arith)
+      (λ y. let l : g < buckets (s .settings) = search ltb-true in (ap not (w .buckets g l .pair .tracked opened), (source-found g l, tt)))
