@@ -14,7 +14,7 @@ use borrow.Author.Tests.{eq-eqb, ne-eqb, eqb-true}
 use Rattle.lists.specs.Tests.{_or_, some-below}
 use Rattle.lists.specs.Runs.{run}
 use Rattle.lists.proofs.Tests.{by-eq, same-test}
-use Rattle.lists.proofs.Runs.{run-length, on-by, on-id, on-length, on-same, on-at-before, on-twice}
+use Rattle.lists.proofs.Runs.{run-length, on-by, on-id, on-same, on-at-before, on-twice}
 use Rattle.words.specs.Words.{words}
 use Rattle.words.proofs.Laws.{lent-run}
 use Rattle.rules.specs.declared.settings.Settings.{Settings}
@@ -51,10 +51,6 @@ module _ (c : Settings) (at : ℕ) (ws : List ℕ) (len : ℕ) (h : at + log-wor
   keeps named =
       length-write (c .chunks) (c .size / word-bytes) _ log log-length
       (fits-marks (λ x. named (x .key)) (fits-read (c .chunks) (c .size / word-bytes) log log-length (o .log .few)))
-
-  pub marks-length : (named : ℕ → Bool) → length (marks c at named ws) ≡ length ws
-  unfolding marks
-  marks-length named = on-length at (log-words c) _ ws h (keeps named)
 
   -- the log keeps its shape
   pub marks-log : (named : ℕ → Bool) → LogIn c at (marks c at named ws) len

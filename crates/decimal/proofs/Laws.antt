@@ -9,7 +9,7 @@ use native.Mathlib.Omega.{arith}
 use borrow.Author.Tests.{lt-ltb, le-ltb, ne-eqb}
 use lib.Dec.{lit<, eqb}
 use lib.ListN.{length, take, drop, getD, set, length-append, length-set}
-use lib.Seq.{drop-cons, set-split, drop-at, length-take-le}
+use lib.Seq.{set-split, drop-at, length-take-le}
 use Rattle.area.specs.Area.{onto}
 use Rattle.lists.proofs.Tests.{by, by-lt}
 use Rattle.decimal.specs.Decimal.{digits, decimal, push, and-then, spelled, number-of, answer}
@@ -165,15 +165,6 @@ pub spelled-append : (v : ℕ) (xs ys : List ℕ) → spelled v (xs ++ ys) ≡ a
 unfolding spelled and-then
 spelled-append v [] ys = refl
 spelled-append v (b ∷ xs) ys = then-then (push v b) (λ w. spelled w xs) (λ w. spelled w ys) (λ w. spelled w (xs ++ ys)) (λ w. spelled-append w xs ys)
-
-module _ (s : List ℕ) (v i : ℕ) (h : i < length s) where
-  pub spelled-on : (w : ℕ) → push v (getD s i 0) ≡ some w → spelled v (drop i s) ≡ spelled w (drop (i + 1) s)
-  unfolding spelled and-then
-  spelled-on w e = rw (drop-cons s i 0 h, e, add-one)
-
-  pub spelled-off : push v (getD s i 0) ≡ none → spelled v (drop i s) ≡ none
-  unfolding spelled and-then
-  spelled-off e = rw (drop-cons s i 0 h, e)
 
 pub answer-value : (o : Option ℕ) (w : ℕ) → answer o ≡ Value w → o ≡ some w
 unfolding answer

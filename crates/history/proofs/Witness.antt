@@ -6,14 +6,14 @@ use mathlib.Core.Logic.{inl, inr}
 use Prim.Native.Nat.{ℕ}
 use lib.Dec.{eqb}
 use borrow.Author.Tests.{eq-eqb}
-use Rattle.lists.specs.Tests.{_and_, _or_, every, only}
+use Rattle.lists.specs.Tests.{_and_, _or_, every, same-numbers, only}
 use Rattle.lists.proofs.Tests.{both, and-l, and-r, or-l, or-r, if-so}
 use Rattle.rules.specs.declared.settings.Settings.{Settings}
 use Rattle.rules.specs.Limits.{in-limits}
 use Rattle.rules.specs.Numbers.{key-of}
 use Rattle.rules.specs.Event.{Event, parts-of}
 use Rattle.rules.specs.Format.{format}
-use Rattle.rules.specs.Examples.{last-of, same-numbers, a1}
+use Rattle.rules.specs.Examples.{last-of, a1}
 use Rattle.rules.proofs.Examples.{rules-open}
 use Rattle.history.specs.Claim.{Told, told, Strikes, StruckWhole, NoWant}
 use Rattle.history.proofs.Claim.{claim}

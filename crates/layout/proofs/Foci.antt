@@ -9,7 +9,7 @@ use Rattle.codec.proofs.Laws.{Lawful, word-law, flag-law, then-law}
 use Rattle.codec.proofs.Focus.{Focus, _through_, seen-as, at-offset, first, second, nth, filled}
 use Rattle.layout.specs.Disk.{blank-agreed, blank-proxy, blank-copies, blank-brick, blank-place}
 use Rattle.layout.specs.Disk.{head-reading, agreed-reading, proxy-reading, status-reading, copies-reading, brick-reading, disk-reading}
-use Rattle.layout.specs.Layout.{settings-codec, head-codec, agreed-codec, items-codec, proxy-codec, bag-codec, status-codec, buffer-codec}
+use Rattle.layout.specs.Layout.{head-codec, agreed-codec, items-codec, proxy-codec, bag-codec, status-codec, buffer-codec}
 use Rattle.layout.specs.Layout.{copy-codec, copies-codec, all-copies-codec, log-codec, brick-codec, place-codec}
 use Rattle.layout.specs.Layout.{all-agreed-codec, all-proxies-codec, all-places-codec, disk-codec}
 use Rattle.layout.specs.Layout.{agreed-at, proxies-at, proxy-at, bag-at, place-at, items-at, up-at, member-at, began-at, next-at, ceiling-at}
@@ -33,9 +33,6 @@ pub flags-words : Lawful (flag then flag then word then word)
 flags-words = then-law flag-law flag-words
 
 -- ---- in the header
-abbrev pub settings-in : Focus head-codec settings-codec
-settings-in = seen-as head-reading (λ t. refl) (first settings-law three-words)
-
 abbrev pub view-in : Focus head-codec word
 view-in = seen-as head-reading (λ t. refl) (second settings-law three-words through first word-law two-words)
 
@@ -90,21 +87,6 @@ from-last-primary = then-law word-law from-last-backup
 
 pub from-backup : Lawful (word then word then word then flag then flag then word then word)
 from-backup = then-law word-law from-last-primary
-
-abbrev pub primary-in : Focus agreed-codec word
-primary-in = seen-as agreed-reading (λ t. refl) (first word-law from-backup)
-
-abbrev pub backup-in : Focus agreed-codec word
-backup-in = seen-as agreed-reading (λ t. refl) (second word-law from-backup through first word-law from-last-primary)
-
-abbrev pub last-primary-in : Focus agreed-codec word
-last-primary-in =
-    seen-as agreed-reading (λ t. refl) (second word-law from-backup through second word-law from-last-primary through first word-law from-last-backup)
-
-abbrev pub last-backup-in : Focus agreed-codec word
-last-backup-in =
-    seen-as agreed-reading (λ t. refl)
-    (second word-law from-backup through second word-law from-last-primary through second word-law from-last-backup through first word-law flags-words)
 
 abbrev pub ready-in : Focus agreed-codec flag
 ready-in =

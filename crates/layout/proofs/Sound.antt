@@ -1,6 +1,6 @@
 -- Sound words, as facts.
-use mathlib.Core.Path.{_≡_, refl, sym, ap, _∙_}
-use mathlib.Core.List.{List, [], _∷_}
+use mathlib.Core.Path.{_≡_, sym, ap, _∙_}
+use mathlib.Core.List.{List}
 use mathlib.Core.Bool.{Bool, true}
 use mathlib.Core.Logic.{inl, inr}
 use Prim.Native.Nat.{ℕ, _<_}
@@ -8,7 +8,7 @@ use native.Mathlib.Omega.{arith}
 use lib.ListN.{length}
 use borrow.Author.Tests.{eqb-true, eq-eqb}
 use Rattle.lists.specs.Tests.{all-below}
-use Rattle.lists.proofs.Tests.{by-lt, impossible, and-l, and-r, both, or-cases, all-at, is-no, eqb-self}
+use Rattle.lists.proofs.Tests.{by-lt, and-l, and-r, both, or-cases, all-at, is-no, same-numbers-eq, same-numbers-self}
 use Rattle.rules.specs.declared.settings.Settings.{Settings}
 use Rattle.rules.specs.Limits.{in-limits}
 use Rattle.rules.specs.State.{State}
@@ -16,27 +16,8 @@ use Rattle.rules.specs.Sound.{alone, sound-brick, sound-place, sound}
 use Rattle.codec.specs.Codec.{Clean}
 use Rattle.layout.specs.Places.{Apart}
 use Rattle.layout.specs.Layout.{disk-codec, settings-of, store-words}
-use Rattle.layout.specs.Store.{to-disk, decode, render, same-words, sound-words}
+use Rattle.layout.specs.Store.{to-disk, decode, render, sound-words}
 use Rattle.layout.proofs.Decoded.{settings-read, as-decoded}
-
--- ---- two lists of words are the same
-pub same-words-true : (l m : List ℕ) → same-words l m ≡ true → l ≡ m
-unfolding same-words
-same-words-true [] [] y = refl
-same-words-true [] (b ∷ m) y = impossible y
-same-words-true (a ∷ l) [] y = impossible y
-same-words-true (a ∷ l) (b ∷ m) y =
-    let e : a ≡ b = eqb-true a b (and-l _ _ y) in
-    let r : l ≡ m = same-words-true l m (and-r _ _ y) in
-    cc
-
-same-words-self : (l : List ℕ) → same-words l l ≡ true
-unfolding same-words
-same-words-self [] = refl
-same-words-self (a ∷ l) = both _ _ (eqb-self a) (same-words-self l)
-
-pub same-words-of : (l m : List ℕ) → l ≡ m → same-words l m ≡ true
-same-words-of l m e = rw (← e) (same-words-self l)
 
 -- ---- sound words
 pub record SoundWords (ws : List ℕ) : Type 0 where
@@ -48,13 +29,13 @@ pub sound-facts : (ws : List ℕ) → sound-words ws ≡ true → SoundWords ws
 unfolding sound-words
 sound-facts ws y = record {
   size = eqb-true _ _ (and-l _ _ (and-l _ _ y));
-  still = same-words-true _ _ (and-r _ _ (and-l _ _ y));
+  still = same-numbers-eq _ _ (and-r _ _ (and-l _ _ y));
   state = and-r _ _ y;
 }
 
 pub facts-sound : (ws : List ℕ) → SoundWords ws → sound-words ws ≡ true
 unfolding sound-words
-facts-sound ws f = both _ _ (both _ _ (eq-eqb _ _ (f .size)) (same-words-of _ _ (f .still))) (f .state)
+facts-sound ws f = both _ _ (both _ _ (eq-eqb _ _ (f .size)) (rw (f .still) (same-numbers-self ws))) (f .state)
 
 -- ---- no id at two places
 ids-apart : (given n : ℕ) (ids : ℕ → ℕ) (brick : ℕ → Bool) → all-below n (sound-place given ids brick) ≡ true → (p q : ℕ) → q < n → p < q

@@ -1,10 +1,10 @@
 -- Words decoded to the rules' state, a state rendered over words, and which words are sound.
-use mathlib.Core.List.{List, [], _∷_}
-use mathlib.Core.Bool.{Bool, true, false}
+use mathlib.Core.List.{List}
+use mathlib.Core.Bool.{Bool}
 use Prim.Native.Nat.{ℕ, _*_, _%_}
 use lib.Dec.{eqb}
 use lib.ListN.{length}
-use Rattle.lists.specs.Tests.{_and_}
+use Rattle.lists.specs.Tests.{_and_, same-numbers}
 use Rattle.words.specs.Words.{words, unwords}
 use Rattle.rules.specs.declared.settings.Settings.{Settings}
 use Rattle.rules.specs.State.{Bucket, State}
@@ -103,16 +103,10 @@ unfoldable pub render : State → List ℕ → List ℕ
 render s ws = disk-codec (s .settings) .enc (to-disk s) ws
 
 -- ---- sound
-unfoldable pub same-words : List ℕ → List ℕ → Bool
-same-words [] [] = true
-same-words [] (b ∷ m) = false
-same-words (a ∷ l) [] = false
-same-words (a ∷ l) (b ∷ m) = eqb a b and same-words l m
-
 -- the length is that of the settings; the words are what their own state renders (so flags are 0 or 1, and a log's positions list its rows by
 -- ascending key); and the state is sound (so the settings are in limits)
 unfoldable pub sound-words : List ℕ → Bool
-sound-words ws = eqb (length ws) (store-words (settings-of ws)) and same-words (render (decode ws) ws) ws and sound (decode ws)
+sound-words ws = eqb (length ws) (store-words (settings-of ws)) and same-numbers (render (decode ws) ws) ws and sound (decode ws)
 
 -- ---- bytes
 unfoldable pub decode-bytes : List ℕ → State

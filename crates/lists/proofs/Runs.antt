@@ -1,8 +1,8 @@
 -- Laws of runs and of arrays of records.
 use mathlib.Core.Path.{_≡_, refl, sym, ap, _∙_}
-use mathlib.Core.List.{List, [], _∷_, _++_, append-assoc, map, List·Memᴰ, List·Memᴰ·head, List·Memᴰ·tail}
+use mathlib.Core.List.{List, [], _∷_, _++_, append-assoc, List·Memᴰ, List·Memᴰ·head, List·Memᴰ·tail}
 use Prim.Native.Nat.{ℕ, zero, suc, _+_, _*_, _-_, _≤_, _<_}
-use native.Mathlib.Nat.{suc-mul, zero-mul, add-comm, zero-add, not-suc-le-zero, le-of-suc-le-suc, le-of-lt, mul-le-mul-right}
+use native.Mathlib.Nat.{suc-mul, zero-mul, zero-add, not-suc-le-zero, le-of-suc-le-suc, le-of-lt, mul-le-mul-right}
 use native.Mathlib.Numerals.{add-one}
 use native.Mathlib.Omega.{arith}
 use lib.ListN.{length, take, drop, getD, set, replicate, length-append, length-drop, take-append-drop, List·getD-append}
@@ -13,7 +13,7 @@ use mathlib.Core.Bool.{Bool, true}
 use borrow.Author.Tests.{ltb-true, lt-ltb}
 use Rattle.lists.specs.Tests.{every, only}
 use Rattle.lists.proofs.Tests.{by, and-l, and-r, both}
-use Rattle.lists.specs.Runs.{run, on-run, part, map-parts, enc-all, Sized, none, more, Below}
+use Rattle.lists.specs.Runs.{run, on-run, part, enc-all, Sized, none, more, Below}
 
 -- record i of n lies within n records: the one fact on products that offsets need
 pub fits-in : (size : ℕ) {i n : ℕ} → i < n → i * size + size ≤ n * size
@@ -221,40 +221,6 @@ module _ {A : Type 0} (enc : A → List ℕ) (size : ℕ) where
       → on-run (i * size) size f (enc-all enc xs) ≡ enc-all enc (set xs i (g (getD xs i d)))
   unfolding on-run
   on-record f g d i {xs} r h e = rw (part-enc-all i d r h, e) (put-enc-all i (g (getD xs i d)) r h)
-
--- ---- a change of every part
-module _ (size : ℕ) (f : List ℕ → List ℕ) (keeps : (l : List ℕ) → length l ≡ size → length (f l) ≡ size) where
-  -- part i is lent, changed by f, and comes back
-  pub map-parts-turn : (i : ℕ) (w : List ℕ) → i * size + size ≤ length w
-      → on-run (i * size) size f (map-parts size f i w) ≡ map-parts size f (suc i) w
-  unfolding map-parts on-run
-  map-parts-turn zero w h = rw zero-mul
-  map-parts-turn (suc i) w h =
-      let g : size + i * size + size ≤ length w = rw (suc-mul, add-comm (i * size) size) at h in
-      let k : length (f (take size w)) ≡ size = keeps (take size w) (length-take-le size w (omega arith)) in
-      let d : i * size + size ≤ length (drop size w) = rw length-drop (omega arith) in
-      let fs : List ℕ = f (take size w) in
-      let vs : List ℕ = map-parts size f i (drop size w) in
-      let et : take (size + i * size) (fs ++ vs) ≡ fs ++ take (i * size) vs = rw k at (take-append-add fs vs (i * size)) in
-      let ed : drop (size + i * size) (fs ++ vs) ≡ drop (i * size) vs = rw k at (drop-append-add fs vs (i * size)) in
-      rw (suc-mul i size, add-comm (i * size) size, et, ed, append-assoc, map-parts-turn i (drop size w) d)
-
-  pub map-parts-length : (i : ℕ) (w : List ℕ) → i * size ≤ length w → length (map-parts size f i w) ≡ length w
-  unfolding map-parts
-  map-parts-length zero w h = refl
-  map-parts-length (suc i) w h =
-      let g : i * size + size ≤ length w = rw suc-mul at h in
-      let k : length (f (take size w)) ≡ size = keeps (take size w) (length-take-le size w (omega arith)) in
-      let d : i * size ≤ length (drop size w) = rw length-drop (omega arith) in
-      rw (length-append, k, map-parts-length i (drop size w) d, length-drop) (omega arith)
-
--- over encodings it is map
-pub map-parts-enc : {A : Type 0} (enc : A → List ℕ) (size : ℕ) (f : List ℕ → List ℕ) (g : A → A) → ((x : A) → f (enc x) ≡ enc (g x))
-    → {xs : List A} → Sized enc size xs → map-parts size f (length xs) (enc-all enc xs) ≡ enc-all enc (map g xs)
-unfolding enc-all map-parts
-map-parts-enc enc size f g e none = refl
-map-parts-enc enc size f g e (more {x} {xs} l r) =
-    rw (take-at (enc x) (enc-all enc xs) size l, drop-at (enc x) (enc-all enc xs) size l, e x, map-parts-enc enc size f g e r)
 
 -- ---- elements below a bound
 pub below-of : (n : ℕ) (s : List ℕ) → ((i : ℕ) → getD s i 0 < n) → Below n s

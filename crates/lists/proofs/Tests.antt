@@ -4,14 +4,14 @@ use mathlib.Core.List.{List, [], _∷_, _++_, List·Memᴰ, List·Memᴰ·head, 
 use mathlib.Core.List.{List·Memᴰ·append-cases, List·Memᴰ·eq-of-singleton}
 use mathlib.Core.Bool.{Bool, true, false, not, cond}
 use mathlib.Core.Logic.{_⊎_, inl, inr}
-use Prim.Native.Nat.{ℕ, zero, suc, _+_, _≤_, _<_}
+use Prim.Native.Nat.{ℕ, zero, suc, _≤_, _<_}
 use native.Mathlib.Nat.{not-suc-le-zero, le-of-suc-le-suc}
 use native.Mathlib.Omega.{arith}
 use mir.Val.{boolByte}
 use lib.Dec.{ltb, eqb}
 use lib.ListN.{length, getD}
 use borrow.Author.Tests.{eqb-true, eqb-false, eq-eqb, ltb-true, ltb-false}
-use Rattle.lists.specs.Tests.{_and_, _or_, all-below, some-below, count-below, every, some, only}
+use Rattle.lists.specs.Tests.{_and_, _or_, all-below, some-below, count-below, every, some, same-numbers, only}
 
 -- ---- cases on a test, keeping the equation
 pub by {ℓ} : {P : Type ℓ} (b : Bool) → (b ≡ true → P) → (b ≡ false → P) → P
@@ -192,12 +192,6 @@ every-at test [] d y i h = absurd (not-suc-le-zero h)
 every-at test (x ∷ l) d y zero h = and-l _ _ y
 every-at test (x ∷ l) d y (suc i) h = every-at test l d (and-r _ _ y) i (le-of-suc-le-suc h)
 
-pub some-in : {A : Type 0} (test : A → Bool) (l : List A) → some test l ≡ true → (x : A) × List·Memᴰ x l × (test x ≡ true)
-unfolding some
-some-in test [] y = impossible y
-some-in test (z ∷ l) y =
-    elim (or-cases _ _ y) [ inl q ↦ (z, List·Memᴰ·head refl, q) | inr q ↦ let t = some-in test l q in (t .0, List·Memᴰ·tail (t .1), t .2) ]
-
 pub some-of : {A : Type 0} (test : A → Bool) (l : List A) (x : A) → List·Memᴰ x l → test x ≡ true → some test l ≡ true
 unfolding some
 some-of test [] x m y = absurd (List·Memᴰ·not-nil m)
@@ -245,3 +239,19 @@ length-only test [] = omega arith
 length-only {A} test (z ∷ l) =
     let u = length-only test l in
     either (λ (r : List A). length r ≤ suc (length l)) (test z) {x = z ∷ only test l} {y = only test l} (λ _. omega arith) (λ _. omega arith)
+
+-- ---- two lists of the same numbers
+pub same-numbers-eq : (l m : List ℕ) → same-numbers l m ≡ true → l ≡ m
+unfolding same-numbers
+same-numbers-eq [] [] y = refl
+same-numbers-eq [] (b ∷ m) y = impossible y
+same-numbers-eq (a ∷ l) [] y = impossible y
+same-numbers-eq (a ∷ l) (b ∷ m) y =
+    let e : a ≡ b = eqb-true a b (and-l _ _ y) in
+    let r : l ≡ m = same-numbers-eq l m (and-r _ _ y) in
+    cc
+
+pub same-numbers-self : (l : List ℕ) → same-numbers l l ≡ true
+unfolding same-numbers
+same-numbers-self [] = refl
+same-numbers-self (a ∷ l) = both _ _ (eqb-self a) (same-numbers-self l)

@@ -1,7 +1,7 @@
 -- Runs of a list, a list with one run changed, and arrays of records of one size.
 use mathlib.Core.Path.{_≡_}
 use mathlib.Core.List.{List, [], _∷_, _++_}
-use Prim.Native.Nat.{ℕ, zero, suc, _*_, _<_}
+use Prim.Native.Nat.{ℕ, _*_, _<_}
 use lib.ListN.{length, take, drop}
 
 -- the n elements from a on
@@ -15,11 +15,6 @@ on-run a n f ws = take a ws ++ (f (run a n ws) ++ drop n (drop a ws))
 -- part i of a list seen as parts of one size
 abbrev pub part : ℕ → ℕ → List ℕ → List ℕ
 part size i ws = run (i * size) size ws
-
--- each of the first n parts changed
-unfoldable pub map-parts : ℕ → (List ℕ → List ℕ) → ℕ → List ℕ → List ℕ
-map-parts size f zero ws = ws
-map-parts size f (suc n) ws = f (take size ws) ++ map-parts size f n (drop size ws)
 
 -- an array of records: their encodings one after the other
 unfoldable pub enc-all : {A : Type 0} → (A → List ℕ) → List A → List ℕ

@@ -2,7 +2,7 @@
 use mathlib.Core.List.{List, [], _∷_}
 use mathlib.Core.Bool.{Bool, true, false, cond, _&&_, _||_}
 use Prim.Native.Nat.{ℕ, zero, suc, _+_}
-use lib.Dec.{leb, ltb}
+use lib.Dec.{leb, ltb, eqb}
 
 -- the library's connectives, shut, so that a law finds its arguments in a test
 infixl 35 _and_
@@ -41,6 +41,13 @@ every test (x ∷ l) = test x and every test l
 unfoldable pub some : {A : Type 0} → (A → Bool) → List A → Bool
 some test [] = false
 some test (x ∷ l) = test x or some test l
+
+-- the same numbers in the same order
+unfoldable pub same-numbers : List ℕ → List ℕ → Bool
+same-numbers [] [] = true
+same-numbers [] (b ∷ m) = false
+same-numbers (a ∷ l) [] = false
+same-numbers (a ∷ l) (b ∷ m) = eqb a b and same-numbers l m
 
 -- the elements of which the test holds, in their order
 unfoldable pub only : {A : Type 0} → (A → Bool) → List A → List A

@@ -66,9 +66,6 @@ entered-lay L m p k s n R I C hr hi hp hm =
 
 module _ (L w : ℕ) (ys : List Stored) (ws : List ℕ) (hl : length ws ≡ 1 + 3 * L + L * w) (fit : Fits L w ys) (room : length ys < L)
     (x : Stored) (hx : length (x .cell) ≡ w) where
-  pub fits-more : Fits L w (ys ++ x ∷ [])
-  fits-more = record { few = rw length-append (omega arith); sized = sized-more x (fit .sized) hx }
-
   module _ (p : ℕ) (pl : KeyPlace L (length ys) (write-log L ys ws) (x .key) p) where
     position-in : positions-of (ys ++ x ∷ []) ≡ take p (positions-of ys) ++ length ys ∷ drop p (positions-of ys)
     position-in =

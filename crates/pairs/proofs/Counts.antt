@@ -6,8 +6,7 @@ use Prim.Native.Nat.{ℕ, zero, suc, _+_, _*_, _/_, _≤_, _<_}
 use native.Mathlib.Nat.{suc-mul, zero-mul, div-add-mod', mod-lt, mul-comm}
 use native.Mathlib.Omega.{arith}
 use lib.Dec.{eqb}
-use lib.ListN.{length, set, length-append, List·getD-append}
-use lib.Seq.{getD-append-add}
+use lib.ListN.{length, set, length-append}
 use borrow.Author.Tests.{eq-eqb, ne-eqb}
 use Rattle.lists.proofs.Tests.{by, by-eq, impossible}
 use Rattle.rules.specs.Pairs.{Slots, at, among, load, share, slots-of}
@@ -129,17 +128,3 @@ pub slots-length : (n : ℕ) (p b : ℕ → ℕ) → length (slots-of n p b) ≡
 unfolding slots-of
 slots-length zero p b = refl
 slots-length (suc n) p b = length-append (slots-of n p b) (p n ∷ b n ∷ []) ∙ omega (arith, slots-length n p b)
-
-pub slots-at : (n : ℕ) (p b : ℕ → ℕ) → Buckets n (λ g x y. (x ≡ p g) × (y ≡ b g)) (slots-of n p b)
-unfolding slots-of
-slots-at zero p b g h = absurd (omega arith)
-slots-at (suc n) p b g h =
-    let l = slots-length n p b in
-    let s = slots-of n p b in
-    let t : List ℕ = p n ∷ b n ∷ [] in
-    by-eq g n
-    (λ _ e. let e0 : 2 * g ≡ length s + 0 = omega arith in
-    let e1 : length s + 0 + 1 ≡ length s + 1 = omega arith in
-    rw (e0, e1, getD-append-add s t 0 0, getD-append-add s t 1 0, e) (refl, refl))
-    (λ _ d. let i = slots-at n p b g (omega (arith, d)) in
-    rw (List·getD-append s t 0 (2 * g) (omega (arith, d)), List·getD-append s t 0 (2 * g + 1) (omega (arith, d))) i)

@@ -8,7 +8,6 @@ use Prim.Native.Nat.{ℕ, zero, suc, _+_, _*_, _≤_, _<_}
 use native.Mathlib.Omega.{arith}
 use lib.ListN.{length}
 use borrow.Author.Tests.{eqb-true}
-use Rattle.lists.specs.Tests.{_or_}
 use Rattle.lists.proofs.Tests.{by, eqb-self, impossible, clash, or-cases, or-l, or-r}
 use Rattle.rules.specs.Pairs.{Slots, at, among, ids-of, pairs}
 use Rattle.rules.proofs.Parts.{ids-in}

@@ -74,6 +74,3 @@ module _ (n : ℕ) (P Q : ℕ → ℕ → ℕ → Type 0) where
 
     pub stage : Buckets n Q (in-order n f s)
     stage = halves n (omega arith) .done
-
-    pub stage-length : length (in-order n f s) ≡ 2 * n
-    stage-length = halves n (omega arith) .long

@@ -161,9 +161,6 @@ module _ (ms : List ℕ) (c k j : ℕ) (s : Slots) where
   pub give-outside : (x : ℕ) → x ≡ least-loaded s ms (at s k) (at s j) → (x ≡ 0 → ⊥) → Outside ms (at s k) (at s j) x
   give-outside x e n = rw e (least-outside s ms (at s k) (at s j) (λ q. n (e ∙ q)))
 
-abbrev pub Pairs : List ℕ → ℕ → ℕ → ℕ → Type 0
-Pairs ms g x y = Apart ms x y
-
 pub give-primary : (ms : List ℕ) (c g : ℕ) (s : Slots) → Apart ms (at s (2 * g)) (at s (2 * g + 1))
     → Writes (Apart ms) g s (give-way ms c (2 * g) (2 * g + 1) s)
 give-primary ms c g s p =

@@ -1,16 +1,16 @@
 -- Laws of chunk logs.
 use mathlib.Core.Path.{_≡_, refl, sym, ap, _∙_}
-use mathlib.Core.List.{List, [], _∷_, map, List·Memᴰ, List·Memᴰ·head, List·Memᴰ·tail, List·Memᴰ·cases-cons, List·Memᴰ·append-cases, List·Memᴰ·eq-of-singleton}
+use mathlib.Core.List.{List, [], _∷_, map, List·Memᴰ, List·Memᴰ·head, List·Memᴰ·tail, List·Memᴰ·cases-cons}
 use mathlib.Core.List.{List·Memᴰ·not-nil}
 use mathlib.Core.Bool.{Bool, true, false}
-use mathlib.Core.Logic.{_⊎_, inl, inr}
+use mathlib.Core.Logic.{inl, inr}
 use Prim.Native.Nat.{ℕ, suc}
 use lib.Dec.{eqb}
 use lib.ListN.{length}
 use borrow.Author.Tests.{eqb-true}
-use Rattle.lists.specs.Tests.{_and_, _or_, some, only}
+use Rattle.lists.specs.Tests.{_or_, some, only}
 use Rattle.lists.proofs.Tests.{by, by-eq, either, eqb-self, impossible, clash, and-l, and-r, both, or-cases, or-l, or-r, or-second, no, is-no}
-use Rattle.rules.specs.Chunks.{Chunk, held, saved-in, bytes-in, append, save, only-saved, only-named}
+use Rattle.rules.specs.Chunks.{Chunk, held, saved-in, bytes-in, append, save, only-named}
 use Rattle.rules.specs.Sound.{keys-apart}
 
 -- a key that is held: its chunk, whose bytes are those that are read
@@ -31,9 +31,6 @@ pub held-append : (l : List Chunk) (c : Chunk) (k : ℕ) → held (append l c) k
 unfolding held some _or_
 held-append [] c k = by (eqb k (c .key)) (λ q. rw q refl) (λ q. rw q refl)
 held-append (x ∷ l) c k = by (eqb k (x .key)) (λ q. rw q refl) (λ q. rw q (held-append l c k))
-
-pub append-in : (l : List Chunk) (c : Chunk) {d : Chunk} → List·Memᴰ d (append l c) → (List·Memᴰ d l) ⊎ (d ≡ c)
-append-in l c m = elim (List·Memᴰ·append-cases l m) [ inl o ↦ inl o | inr o ↦ inr (List·Memᴰ·eq-of-singleton o) ]
 
 pub saved-append : (l : List Chunk) (c : Chunk) (k : ℕ) → saved-in l k ≡ true → saved-in (append l c) k ≡ true
 unfolding saved-in some
@@ -111,13 +108,4 @@ saved-only-named f (c ∷ l) k n y =
     elim (or-cases _ _ y) [
       | inl z ↦ let e = eqb-true k (c .key) (and-l _ _ z) in rw (← e, n) (or-l _ _ (both _ _ (eqb-self k) (and-r _ _ z)))
       | inr z ↦ either (λ (r : List Chunk). saved-in r k ≡ true) (f (c .key)) (λ _. or-r _ _ (saved-only-named f l k n z)) (λ _. saved-only-named f l k n z)
-    ]
-
-pub saved-only-saved : (l : List Chunk) (k : ℕ) → saved-in l k ≡ true → saved-in (only-saved l) k ≡ true
-unfolding saved-in some only-saved only
-saved-only-saved [] k y = y
-saved-only-saved (c ∷ l) k y =
-    elim (or-cases _ _ y) [
-      | inl z ↦ rw (and-r _ _ z) (or-l _ _ (both _ _ (and-l _ _ z) refl))
-      | inr z ↦ either (λ (r : List Chunk). saved-in r k ≡ true) (c .saved) (λ _. or-r _ _ (saved-only-saved l k z)) (λ _. saved-only-saved l k z)
     ]

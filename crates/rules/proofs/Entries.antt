@@ -1,17 +1,17 @@
 -- Laws of entries: what look, has and membership say of a list with one block inserted, removed or drained into it.
 use mathlib.Core.Path.{_≡_, refl, sym, ap}
 use mathlib.Core.List.{List, [], _∷_, List·Memᴰ, List·Memᴰ·head, List·Memᴰ·tail, List·Memᴰ·cases-cons, List·Memᴰ·not-nil}
-use mathlib.Core.Bool.{Bool, true, false, not, cond}
+use mathlib.Core.Bool.{Bool, true, false, cond}
 use mathlib.Core.Logic.{_⊎_, inl, inr}
 use Prim.Native.Nat.{ℕ, suc, _≤_, _<_}
 use native.Mathlib.Omega.{arith}
 use lib.Dec.{ltb, eqb}
 use lib.ListN.{length}
 use borrow.Author.Tests.{ne-eqb, ltb-true, leb-true, le-leb}
-use Rattle.lists.specs.Tests.{_and_, _or_, some, only}
+use Rattle.lists.specs.Tests.{_or_, some, only}
 use Rattle.lists.specs.Columns.{upd}
 use Rattle.lists.proofs.Tests.{by, by-eq, by-lt, either, eqb-self, impossible, clash, and-l, and-r, both, or-cases, or-l, or-r, or-second}
-use Rattle.rules.specs.Entries.{Entry, entry, look, has, names, ascending, insert, remove, takes, drain}
+use Rattle.rules.specs.Entries.{Entry, entry, look, has, names, ascending, insert, takes, drain}
 
 -- ---- look and has
 pub has-entry : (l : List Entry) (b : ℕ) → has l b ≡ true → (e : Entry) × List·Memᴰ e l × (e .block ≡ b) × (look l b ≡ e .key)
@@ -95,20 +95,6 @@ length-insert floor l b k most s u y =
     elim (or-cases _ _ y) [ inl z ↦ omega (arith, as-many floor l b k s z) | inr z ↦ omega (arith, one-more l b k, ltb-true (length l) most z) ]
 
 -- ---- remove
-pub look-remove : (l : List Entry) (b c : ℕ) → look (remove l b) c ≡ upd (look l) b 0 c
-unfolding look remove only upd
-look-remove [] b c = by (eqb c b) (λ q. cc) (λ q. cc)
-look-remove (e ∷ l) b c =
-    by-eq b (e .block) (λ q r. by-eq c b (λ t u. cc (look-remove l b c)) (λ t u. cc (look-remove l b c)))
-    (λ q r. by-eq c b (λ t u. cc (look-remove l b c, ne-eqb c (e .block) (λ z. r (cc)))) (λ t u. cc (look-remove l b c)))
-
-pub has-remove : (l : List Entry) (b c : ℕ) → has (remove l b) c ≡ (not (eqb c b) and has l c)
-unfolding has some remove only _or_ _and_
-has-remove [] b c = by (eqb c b) (λ q. cc) (λ q. cc)
-has-remove (e ∷ l) b c =
-    by-eq b (e .block) (λ q r. by-eq c b (λ t u. cc (has-remove l b c)) (λ t u. cc (has-remove l b c, ne-eqb c (e .block) (λ z. u (cc)))))
-    (λ q r. by-eq c (e .block) (λ t u. cc (ne-eqb c b (λ z. r (cc)))) (λ t u. cc (has-remove l b c)))
-
 pub ascending-only : (floor : ℕ) (test : Entry → Bool) (l : List Entry) → ascending floor l ≡ true → ascending floor (only test l) ≡ true
 unfolding ascending only
 ascending-only floor test [] y = refl

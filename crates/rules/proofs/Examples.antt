@@ -2,7 +2,7 @@
 use mathlib.Core.Path.{_≡_, refl}
 use mathlib.Core.Bool.{true}
 use Prim.Native.Nat.{ℕ}
-use Rattle.lists.specs.Tests.{_and_, _or_, all-below, some-below, count-below, every, some, only}
+use Rattle.lists.specs.Tests.{_and_, _or_, all-below, some-below, count-below, every, some, same-numbers, only}
 use Rattle.lists.specs.Columns.{upd}
 use Rattle.rules.specs.Limits.{in-range, in-limits, buckets}
 use Rattle.rules.specs.Numbers.{proxy-of, bucket-of, is-data}
@@ -24,7 +24,7 @@ use Rattle.rules.specs.Step.{rule, step, after-all}
 use Rattle.rules.specs.Whole.{saved-twice, whole}
 use Rattle.rules.specs.Sound.{same-entries}
 use Rattle.rules.specs.Alike.{same-flag, same-settings, alike}
-use Rattle.rules.specs.Examples.{pairs-in, last-of, chunks-in, entries-in, orders-in, value, same-numbers, all-right, a1, b2, again, for-each}
+use Rattle.rules.specs.Examples.{pairs-in, last-of, chunks-in, entries-in, orders-in, value, all-right, a1, b2, again, for-each}
 use Rattle.rules.specs.Examples.{marked, slips}
 
 unfoldable lists-open : ℕ

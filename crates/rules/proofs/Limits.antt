@@ -5,7 +5,6 @@ use Prim.Native.Nat.{ℕ, _%_, _≤_, _<_}
 use native.Mathlib.Omega.{arith}
 use lib.Dec.{eqb}
 use borrow.Author.Tests.{leb-true, eqb-true}
-use Rattle.lists.specs.Tests.{_and_}
 use Rattle.lists.proofs.Tests.{by, and-l, and-r, both}
 use Rattle.rules.specs.declared.settings.Settings.{Settings}
 use Rattle.rules.specs.declared.settings.Checked.the-variants.{Good, Bad}

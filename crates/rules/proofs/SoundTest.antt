@@ -24,9 +24,6 @@ use Rattle.rules.proofs.Sound.{EntryOk, TableOk, BufferOk, ChunkOk, Log
 use Rattle.rules.proofs.Placed.{Placed}
 
 -- ---- an implication between tests, read backwards
-so-not : (a b : Bool) → (a ≡ true → b ≡ true) → b ≡ false → a ≡ false
-so-not a b f n = by a (λ y. clash n (f y)) (λ z. z)
-
 not-so : (a b : Bool) → (b ≡ false → a ≡ false) → a ≡ true → b ≡ true
 not-so a b f y = by b (λ z. z) (λ n. clash (f n) y)
 
@@ -312,34 +309,6 @@ module _ (s : State) where
       bucket-test (s .bucket g) .1 (record { pair = k .pair; last = k .last; order = k .order; taken = k .taken }))))
       (both _ _ (le-leb _ _ (v .bag-room)) (every-of (sound-relay keys (s .settings)) (s .bag) (λ r m. relay-test r .1 (v .relays r m)))))
       (all-true _ proxy-passes (λ p _. proxy-test p .1 (record { known = v .known p; items = v .items p })))
-
-  -- ---- and its columns are those of its places
-  pub facts-placed : Sound s → Placed s
-  facts-placed v =
-      let b = v .bricks in
-      let k = s .bricks in
-      let count = buckets (s .settings) in
-      let down : (i : ℕ) → k .here i ≡ false → k .up i ≡ false = λ i. so-not _ _ (b .up-here i) in
-      record {
-        beyond = b .beyond;
-        stands = b .stands;
-        somewhere = b .somewhere;
-        no-zero = by (k .here 0) (λ y. absurd (omega (arith, b .first 0 y))) (λ z. z);
-        blank-up = down;
-        blank-member = λ i n. so-not _ _ (b .member-up i) (down i n);
-        blank-began = λ i. so-not _ _ (b .began-here i);
-        blank-next = v .numbers .blank-next;
-        blank-ceiling = v .numbers .blank-ceiling;
-        blank-log = v .log-blank;
-        blank-buffer = λ i n. v .buffer-down i (down i n);
-        blank-memory = λ g i n.
-            by-lt g count (λ _ l. v .buckets-ok g l .blank-memory i n) (λ _ l. ap (λ (o : Bucket). o .memory i) (v .no-bucket g l));
-        blank-disk = λ g i n.
-            by-lt g count (λ _ l. v .buckets-ok g l .blank-disk i n) (λ _ l. ap (λ (o : Bucket). o .disk i) (v .no-bucket g l));
-        no-bucket = v .no-bucket;
-        no-items = v .no-items;
-        no-known = v .no-known;
-      }
 
   -- ---- a store that passes, with columns by place, is sound
   module _ (h : Placed s) where

@@ -1,11 +1,10 @@
 -- Worked examples: what is asked, and the numbers that are the answer. `marked` are 01's examples with a star; `slips` would catch a wrong rule or a wrong
 -- order of questions.
 use mathlib.Core.List.{List, [], _∷_, _++_}
-use mathlib.Core.Bool.{Bool, true, false, cond}
-use Prim.Native.Nat.{ℕ, zero, suc, _+_, _*_, _^_}
-use lib.Dec.{eqb}
+use mathlib.Core.Bool.{Bool, cond}
+use Prim.Native.Nat.{ℕ, zero, suc, _*_, _^_}
 use lib.ListN.{replicate}
-use Rattle.lists.specs.Tests.{_and_, every}
+use Rattle.lists.specs.Tests.{every, same-numbers}
 use Rattle.lists.specs.Columns.{upd}
 use Rattle.rules.specs.declared.settings.Settings.{Settings}
 use Rattle.rules.specs.Limits.{in-limits, buckets}
@@ -85,12 +84,6 @@ pub record Row : Type 0 where
 infix 20 _gives_
 abbrev pub _gives_ : Asked → List ℕ → Row
 a gives n = record { asked = a; answer = n }
-
-unfoldable pub same-numbers : List ℕ → List ℕ → Bool
-same-numbers [] [] = true
-same-numbers [] (n ∷ m) = false
-same-numbers (n ∷ l) [] = false
-same-numbers (n ∷ l) (k ∷ m) = eqb n k and same-numbers l m
 
 -- every row gives its answer
 unfoldable pub all-right : List Row → Bool

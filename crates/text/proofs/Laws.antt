@@ -6,34 +6,17 @@ use mathlib.Core.Option.{Option, some, none}
 use Prim.Native.Nat.{ℕ, zero, suc, _+_, _≤_, _<_}
 use native.Mathlib.Nat.{add-zero}
 use native.Mathlib.Omega.{arith}
-use borrow.Author.Tests.{eqb-true, eq-eqb, leb-true, ltb-true}
+use borrow.Author.Tests.{eqb-true, leb-true, ltb-true}
 use lib.Dec.{eqb, leb, ltb}
 use lib.ListN.{length, getD}
-use Rattle.lists.specs.Tests.{_and_, all-below, every}
-use Rattle.lists.proofs.Tests.{impossible, by, by-lt, and-l, and-r, all-at}
+use Rattle.lists.specs.Tests.{_and_, all-below, every, same-numbers}
+use Rattle.lists.proofs.Tests.{by, by-lt, and-l, and-r, all-at, same-numbers-eq}
 use Rattle.area.specs.Area.{onto}
 use Rattle.area.proofs.Each.{Above, each-of}
 use Rattle.rules.specs.Event.{kind-count, ascii, Kind, kinds, no-kind, kind-at}
-use Rattle.text.specs.Words.{same-bytes, kind-from, kind-of-word}
+use Rattle.text.specs.Words.{kind-from, kind-of-word}
 use Rattle.text.specs.Table.{shape-of, kind-number}
 use Rattle.text.specs.declared.Shape.{Shape}
-
--- ---- the same bytes
-
-pub same-refl : (s : List ℕ) → same-bytes s s ≡ true
-unfolding same-bytes
-same-refl [] = refl
-same-refl (a ∷ s) = rw (eq-eqb a a refl, same-refl s)
-
-pub same-eq : (s t : List ℕ) → same-bytes s t ≡ true → s ≡ t
-unfolding same-bytes
-same-eq [] [] e = refl
-same-eq [] (b ∷ t) e = impossible e
-same-eq (a ∷ s) [] e = impossible e
-same-eq (a ∷ s) (b ∷ t) e =
-    by (eqb a b)
-    (λ p. let q : a ≡ b = eqb-true a b p in let r : s ≡ t = same-eq s t (rw p at e) in cc)
-    (λ p. impossible (rw p at e))
 
 -- ---- every row of the table
 
@@ -43,7 +26,7 @@ row-ok k f =
     eqb (kind-number (kind-of-word (f .word))) k and leb (length (f .word)) 7 and every (λ b. ltb 44 b) (f .word) and leb (f .numbers) 3
 
 rows : (i : ℕ) → i < kind-count → row-ok (suc i) (kind-at (suc i)) ≡ true
-unfolding row-ok _and_ all-below every kind-of-word kind-from same-bytes kind-number kind-at kinds ascii
+unfolding row-ok _and_ all-below every kind-of-word kind-from same-numbers kind-number kind-at kinds ascii
 rows i h = all-at kind-count (λ k. row-ok (suc k) (kind-at (suc k))) refl i h
 
 pub record KindOk (k : ℕ) : Type 0 where
@@ -120,11 +103,11 @@ kind-in-some : (fs : List Kind) (k j : ℕ) (w : List ℕ) → kind-from k fs w 
 unfolding kind-from
 kind-in-some [] k j w e = let z : _≡_ {A = ℕ} 0 1 = cc in absurd (omega arith)
 kind-in-some (f ∷ fs) k j w e =
-    by (same-bytes w (f .word))
+    by (same-numbers w (f .word))
     (λ p.
     let g : some k ≡ some j = rw p at e in
     let s : j ≡ k = cc in
-    (0, rw add-zero s, omega arith, sym (same-eq w (f .word) p)))
+    (0, rw add-zero s, omega arith, sym (same-numbers-eq w (f .word) p)))
     (λ p.
     let r = kind-in-some fs (suc k) j w (rw p at e) in
     (suc (r .0), omega (arith, r .1), omega (arith, r .2), r .3))

@@ -11,12 +11,12 @@ use borrow.Author.Tests.{eq-eqb, ne-eqb, ltb-true}
 use lib.Dec.{eqb, ltb}
 use lib.ListN.{length, getD, drop}
 use lib.Seq.{ext-getD}
-use Rattle.lists.specs.Tests.{_and_, all-below, every}
-use Rattle.lists.proofs.Tests.{by, by-lt, clash, and-l, and-r, all-at}
+use Rattle.lists.specs.Tests.{_and_, all-below, every, same-numbers}
+use Rattle.lists.proofs.Tests.{by, by-lt, clash, and-l, and-r, all-at, same-numbers-eq, same-numbers-self}
 use Rattle.rules.specs.Event.{kind-count, ascii, Kind, kinds, no-kind}
-use Rattle.text.specs.Words.{same-bytes, kind-from, kind-of-word, packed-upto, packed, packed-from, kind-of-packed}
+use Rattle.text.specs.Words.{kind-from, kind-of-word, packed-upto, packed, packed-from, kind-of-packed}
 use Rattle.text.specs.Table.{kind-number}
-use Rattle.text.proofs.Laws.{same-refl, same-eq, form-ok, kind-some, Passed, passed-at}
+use Rattle.text.proofs.Laws.{form-ok, kind-some, Passed, passed-at}
 
 abbrev pub Bytes : List ℕ → ℕ → Type 0
 Bytes w n = (i : ℕ) → i < n → getD w i 0 < 256
@@ -77,11 +77,11 @@ module _ (v w : List ℕ) (bv : Bytes v (length v)) (bw : Bytes w (length w)) wh
   unfolding packed
   packed-eq e = let p = packed-same v w (length v) (length w) bv bw e in ext-getD 0 v w (p .0) (p .1)
 
-  same-packed : same-bytes v w ≡ eqb (packed v) (packed w)
+  same-packed : same-numbers v w ≡ eqb (packed v) (packed w)
   same-packed =
-      by (same-bytes v w)
-      (λ t. t ∙ sym (eq-eqb (packed v) (packed w) (ap packed (same-eq v w t))))
-      (λ f. f ∙ sym (ne-eqb (packed v) (packed w) (λ e. clash f (ap (λ (u : List ℕ). same-bytes u w) (packed-eq e) ∙ same-refl w))))
+      by (same-numbers v w)
+      (λ t. t ∙ sym (eq-eqb (packed v) (packed w) (ap packed (same-numbers-eq v w t))))
+      (λ f. f ∙ sym (ne-eqb (packed v) (packed w) (λ e. clash f (ap (λ (u : List ℕ). same-numbers u w) (packed-eq e) ∙ same-numbers-self w))))
 
 -- ---- the kind by the number
 

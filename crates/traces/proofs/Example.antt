@@ -2,11 +2,12 @@
 use mathlib.Core.Path.{_≡_, refl}
 use mathlib.Core.List.{List, [], _∷_, _++_}
 use Prim.Native.Nat.{ℕ}
+use Rattle.lists.specs.Tests.{same-numbers}
 use Rattle.rules.specs.Event.{ascii, kinds, kind-at, event-of}
 use Rattle.rules.proofs.Examples.{rules-open}
 use Rattle.decimal.specs.Decimal.{digits, decimal, push, and-then, spelled, number-of}
 use Rattle.hex.specs.Hex.{hex-digit, hex, is-digit, digit-value, only-digits, unhex, spells-bytes, bytes-of}
-use Rattle.text.specs.Words.{same-bytes, kind-from, kind-of-word}
+use Rattle.text.specs.Words.{kind-from, kind-of-word}
 use Rattle.text.specs.Fields.{parted, before, fields}
 use Rattle.text.specs.Lines.{take-numbers, take-bytes, parts-of-kind, parts-of-fields, is-line, without-feed, read-parts, read-event, settings-at}
 use Rattle.text.specs.Lines.{settings-of-fields, read-settings}
@@ -21,7 +22,7 @@ text (l ∷ ls) = l ++ (10 ∷ text ls)
 
 -- to unfold this is to unfold how lines are read and written
 unfoldable lines-open : ℕ
-unfolding push and-then spelled number-of is-digit digit-value only-digits unhex spells-bytes bytes-of ascii kinds kind-at same-bytes kind-from kind-of-word
+unfolding push and-then spelled number-of is-digit digit-value only-digits unhex spells-bytes bytes-of ascii kinds kind-at same-numbers kind-from kind-of-word
     before fields take-numbers take-bytes parts-of-kind parts-of-fields is-line without-feed read-parts read-event settings-at settings-of-fields
     read-settings event-of digits decimal
     hex-digit hex parted data-text answer-line lines-from lines

@@ -1,15 +1,15 @@
 -- Laws of words in bytes: a word read, a word written, parts, and the way there and back.
 use mathlib.Core.Path.{_≡_, refl, sym, ap, _∙_}
 use mathlib.Core.List.{List, [], _∷_, _++_, append-assoc}
-use Prim.Native.Nat.{ℕ, zero, suc, _+_, _*_, _-_, _/_, _%_, _^_, _≤_, _<_}
+use Prim.Native.Nat.{ℕ, zero, suc, _+_, _*_, _/_, _%_, _^_, _≤_, _<_}
 use native.Mathlib.Nat.{mul-assoc, pow-succ', one-le-pow, div-div-eq-div-mul, pow-suc, div-lt-iff-lt-mul, not-suc-le-zero, le-of-suc-le-suc, zero-add, suc-add}
 use native.Mathlib.Numerals.{add-one, add-two, add-three, add-four, add-five, add-six, add-seven}
 use native.Mathlib.Omega.{arith}
 use lib.Dec.{lit<}
 use lib.ListN.{length, length-take, take, drop, getD, set, length-append, length-drop, take-append-drop}
 use lib.Seq.{drop-cons, drop-drop, take-add, take-append-le, drop-append-le, take-at, drop-at, length-take-le, set-split, sets-eq}
-use Rattle.lists.specs.Runs.{run, on-run, map-parts, Below, none, more}
-use Rattle.lists.proofs.Runs.{map-parts-turn, below-take, below-drop, below-append}
+use Rattle.lists.specs.Runs.{run, on-run, Below, none, more}
+use Rattle.lists.proofs.Runs.{below-take, below-drop, below-append}
 use Rattle.words.specs.Words.{le-bytes, bytes-of, first-words, words, unwords}
 
 pub length-first-words : (n : ℕ) (s : List ℕ) → length (first-words n s) ≡ n
@@ -231,11 +231,3 @@ pub lent-run : (s t : List ℕ) (o k a n : ℕ) (f : List ℕ → List ℕ) → 
     → words t ≡ f (words (take k (drop o s))) → words (take o s ++ (t ++ drop k (drop o s))) ≡ on-run a n f (words s)
 unfolding on-run
 lent-run s t o k a n f eo ek h lt et = rw (words-back s o k a n eo ek h t lt, et, words-part s o k a n eo ek h)
-
--- a turn of a loop that lends part i to a callee that makes f of it
-module _ (size : ℕ) (f : List ℕ → List ℕ) (keeps : (l : List ℕ) → length l ≡ size → length (f l) ≡ size) where
-  pub parts-turn : (s t w : List ℕ) (o k i : ℕ) → o ≡ 8 * (i * size) → k ≡ 8 * size → 8 * (i * size) + 8 * size ≤ length s
-      → i * size + size ≤ length w → length t ≡ 8 * size → words s ≡ map-parts size f i w → words t ≡ f (words (take k (drop o s)))
-      → words (take o s ++ (t ++ drop k (drop o s))) ≡ map-parts size f (i + 1) w
-  parts-turn s t w o k i eo ek h hw lt es et =
-      lent-run s t o k (i * size) size f eo ek h lt et ∙ rw (es, add-one i) (map-parts-turn size f keeps i w hw)
