@@ -2,7 +2,7 @@
 use mathlib.Core.Path.{_≡_, refl, sym, ap, _∙_}
 use mathlib.Core.List.{List}
 use mathlib.Core.Bool.{Bool, true, false}
-use Prim.Native.Nat.{ℕ, _+_, _*_, _-_}
+use Prim.Native.Nat.{ℕ, _+_, _*_, _-_, _^_, _≤_, _<_}
 use native.Mathlib.Omega.{arith}
 use lib.ListN.{length, take, drop, length-drop}
 use Rattle.lists.specs.Tests.{_and_, _or_}
@@ -12,10 +12,13 @@ use Rattle.lists.proofs.Runs.{run-all}
 use Rattle.words.specs.Words.{words}
 use Rattle.words.proofs.Laws.{length-words}
 use Rattle.rules.specs.declared.settings.Settings.{Settings}
+use Rattle.rules.specs.Limits.{buckets}
 use Rattle.rules.specs.Entries.{Entry}
 use Rattle.rules.specs.Sound.{sound-table, in-bucket, same-entries, sound-copies}
 use Rattle.rules.proofs.SoundTest.{same-entries-test}
 use Rattle.layout.specs.Layout.{copy-codec, copies-codec, copies-words}
+use Rattle.rules.proofs.Limits.{Limits}
+use Rattle.layout.proofs.Bounds.{place-small}
 use Rattle.layout.proofs.Lent.{lent}
 use Rattle.checks.specs.Copies.{copies-sound}
 
@@ -40,6 +43,21 @@ module _ (c : Settings) (good : ℕ → Bool) (g : ℕ) (up : Bool) (memory disk
   pub disk-alone : up ≡ true → disk-good c good g up memory disk ≡ sound-table good (in-bucket c g) (c .entries) disk
   unfolding disk-good
   disk-alone u = yes-second _ _ (or-l _ _ u)
+
+-- ---- the copies of all buckets, by numbers that the code reads
+pub record AllCopies (c : Settings) (n size : ℕ) : Type 0 where
+  pub same : n * size ≡ buckets c * copies-words c
+  pub small : n * size < 2 ^ 27
+
+pub all-copies : (c : Settings) (n size : ℕ) → Limits c → n ≡ buckets c → size ≡ copies-words c → AllCopies c n size
+all-copies c n size l en es =
+    let same : n * size ≡ buckets c * copies-words c = rw (en, es) in
+    record { same = same; small = omega (arith, same, place-small c l) }
+
+pub copies-of-bucket : (c : Settings) (n size g o : ℕ) (s : List ℕ) → AllCopies c n size → size ≡ copies-words c → length s ≡ 8 * (buckets c * copies-words c)
+    → o ≡ g * size → o + size ≤ n * size → words (take (8 * o + 8 * size - 8 * o) (drop (8 * o) s)) ≡ part (copies-words c) g (words s)
+copies-of-bucket c n size g o s a es h eo ho =
+    lent s (8 * o) (8 * o + 8 * size) (g * size) size (omega (arith, eo)) refl (omega (arith, eo, ho, a .same, h)) ∙ rw es
 
 in-turn : (a b d : Bool) → ((a and b) and d) ≡ (a and (b and d))
 unfolding _and_

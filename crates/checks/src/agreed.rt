@@ -47,9 +47,10 @@ pub fn all_agreed_good(settings: Settings, given: u64, store: &[u8]) -> bool
     requires { ⌜ AllAgreedFit settings (length (now store)) ⌝ }
     ensures { λ r. ⌜ r ≡ all-below (buckets settings) (agreed-at-sound given (words (now (store .entry)))) ⌝ }
 {
+    let count = sizes::buckets(settings);
     let mut g = 0;
-    while g < sizes::BUCKETS {
-        let a = 8 * (sizes::HEAD_WORDS + g * sizes::AGREED_WORDS);
+    while g < count {
+        let a = 8 * sizes::agreed_at(settings, g);
         if !agreed_good(given, &store[a..a + 8 * sizes::AGREED_WORDS]) {
             return false;
         }

@@ -38,7 +38,7 @@ pub fn proxies_good(settings: Settings, limits: &[u64], store: &[u8]) -> bool
 {
     let mut p = 0;
     while p < constants::PROXIES {
-        let a = 8 * (sizes::PROXIES_AT + p * sizes::PROXY_WORDS);
+        let a = 8 * sizes::proxy_at(settings, p);
         if !proxy_good(
             settings,
             limits,

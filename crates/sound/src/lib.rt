@@ -16,8 +16,8 @@ use rules::settings::Settings;
 pub mod limits;
 pub mod place;
 
-// ids 0 to 255
-const IDS: usize = 256;
+// a limit for each id, and for 0
+const IDS: usize = constants::MAX_ID as usize + 1;
 
 // View, the highest id given, and the number of bricks that the view began with are in range.
 fn header_good(settings: Settings, store: &[u8]) -> bool
@@ -39,7 +39,7 @@ fn contents_good(settings: Settings, limits: &[u64], given: u64, store: &[u8]) -
     requires { ⌜ PlacesFit settings (now limits) (length (now store)) ⌝ }
     ensures { λ r. ⌜ r ≡ contents-sound settings (key-below (now (limits .entry))) given (words (now (store .entry))) ⌝ }
 {
-    let a = 8 * sizes::BAG_AT;
+    let a = 8 * sizes::bag_at(settings);
     if !checks::bag::bag_good(settings, limits, &store[a..a + 8 * sizes::BAG_WORDS]) {
         return false;
     }
@@ -71,7 +71,7 @@ fn parts_good(settings: Settings, store: &[u8]) -> bool
 pub fn is_sound(store: &[u8]) -> bool
     ensures { λ r. ⌜ r ≡ sound-bytes (now (store .entry)) ⌝ }
 {
-    if store.len() % Settings::SIZE_STEP != 0 {
+    if store.len() % sizes::WORD_BYTES != 0 {
         return false;
     }
     if store.len() < 8 * sizes::HEAD_WORDS {

@@ -1,58 +1,63 @@
-use mathlib.Core.Path.{refl, sym, ap, _∙_}
-use Prim.Native.Nat.{_+_, _*_}
+use mathlib.Core.Path.{_≡_, refl, sym, ap, _∙_}
+use mathlib.Core.List.{List}
+use Prim.Native.Nat.{ℕ, _+_, _*_, _-_}
+use lib.ListN.{take, drop}
 use borrow.Author.Tests.{not-true, not-false}
 use Rattle.lists.proofs.Tests.{both, no-first, no-second, yes-first}
-use Rattle.rules.specs.Limits.{buckets}
+use Rattle.words.specs.Words.{words}
 use Rattle.rules.specs.Sound.{sound-bag}
-use Rattle.layout.specs.Layout.{bag-codec, bag-at, bag-words}
+use Rattle.layout.specs.Layout.{bag-codec, bag-at, bag-words, bag-part}
 use Rattle.checks.specs.Rows.{key-below}
 use Rattle.sound.specs.Store.{contents-sound}
+use Rattle.layout.proofs.Bounds.{few-buckets}
 use Rattle.layout.proofs.Lent.{lent}
 use native.Mathlib.Omega.{arith}
 use borrow.Author.Needs.{needs}
 use Rattle.sound.proofs.contents_good.Statement.{statement}
 use Rattle.sound.proofs.contents_good.Tie as tie
 
+-- the words of the bag
+in-store : (c : tie.After-bag-at)
+    → words (take (8 * c .bag-at .result + 8 * bag-words - 8 * c .bag-at .result) (drop (8 * c .bag-at .result) (c .before .before .before .args .store .now)))
+    ≡ bag-part (c .before .before .before .args .settings) (words (c .before .before .before .args .store .now))
+in-store c =
+    let s = c .before .before .before in
+    let at = c .bag-at .result in
+    lent (s .args .store .now) (8 * at) (8 * at + 8 * bag-words) (bag-at (s .args .settings)) bag-words (omega (arith, c .bag-at .ensures)) refl
+    (omega (arith, c .bag-at .ensures, s .pre .size))
+
+bag-at-requires : tie.Need-bag-at-requires
+bag-at-requires c κs = search needs
+
 mul-a : tie.Need-mul-a
-unfolding buckets
-mul-a c = search needs
+mul-a c = omega (arith, c .bag-at .ensures, few-buckets (c .before .before .before .args .settings))
 
 mul-bag-good : tie.Need-mul-bag-good
-unfolding buckets
 mul-bag-good c = search needs
 
 add-bag-good : tie.Need-add-bag-good
-unfolding buckets
-add-bag-good c = search needs
+add-bag-good c = omega (arith, c .bag-at .ensures, few-buckets (c .before .before .before .args .settings))
 
 sub-bag-good : tie.Need-sub-bag-good
-unfolding buckets
-sub-bag-good c = search needs
+sub-bag-good c = omega arith
 
 part-bag-good-start : tie.Need-part-bag-good-start
-unfolding buckets
-part-bag-good-start c = search needs
+part-bag-good-start c = omega arith
 
 part-bag-good-end : tie.Need-part-bag-good-end
-unfolding buckets
-part-bag-good-end c = search needs
+part-bag-good-end c = omega (arith, c .bag-at .ensures, c .before .before .before .pre .size)
 
 bag-good-requires : tie.Need-bag-good-requires
-unfolding buckets
 bag-good-requires c κs = search needs
 
 returns : tie.Need-returns
-unfolding buckets contents-sound
+unfolding contents-sound
 returns c =
-    let b = c .before .before .before .before .before in
-    let s = b .args .store .now in
-    let n = b .args .settings in
-    sym (no-first _ _ (no-first _ _ (ap (sound-bag (key-below (b .args .limits .now)) n) (ap (bag-codec .dec)
-    (sym (lent s (8 * bag-at n) (8 * bag-at n + 8 * bag-words) (bag-at n) bag-words refl refl (omega arith)))) ∙ sym (c .before .bag-good .ensures)
-    ∙ not-true _ (c .if1 .taken))))
+    let a = c .before .before .before .before .before .before .args in
+    sym (no-first _ _ (no-first _ _ (ap (λ (w : List ℕ). sound-bag (key-below (a .limits .now)) (a .settings) (bag-codec .dec w)) (sym (in-store (c .before .before .before)))
+    ∙ sym (c .before .bag-good .ensures) ∙ not-true _ (c .if1 .taken))))
 
 proxies-good-requires : tie.Need-proxies-good-requires
-unfolding buckets
 proxies-good-requires c κs = search needs
 
 returns-2 : tie.Need-returns-2
@@ -60,24 +65,21 @@ unfolding contents-sound
 returns-2 c = sym (no-first _ _ (no-second _ _ (sym (c .before .proxies-good .ensures) ∙ not-true _ (c .if2 .taken))))
 
 places-good-requires : tie.Need-places-good-requires
-unfolding buckets
 places-good-requires c κs = search needs
 
 returns-3 : tie.Need-returns-3
-unfolding buckets contents-sound
+unfolding contents-sound
 returns-3 c =
-    let b = c .before .before .before .before .before .before .before .before in
-    let s = b .args .store .now in
-    let n = b .args .settings in
-    c .places-good .ensures ∙ sym (yes-first _ _ (both _ _ (ap (sound-bag (key-below (b .args .limits .now)) n)
-    (ap (bag-codec .dec) (sym (lent s (8 * bag-at n) (8 * bag-at n + 8 * bag-words) (bag-at n) bag-words refl refl (omega arith)))) ∙ sym
-    (c .before .before .before .before .bag-good .ensures) ∙ not-false _ (c .before .before .before .if1 .left))
+    let a = c .before .before .before .before .before .before .before .before .before .args in
+    let bag = ap (λ (w : List ℕ). sound-bag (key-below (a .limits .now)) (a .settings) (bag-codec .dec w)) (sym (in-store (c .before .before .before .before .before .before))) in
+    c .places-good .ensures ∙ sym (yes-first _ _ (both _ _ (bag ∙ sym (c .before .before .before .before .bag-good .ensures) ∙ not-false _ (c .before .before .before .if1 .left))
     (sym (c .before .before .proxies-good .ensures) ∙ not-false _ (c .before .if2 .left))))
 
 pub contents-good-spec : {M : Type 1} → statement M
 contents-good-spec =
     tie.close
     (tie.spec
+    bag-at-requires
     mul-a
     mul-bag-good
     add-bag-good

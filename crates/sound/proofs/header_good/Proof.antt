@@ -1,20 +1,16 @@
 use Rattle.lists.specs.Tests.{_and_}
-use Rattle.rules.specs.Limits.{buckets}
 use Rattle.rules.specs.Sound.{sound-header}
 use borrow.Author.Needs.{needs}
 use Rattle.sound.proofs.header_good.Statement.{statement}
 use Rattle.sound.proofs.header_good.Tie as tie
 
 read-requires : tie.Need-read-requires
-unfolding buckets
 read-requires c κs = search needs
 
 read-requires-2 : tie.Need-read-requires-2
-unfolding buckets
 read-requires-2 c κs = search needs
 
 read-requires-3 : tie.Need-read-requires-3
-unfolding buckets
 read-requires-3 c κs = search needs
 
 returns : tie.Need-returns

@@ -1,11 +1,13 @@
-use mathlib.Core.Path.{sym, ap, subst, _∙_}
+use mathlib.Core.Path.{_≡_, sym, ap, subst, _∙_}
+use mathlib.Core.Bool.{true}
 use Prim.Native.Nat.{ℕ, _*_}
 use Rattle.lists.proofs.Runs.{below-of}
 use Rattle.words.specs.Words.{words}
 use Rattle.rules.specs.declared.settings.Settings.{Settings}
+use Rattle.rules.specs.Limits.{in-limits}
 use Rattle.rules.specs.Sound.{sound-key}
 use Rattle.rules.proofs.Limits.{Limits, limits}
-use Rattle.layout.specs.Layout.{store-words}
+use Rattle.layout.specs.Layout.{settings-of, store-words}
 use Rattle.layout.specs.Store.{decode}
 use Rattle.layout.proofs.Bounds.{store-small}
 use Rattle.sound.specs.Store.{parts-sound}
@@ -14,6 +16,16 @@ use native.Mathlib.Omega.{arith}
 use borrow.Author.Needs.{needs}
 use Rattle.sound.proofs.is_sound.Statement.{statement}
 use Rattle.sound.proofs.is_sound.Tie as tie
+
+-- the settings that were read are the store's own, and in limits
+own : (c : tie.After-settings)
+    → (settings-of (words (c .before .before .before .before .before .before .before .before .before .before .args .store .now)) ≡ c .settings .given .0 .0) × (in-limits (settings-of (words (c .before .before .before .before .before .before .before .before .before .before .args .store .now))) ≡ true)
+own c =
+    settings-own (words (c .before .before .before .before .before .before .before .before .before .before .args .store .now)) _ _ _ _ (c .before .before .before .before .before .before .read .ensures) (c .before .before .before .before .before .read2 .ensures) (c .before .before .before .before .read3 .ensures) (c .before .before .before .read4 .ensures)
+    (c .settings .given .0 .0) (sym (c .settings .given .1) ∙ c .before .before .new .ensures)
+
+small : (c : tie.After-settings) → Limits (c .settings .given .0 .0)
+small c = subst Limits (own c .0) (limits _ (own c .1))
 
 returns : tie.Need-returns
 returns c = sym (odd-bytes _ (c .if1 .taken))
@@ -54,63 +66,31 @@ returns-3 c =
     (c .before .before .before .read4 .ensures) (sym (c .enum-told .given .1) ∙ c .before .before .new .ensures)))
 
 store-words-requires : tie.Need-store-words-requires
-store-words-requires c κs =
-    let b = c .before .before .before .before .before .before .before .before .before .before .before in
-    let s = b .args .store .now in
-    let n = c .before .settings .given .0 .0 in
-    let o = settings-own (words s) _ _ _ _ (c .before .before .before .before .before .before .before .read .ensures)
-    (c .before .before .before .before .before .before .read2 .ensures) (c .before .before .before .before .before .read3 .ensures)
-    (c .before .before .before .before .read4 .ensures) n (sym (c .before .settings .given .1) ∙ c .before .before .before .new .ensures) in
-    subst Limits (o .0) (limits _ (o .1))
+store-words-requires c κs = small (c .before)
 
 mul-if3 : tie.Need-mul-if3
-mul-if3 c =
-    let b = c .before .before .before .before .before .before .before .before .before .before .before .before in
-    let s = b .args .store .now in
-    let n = c .before .before .settings .given .0 .0 in
-    let o = settings-own (words s) _ _ _ _ (c .before .before .before .before .before .before .before .before .read .ensures)
-    (c .before .before .before .before .before .before .before .read2 .ensures) (c .before .before .before .before .before .before .read3 .ensures)
-    (c .before .before .before .before .before .read4 .ensures) n (sym (c .before .before .settings .given .1)
-    ∙ c .before .before .before .before .new .ensures) in
-    omega (arith, store-small n (subst Limits (o .0) (limits _ (o .1))))
+mul-if3 c = omega (arith, store-small _ (small (c .before .before)))
 
 returns-4 : tie.Need-returns-4
 returns-4 c =
-    let b = c .before .before .before .before .before .before .before .before .before .before .before .before .before in
-    let s = b .args .store .now in
-    let n = c .before .before .before .settings .given .0 .0 in
-    let o = settings-own (words s) _ _ _ _ (c .before .before .before .before .before .before .before .before .before .read .ensures)
-    (c .before .before .before .before .before .before .before .before .read2 .ensures)
-    (c .before .before .before .before .before .before .before .read3 .ensures) (c .before .before .before .before .before .before .read4 .ensures) n
-    (sym (c .before .before .before .settings .given .1) ∙ c .before .before .before .before .before .new .ensures) in
-    sym (other-bytes s (λ e. c .if3 .taken (e ∙ ap (λ (c : Settings). 8 * store-words c) (o .0) ∙ ap (λ (k : ℕ). 8 * k)
-    (sym (c .before .store-words .ensures)))))
+    sym (other-bytes (c .before .before .before .before .before .before .before .before .before .before .before .before .before .args .store .now) (λ e. c .if3 .taken (e ∙ ap (λ (c : Settings). 8 * store-words c) (own (c .before .before .before) .0)
+    ∙ ap (λ (k : ℕ). 8 * k) (sym (c .before .store-words .ensures)))))
 
 parts-good-requires : tie.Need-parts-good-requires
-parts-good-requires c κs =
-    let b = c .before .before .before .before .before .before .before .before .before .before .before .before .before in
-    let s = b .args .store .now in
-    let n = c .before .before .before .settings .given .0 .0 in
-    let o = settings-own (words s) _ _ _ _ (c .before .before .before .before .before .before .before .before .before .read .ensures)
-    (c .before .before .before .before .before .before .before .before .read2 .ensures)
-    (c .before .before .before .before .before .before .before .read3 .ensures) (c .before .before .before .before .before .before .read4 .ensures) n
-    (sym (c .before .before .before .settings .given .1) ∙ c .before .before .before .before .before .new .ensures) in
-    record { small = subst Limits (o .0) (limits _ (o .1)); size = c .if3 .left ∙ ap (λ (k : ℕ). 8 * k) (c .before .store-words .ensures); own = o .0 }
+parts-good-requires c κs = record {
+  small = small (c .before .before .before);
+  size = c .if3 .left ∙ ap (λ (k : ℕ). 8 * k) (c .before .store-words .ensures);
+  own = own (c .before .before .before) .0;
+}
 
 returns-5 : tie.Need-returns-5
 returns-5 c =
-    let b = c .before .before .before .before .before .before .before .before .before .before .before .before .before .before in
+    let s = c .before .before .before .before .before .before .before .before .before .before .before .before .before .before .args .store .now in
     let known = c .before .before .before .before .before .before .before .before .before .before .before .before .before .shared-slice-known in
-    let s = b .args .store .now in
-    let n = c .before .before .before .before .settings .given .0 .0 in
-    let o = settings-own (words s) _ _ _ _ (c .before .before .before .before .before .before .before .before .before .before .read .ensures)
-    (c .before .before .before .before .before .before .before .before .before .read2 .ensures)
-    (c .before .before .before .before .before .before .before .before .read3 .ensures)
-    (c .before .before .before .before .before .before .before .read4 .ensures) n (sym (c .before .before .before .before .settings .given .1)
-    ∙ c .before .before .before .before .before .before .new .ensures) in
+    let o = own (c .before .before .before .before) in
     let size = c .before .if3 .left ∙ ap (λ (k : ℕ). 8 * k) (c .before .before .store-words .ensures) ∙ ap (λ (c : Settings). 8 * store-words c) (sym (o .0)) in
-    c .parts-good .ensures ∙ ap (λ (c : Settings). parts-sound c (sound-key (decode (words s))) (words s)) (sym (o .0)) ∙ parts-bytes s
-    (below-of 256 s (λ i. known .given i .fits)) size (o .1)
+    c .parts-good .ensures ∙ ap (λ (c : Settings). parts-sound c (sound-key (decode (words s))) (words s)) (sym (o .0))
+    ∙ parts-bytes s (below-of 256 s (λ i. known .given i .fits)) size (o .1)
 
 pub is-sound-spec : {M : Type 1} → statement M
 is-sound-spec =

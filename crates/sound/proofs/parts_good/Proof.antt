@@ -22,7 +22,6 @@ use Rattle.sound.proofs.parts_good.Statement.{statement}
 use Rattle.sound.proofs.parts_good.Tie as tie
 
 header-good-requires : tie.Need-header-good-requires
-unfolding buckets
 header-good-requires c κs = search needs
 
 returns : tie.Need-returns
@@ -30,11 +29,9 @@ unfolding parts-sound
 returns c = sym (no-first _ _ (no-first _ _ (sym (c .before .header-good .ensures) ∙ not-true _ (c .if1 .taken))))
 
 read-requires : tie.Need-read-requires
-unfolding buckets
 read-requires c κs = search needs
 
 all-agreed-good-requires : tie.Need-all-agreed-good-requires
-unfolding buckets
 all-agreed-good-requires c κs = search needs
 
 returns-2 : tie.Need-returns-2
@@ -47,7 +44,6 @@ returns-2 c =
     (c .before .all-agreed-good .ensures) ∙ not-true _ (c .if2 .taken))))
 
 slice-aggregate-fill-given : tie.Need-slice-aggregate-fill-given
-unfolding buckets
 slice-aggregate-fill-given c = search needs
 
 fill-given-requires : tie.Need-fill-given-requires
@@ -57,7 +53,6 @@ fill-given-requires c κs =
     (c .before .before .before .before .before .header-good .ensures) ∙ not-false _ (c .before .before .before .before .if1 .left)) in search needs
 
 slice-aggregate-fill-places : tie.Need-slice-aggregate-fill-places
-unfolding buckets
 slice-aggregate-fill-places c = search needs
 
 fill-places-requires : tie.Need-fill-places-requires
@@ -69,7 +64,6 @@ fill-places-requires c κs =
     record { known = c .before .before .fill-given .ensures .long; few = omega arith; small = s .pre .small; size = s .pre .size }
 
 slice-aggregate-contents-good : tie.Need-slice-aggregate-contents-good
-unfolding buckets
 slice-aggregate-contents-good c = search needs
 
 contents-good-requires : tie.Need-contents-good-requires

@@ -7,10 +7,11 @@ use borrow.Author.Needs.{needs}
 use Rattle.lists.proofs.Tests.{impossible}
 use Rattle.lists.proofs.Runs.{run-at}
 use Rattle.words.specs.Words.{words}
-use Rattle.rules.specs.Limits.{buckets}
 use Rattle.rules.proofs.SoundTest.{same-entries-test}
 use Rattle.layout.specs.Layout.{copy-codec, copy-words, place-at, copies-at, all-copies-at}
+use Rattle.layout.proofs.Bounds.{store-small}
 use Rattle.layout.proofs.Lent.{lent}
+use Rattle.checks.proofs.CopyLaws.{AllCopies, all-copies}
 use Rattle.checks.proofs.copies.compared.Statement.{statement}
 use Rattle.checks.proofs.copies.compared.Tie as tie
 use Rattle.checks.proofs.copies.compared.Reads as reads
@@ -24,102 +25,119 @@ use Rattle.layout.proofs.sizes.place_at.Reads as place-at-reads
 use Rattle.words.proofs.offset.Reads as offset-reads
 use Rattle.words.proofs.read.Reads as read-reads
 
+-- the sizes by which the copy is found
+room : (c : tie.After-buckets) → AllCopies (c .before .before .before .before .before .args .settings) (c .buckets .result) (c .before .copies-words .result)
+room c = all-copies _ _ _ (c .before .before .before .before .before .pre .small) (c .buckets .ensures) (c .before .copies-words .ensures)
+
 -- src/copies.rt:101:9
 copies-words-requires : tie.Need-copies-words-requires
-unfolding buckets
 copies-words-requires c κs = search needs
 
 -- src/copies.rt:102:35
+buckets-requires : tie.Need-buckets-requires
+buckets-requires c κs = search needs
+
 offset-requires : tie.Need-offset-requires
-unfolding buckets
-offset-requires c κs = search needs
+offset-requires c κs =
+    (omega (arith, c .buckets .ensures, c .before .before .before .before .before .pre .bucket), omega (arith, room c .small))
 
 -- src/copies.rt:102:16
 add-from : tie.Need-add-from
-unfolding buckets
-add-from c = search needs
+add-from c =
+    omega (arith, c .offset .ensures .1, room (c .before) .small)
 
 -- src/copies.rt:103:47
 read-requires : tie.Need-read-requires
-unfolding buckets
 read-requires c κs = search needs
 
 -- src/copies.rt:103:9
 earlier-requires : tie.Need-earlier-requires
-unfolding buckets
-earlier-requires c κs = let s = c .before .before .before .before .before .before in record { small = s .pre .small; size = s .pre .size; inside = s .pre .inside; start = omega (arith, c .before .offset .ensures) }
+earlier-requires c κs =
+    let s = c .before .before .before .before .before .before .before in
+    record { small = s .pre .small; size = s .pre .size; inside = s .pre .inside; start = omega (arith, c .before .offset .ensures .1, room (c .before .before) .same) }
 
 -- src/copies.rt:107:20
 same-requires : tie.Need-same-requires
-unfolding buckets
 same-requires c κs = search needs
 
 -- src/copies.rt:105:9
 returns : tie.Need-returns
-unfolding buckets
 returns c = (λ e. impossible e, c .same .ensures)
 
 -- src/copies.rt:110:18
 place-at-requires : tie.Need-place-at-requires
-unfolding buckets
 place-at-requires c κs = search needs
 
 -- src/copies.rt:110:18
 add-a : tie.Need-add-a
-unfolding buckets
-add-a c = search needs
+add-a c =
+    omega (arith, c .before .before .before .before .offset .ensures .1, room (c .before .before .before .before .before) .small, c .place-at .ensures .1, store-small (c .before .before .before .before .before .before .before .before .before .before .args .settings) (c .before .before .before .before .before .before .before .before .before .before .pre .small))
 
 -- src/copies.rt:110:13
 mul-a : tie.Need-mul-a
-unfolding buckets
-mul-a c = search needs
+mul-a c =
+    omega (arith, c .before .before .before .before .offset .ensures .1, room (c .before .before .before .before .before) .small, c .place-at .ensures .1, store-small (c .before .before .before .before .before .before .before .before .before .before .args .settings) (c .before .before .before .before .before .before .before .before .before .before .pre .small))
 
 -- src/copies.rt:111:21
 copy-words-requires : tie.Need-copy-words-requires
-unfolding buckets
 copy-words-requires c κs = search needs
 
 -- src/copies.rt:111:17
 mul-e : tie.Need-mul-e
-unfolding buckets
-mul-e c = search needs
+mul-e c = omega (arith, c .copy-words .ensures, c .before .before .before .before .before .before .before .before .before .before .before .pre .small .entries-to)
 
 -- src/copies.rt:111:13
 add-e : tie.Need-add-e
-unfolding buckets
-add-e c = search needs
+add-e c =
+    omega (
+      arith,
+      c .before .before .before .before .before .offset .ensures .1,
+      room (c .before .before .before .before .before .before) .small,
+      c .before .place-at .ensures .1,
+      c .copy-words .ensures,
+      c .before .before .before .before .before .before .before .before .before .before .before .pre .small .entries-to,
+      store-small (c .before .before .before .before .before .before .before .before .before .before .before .args .settings) (c .before .before .before .before .before .before .before .before .before .before .before .pre .small),
+    )
 
 -- src/copies.rt:112:24
 sub-same-three : tie.Need-sub-same-three
-unfolding buckets
-sub-same-three c = search needs
+sub-same-three c = omega arith
 
 -- src/copies.rt:112:24
 part-same-three-start : tie.Need-part-same-three-start
-unfolding buckets
-part-same-three-start c = search needs
+part-same-three-start c = omega arith
 
 -- src/copies.rt:112:24
 part-same-three-end : tie.Need-part-same-three-end
-unfolding buckets
-part-same-three-end c = omega arith
+part-same-three-end c =
+    omega (
+      arith,
+      c .before .before .before .before .before .offset .ensures .1,
+      room (c .before .before .before .before .before .before) .same,
+      c .before .place-at .ensures .1,
+      c .copy-words .ensures,
+      c .before .before .before .before .before .before .before .copies-words .ensures,
+      c .before .before .before .before .before .before .before .before .before .before .before .pre .size,
+    )
 
 -- src/copies.rt:112:5
 same-three-requires : tie.Need-same-three-requires
-unfolding buckets
 same-three-requires c κs =
-    let s = c .before .before .before .before .before .before .before .before .before .before .before in
+    let s = c .before .before .before .before .before .before .before .before .before .before .before .before in
     let n = s .args .settings in
     let g = s .args .bucket in
     let bs = s .args .store .now in
     let place = c .before .before .place-at in
-    let from = all-copies-at + c .before .before .before .before .before .before .offset .result in
-    let at = c .before .before .before .before .before .before .offset .ensures .0 ∙ ap (λ (k : ℕ). g * k) (c .before .before .before .before .before .before .before .copies-words .ensures) in
-    let half = c .before .copy-words .result in
+    let size = c .before .before .before .before .before .before .before .before .copies-words in
+    let off = c .before .before .before .before .before .before .offset in
+    let from = all-copies-at + off .result in
+    let at = off .ensures .0 ∙ ap (λ (k : ℕ). g * k) (size .ensures) in
+    let half = c .before .copy-words in
     let q = c .before .before .before .before .earlier in
     let below : q .result < s .args .p = omega arith in
-    let m = lent bs (8 * (place .result + from)) (8 * (place .result + from) + 8 * half) (place-at n (q .result) + copies-at n g) (copy-words n)
-    (omega (arith, at, place .ensures .0)) (omega arith) (omega (arith, at, place .ensures, s .pre .size)) in
+    let m = lent bs (8 * (place .result + from)) (8 * (place .result + from) + 8 * half .result) (place-at n (q .result) + copies-at n g) (copy-words n)
+    (omega (arith, at, place .ensures .0)) (omega (arith, half .ensures))
+    (omega (arith, at, off .ensures .1, room (c .before .before .before .before .before .before .before) .same, size .ensures, place .ensures, s .pre .size)) in
     let first = ap (λ (w : List ℕ). getD w 0 0) m ∙ run-at (place-at n (q .result) + copies-at n g) (copy-words n) 0 (words bs) (omega arith) in
     let count = first ∙ ap (λ (k : ℕ). getD (words bs) k 0) {x = place-at n (q .result) + copies-at n g + 0} {y = place-at n (q .result) + from} (omega (arith, at)) ∙ q .ensures .rows below ∙ c .before .before .before .before .before .read .ensures in (
       record { few = s .pre .few; size = s .pre .memory-size },
@@ -128,20 +146,22 @@ same-three-requires c κs =
 
 -- src/copies.rt:89:1
 returns-2 : tie.Need-returns-2
-unfolding buckets
 returns-2 c =
-    let s = c .before .before .before .before .before .before .before .before .before .before .before .before in
+    let s = c .before .before .before .before .before .before .before .before .before .before .before .before .before in
     let n = s .args .settings in
     let g = s .args .bucket in
     let bs = s .args .store .now in
     let place = c .before .before .before .place-at in
-    let from = all-copies-at + c .before .before .before .before .before .before .before .offset .result in
-    let at = c .before .before .before .before .before .before .before .offset .ensures .0 ∙ ap (λ (k : ℕ). g * k) (c .before .before .before .before .before .before .before .before .copies-words .ensures) in
-    let half = c .before .before .copy-words .result in
+    let size = c .before .before .before .before .before .before .before .before .before .copies-words in
+    let off = c .before .before .before .before .before .before .before .offset in
+    let from = all-copies-at + off .result in
+    let at = off .ensures .0 ∙ ap (λ (k : ℕ). g * k) (size .ensures) in
+    let half = c .before .before .copy-words in
     let q = c .before .before .before .before .before .earlier in
     let below : q .result < s .args .p = omega arith in
-    let m = lent bs (8 * (place .result + from)) (8 * (place .result + from) + 8 * half) (place-at n (q .result) + copies-at n g) (copy-words n)
-    (omega (arith, at, place .ensures .0)) (omega arith) (omega (arith, at, place .ensures, s .pre .size)) in (
+    let m = lent bs (8 * (place .result + from)) (8 * (place .result + from) + 8 * half .result) (place-at n (q .result) + copies-at n g) (copy-words n)
+    (omega (arith, at, place .ensures .0)) (omega (arith, half .ensures))
+    (omega (arith, at, off .ensures .1, room (c .before .before .before .before .before .before .before .before) .same, size .ensures, place .ensures, s .pre .size)) in (
       λ y. record {
         place = q .result;
         below = below;
@@ -156,6 +176,7 @@ compared-spec =
     tie.close
     (tie.spec
     copies-words-requires
+    buckets-requires
     offset-requires
     add-from
     read-requires

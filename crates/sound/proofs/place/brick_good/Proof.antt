@@ -24,7 +24,6 @@ use Rattle.sound.proofs.place.brick_good.Statement.{statement}
 use Rattle.sound.proofs.place.brick_good.Tie as tie
 
 status-good-requires : tie.Need-status-good-requires
-unfolding buckets
 status-good-requires c κs = search needs
 
 returns : tie.Need-returns
@@ -32,11 +31,9 @@ unfolding brick-sound
 returns c = sym (no-first _ _ (no-first _ _ (no-first _ _ (sym (c .before .status-good .ensures) ∙ not-true _ (c .if1 .taken)))))
 
 read-requires : tie.Need-read-requires
-unfolding buckets
 read-requires c κs = search needs
 
 buffer-good-requires : tie.Need-buffer-good-requires
-unfolding buckets
 buffer-good-requires c κs = search needs
 
 returns-2 : tie.Need-returns-2
@@ -50,35 +47,28 @@ returns-2 c =
     (c .before .buffer-good .ensures) ∙ not-true _ (c .if2 .taken)))))
 
 mul-from : tie.Need-mul-from
-unfolding buckets
 mul-from c = search needs
 
 log-at-requires : tie.Need-log-at-requires
-unfolding buckets
 log-at-requires c κs = search needs
 
 mul-log : tie.Need-mul-log
-unfolding buckets
-mul-log c = search needs
+mul-log c = omega (arith, c .log-at .ensures, place-small _ (c .before .before .before .before .before .before .before .before .before .pre .0 .small))
 
 sub-all-copies-good : tie.Need-sub-all-copies-good
-unfolding buckets
 sub-all-copies-good c = search needs
 
 part-all-copies-good-start : tie.Need-part-all-copies-good-start
-unfolding buckets
 part-all-copies-good-start c = search needs
 
 part-all-copies-good-end : tie.Need-part-all-copies-good-end
-unfolding buckets
 part-all-copies-good-end c = search needs
 
 all-copies-good-requires : tie.Need-all-copies-good-requires
-unfolding buckets
 all-copies-good-requires c κs = search needs
 
 returns-3 : tie.Need-returns-3
-unfolding brick-sound buckets
+unfolding brick-sound
 returns-3 c =
     let at-start = c .before .before .before .before .before .before .before .before .before .before .before .before in
     let s = at-start .args .place .now in
@@ -91,31 +81,25 @@ returns-3 c =
     (omega arith))) ∙ sym (c .before .all-copies-good .ensures) ∙ not-true _ (c .if3 .taken))))
 
 place-words-requires : tie.Need-place-words-requires
-unfolding buckets
 place-words-requires c κs = search needs
 
 mul-end : tie.Need-mul-end
-unfolding buckets
 mul-end c = omega (arith, place-small _ (c .before .before .before .before .before .before .before .before .before .before .before .before .before .pre .0 .small))
 
 sub-log-good : tie.Need-sub-log-good
-unfolding buckets
 sub-log-good c = search needs
 
 part-log-good-start : tie.Need-part-log-good-start
-unfolding buckets
 part-log-good-start c = search needs
 
 part-log-good-end : tie.Need-part-log-good-end
-unfolding buckets
 part-log-good-end c = search needs
 
 log-good-requires : tie.Need-log-good-requires
-unfolding buckets
 log-good-requires c κs = search needs
 
 returns-4 : tie.Need-returns-4
-unfolding brick-sound buckets
+unfolding brick-sound
 returns-4 c =
     let at-start = c .before .before .before .before .before .before .before .before .before .before .before .before .before .before .before in
     let s = at-start .args .place .now in

@@ -3,7 +3,6 @@ use Prim.Native.Nat.{_+_, _*_}
 use borrow.Author.Tests.{not-true, not-false}
 use Rattle.words.specs.Words.{words}
 use Rattle.layout.specs.Layout.{buffer-at, buffer-codec}
-use Rattle.rules.specs.Limits.{buckets}
 use Rattle.layout.proofs.Lent.{lent}
 use Rattle.sound.proofs.PlaceLaws.{buffer-down, buffer-up}
 use native.Mathlib.Omega.{arith}
@@ -12,42 +11,33 @@ use Rattle.sound.proofs.place.buffer_good.Statement.{statement}
 use Rattle.sound.proofs.place.buffer_good.Tie as tie
 
 read-requires : tie.Need-read-requires
-unfolding buckets
 read-requires c κs = search needs
 
 returns : tie.Need-returns
 returns c = buffer-down _ _ (words (c .before .before .before .before .args .place .now)) (not-true _ (c .before .if1 .taken)) _ (c .read .ensures)
 
 mul-a : tie.Need-mul-a
-unfolding buckets
 mul-a c = search needs
 
 mul-table-good : tie.Need-mul-table-good
-unfolding buckets
 mul-table-good c = search needs
 
 add-table-good : tie.Need-add-table-good
-unfolding buckets
 add-table-good c = search needs
 
 sub-table-good : tie.Need-sub-table-good
-unfolding buckets
 sub-table-good c = search needs
 
 part-table-good-start : tie.Need-part-table-good-start
-unfolding buckets
 part-table-good-start c = search needs
 
 part-table-good-end : tie.Need-part-table-good-end
-unfolding buckets
 part-table-good-end c = search needs
 
 table-good-requires : tie.Need-table-good-requires
-unfolding buckets
 table-good-requires c κs = search needs
 
 returns-2 : tie.Need-returns-2
-unfolding buckets
 returns-2 c =
     let b = c .before .before .before .before .before in
     let s = b .args .place .now in
