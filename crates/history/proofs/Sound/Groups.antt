@@ -22,6 +22,23 @@ use Rattle.history.proofs.Sound.Lists.{table-map, buffer-map, log-map, 
 pub next-grows : {given : ℕ} {here : ℕ → Bool} {next : ℕ → ℕ} {k : ℕ} (x m : ℕ) → next x ≤ m → KeyOk given here next k → KeyOk given here (upd next x m) k
 next-grows {next = next} {k = k} x m u = key-stays k (omega arith) (λ i _ y. (y, upd-all (λ i v. next i ≤ v) next x m (λ i. omega arith) u i))
 
+-- ---- bricks: the same ones at the same places, with other flags
+pub new-flags : {places given : ℕ} {ids : ℕ → ℕ} {here up member began up′ member′ began′ : ℕ → Bool} → BricksOk places ids given here up member began
+    → ((i : ℕ) → up′ i ≡ true → here i ≡ true) → ((i : ℕ) → member′ i ≡ true → up′ i ≡ true) → ((i : ℕ) → began′ i ≡ true → here i ≡ true)
+    → BricksOk places ids given here up′ member′ began′
+new-flags b up-here member-up began-here = record {
+  few = b .few;
+  beyond = b .beyond;
+  born = b .born;
+  apart = b .apart;
+  stands = b .stands;
+  somewhere = b .somewhere;
+  first = b .first;
+  up-here = up-here;
+  member-up = member-up;
+  began-here = began-here;
+}
+
 -- ---- logs
 pub record LogsOk (K : ℕ → Type 0) (size chunks : ℕ) (here : ℕ → Bool) (log : ℕ → List Chunk) : Type 0 where
   pub each : (i : ℕ) → LogOk K size (log i)

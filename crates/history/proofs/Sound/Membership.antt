@@ -23,7 +23,7 @@ use Rattle.rules.specs.Membership.{rise-asks, rise-effect, join-asks, join-effe
 use Rattle.rules.proofs.Sound.{KeyOk, BufferOk, LogOk, NumbersOk, PairOk, KeyOf, Sound, key-stays}
 use Rattle.rules.proofs.SoundTest.{table-none, buffer-none, log-none}
 use Rattle.history.proofs.Sound.Lists.{log-only}
-use Rattle.history.proofs.Sound.Groups.{next-grows, LogsOk, logs-map, one-log, BuffersOk, buffers-map, CopyOk, CopiesOk}
+use Rattle.history.proofs.Sound.Groups.{new-flags, next-grows, LogsOk, logs-map, one-log, BuffersOk, buffers-map, CopyOk, CopiesOk}
 use Rattle.history.proofs.Sound.Groups.{copies, bucket-ok, new-copies, BucketsOk, all-buckets, buckets-map, bag-map, items-map, groups, from-groups}
 
 -- ---- a brick of which nothing is left, or that is new: it may be there, and up, or not
@@ -113,18 +113,8 @@ module _ {s : State} (v : Sound s) where
       let logs = logs-map (g .logs) more in
       from-groups (record {
         limits = v .limits;
-        bricks = record {
-          few = b .few;
-          beyond = b .beyond;
-          born = b .born;
-          apart = b .apart;
-          stands = b .stands;
-          somewhere = b .somewhere;
-          first = b .first;
-          up-here = λ j m. b .up-here j (unflag (k .up) x j m .0);
-          member-up = upd-implies (k .member) (k .up) x false false impossible (b .member-up);
-          began-here = b .began-here;
-        };
+        bricks = new-flags b (λ j m. b .up-here j (unflag (k .up) x j m .0))
+            (upd-implies (k .member) (k .up) x false false impossible (b .member-up)) (b .began-here);
         numbers = record {
           below = upd-all (λ j m. m ≤ k .ceiling j) (k .next) x (k .ceiling x) (v .numbers .below) (omega arith);
           most = v .numbers .most;
@@ -204,18 +194,8 @@ module _ {s : State} (v : Sound s) where
       let g = groups v in
       from-groups (record {
         limits = v .limits;
-        bricks = record {
-          few = b .few;
-          beyond = b .beyond;
-          born = b .born;
-          apart = b .apart;
-          stands = b .stands;
-          somewhere = b .somewhere;
-          first = b .first;
-          up-here = upd-all (λ j m. m ≡ true → k .here j ≡ true) (k .up) x true (b .up-here) (λ _. b .stands i (occupied i (search and-l)));
-          member-up = upd-all (λ j m. k .member j ≡ true → m ≡ true) (k .up) x true (b .member-up) (λ _. refl);
-          began-here = b .began-here;
-        };
+        bricks = new-flags b (upd-all (λ j m. m ≡ true → k .here j ≡ true) (k .up) x true (b .up-here) (λ _. b .stands i (occupied i (search and-l))))
+            (upd-all (λ j m. k .member j ≡ true → m ≡ true) (k .up) x true (b .member-up) (λ _. refl)) (b .began-here);
         numbers = v .numbers;
         view-first = v .view-first;
         view-last = v .view-last;

@@ -22,7 +22,7 @@ use Rattle.pairs.proofs.Facts.{pairs-length}
 use Rattle.pairs.proofs.Counts.{slots-length}
 use Rattle.pairs.proofs.Members.{two-members, PairOf, pair-at}
 use Rattle.history.proofs.Sound.Lists.{table-drain, buffer-only}
-use Rattle.history.proofs.Sound.Groups.{one-buffer, CopyOk, CopiesOk, one-memory, one-disk, copies, bucket-ok, one-bucket}
+use Rattle.history.proofs.Sound.Groups.{new-flags, one-buffer, CopyOk, CopiesOk, one-memory, one-disk, copies, bucket-ok, one-bucket}
 use Rattle.history.proofs.Sound.Groups.{groups, from-groups, new-parts, member-here}
 
 -- ids that the pairs give a bucket are given
@@ -83,18 +83,7 @@ module _ {s : State} (v : Sound s) where
       let slots = view-pairs s in
       from-groups (record {
         limits = v .limits;
-        bricks = record {
-          few = b .few;
-          beyond = b .beyond;
-          born = b .born;
-          apart = b .apart;
-          stands = b .stands;
-          somewhere = b .somewhere;
-          first = b .first;
-          up-here = b .up-here;
-          member-up = λ j m. m;
-          began-here = b .up-here;
-        };
+        bricks = new-flags b (b .up-here) (λ j m. m) (b .up-here);
         numbers = v .numbers;
         view-first = omega arith;
         view-last = search ltb-true;
