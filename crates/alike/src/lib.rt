@@ -12,6 +12,9 @@ ghost use Rattle.lent.specs.Stores.{SoundStore};
 ghost use Rattle.lent.specs.Stores.{StoreOf};
 ghost use Rattle.lent.specs.Places.{PlaceOf};
 ghost use Rattle.alike.specs.Alike.{member-in, same-primary, Two, alike-answer};
+
+pub mod for_c;
+
 use lent::brick;
 use lent::brick::Found;
 use lent::bucket;

@@ -47,7 +47,7 @@ pub fn all_agreed_good(settings: Settings, given: u64, store: &[u8]) -> bool
     requires { ⌜ AllAgreedFit settings (length (now store)) ⌝ }
     ensures { λ r. ⌜ r ≡ all-below (buckets settings) (agreed-at-sound given (words (now (store .entry)))) ⌝ }
 {
-    let count = sizes::buckets(settings);
+    let count = settings.buckets();
     let mut g = 0;
     while g < count {
         let a = 8 * sizes::agreed_at(settings, g);

@@ -98,7 +98,7 @@ fn compared(
     ensures { λ r. ⌜ r .saved ≡ same-entries (copy-codec settings .dec (words (now (memory .entry)))) (copy-codec settings .dec (words (now (disk .entry)))) ⌝ }
 {
     let size = sizes::copies_words(settings);
-    let from = sizes::COPIES_AT + words::offset(bucket as usize, size, sizes::buckets(settings));
+    let from = sizes::COPIES_AT + words::offset(bucket as usize, size, settings.buckets());
     let q = earlier(settings, store, p, from, words::read(memory, 0));
     if p <= q {
         return Alike {
@@ -185,7 +185,7 @@ pub fn all_copies_good(
     ensures { λ r. ⌜ r ≡ all-below (buckets settings) (copies-sound settings (key-below (now (limits .entry))) up (words (now (copies .entry)))) ⌝ }
 {
     let size = sizes::copies_words(settings);
-    let count = sizes::buckets(settings);
+    let count = settings.buckets();
     let mut g = 0;
     while g < count {
         let a = 8 * words::offset(g, size, count);

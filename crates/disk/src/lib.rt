@@ -3,20 +3,19 @@ ghost use mathlib.Core.Path.{_≡_};
 ghost use lib.ListN.{length};
 ghost use Rattle.text.specs.Lines.{read-settings};
 ghost use Rattle.area.specs.Area.{onto};
-ghost use Rattle.parse.specs.Answers.{parsed, answer-to, bytes-read, settings-answer};
+ghost use Rattle.parse.specs.Answers.{parsed, answer-to, bytes-read, settings-answer, event-answer, four-answer};
 ghost use Rattle.rules.specs.Event.{parts-from};
-ghost use Rattle.print.specs.Answers.{printed, line-after};
+ghost use Rattle.print.specs.Answers.{printed, line-after, line-answer};
 ghost use Rattle.store.specs.Calls.{settings, length-answer, Formatted, check-answer};
 ghost use Rattle.calls.specs.Outcome.{call-with, outcome};
 ghost use Rattle.alike.specs.Alike.{alike-answer, alike-number};
 ghost use Rattle.batch.specs.Batch.{batch-with, lent, ran, batch-outcome};
 ghost use Rattle.relay_list.specs.Shown.{Shows};
-ghost use Rattle.disk.specs.Answers.{step-outcome, event-answer, line-answer, four-answer};
-use alike::Compared;
+ghost use Rattle.disk.specs.Answers.{step-outcome};
 use lent::Answer;
-use parse::Parsed;
-use parse::SettingsLine;
-use print::Printed;
+use parse::for_c::EventAnswer;
+use parse::for_c::SettingsAnswer;
+use print::for_c::LineAnswer;
 use relay_list::BagAnswer;
 use relay_list::Relay;
 
@@ -24,30 +23,6 @@ use relay_list::Relay;
 pub struct StepAnswer {
     pub code: u64,
     pub key: u64,
-}
-
-#[repr(C)]
-pub struct EventAnswer {
-    pub code: u64,
-    pub kind: u64,
-    pub a: u64,
-    pub b: u64,
-    pub c: u64,
-}
-
-#[repr(C)]
-pub struct LineAnswer {
-    pub code: u64,
-    pub length: usize,
-}
-
-#[repr(C)]
-pub struct SettingsAnswer {
-    pub code: u64,
-    pub places: u64,
-    pub size: u64,
-    pub entries: u64,
-    pub chunks: u64,
 }
 
 // The bytes to lend for a store of these settings; 0 where they are out of limits.
@@ -130,12 +105,7 @@ pub extern "C" fn disk_bag(store: &[u8], relays: &mut [Relay]) -> BagAnswer
 pub extern "C" fn disk_alike(store: &[u8], other: &[u8]) -> u64
     ensures { λ r. ⌜ r ≡ alike-number (alike-answer (now (store .entry)) (now (other .entry))) ⌝ }
 {
-    let answer = alike::alike(store, other);
-    match answer {
-        Compared::Alike => 0,
-        Compared::Different => 1,
-        Compared::Unsound => 2,
-    }
+    alike::for_c::alike(store, other)
 }
 
 // The event of a line of text.
@@ -144,23 +114,7 @@ pub extern "C" fn disk_parse(line: &[u8], size: usize, data: &mut [u8]) -> Event
     ensures { λ r. ⌜ (r ≡ event-answer (answer-to (parsed size (length (now («data» .entry))) (now (line .entry)))))
         × (now («data» .exit) ≡ onto 0 (bytes-read (parsed size (length (now («data» .entry))) (now (line .entry)))) (now («data» .entry))) ⌝ }
 {
-    let answer = parse::parse(line, size, data);
-    match answer {
-        Parsed::Is { kind, a, b, c } => EventAnswer {
-            code: 0,
-            kind,
-            a,
-            b,
-            c,
-        },
-        Parsed::Refused => EventAnswer {
-            code: 3,
-            kind: 0,
-            a: 0,
-            b: 0,
-            c: 0,
-        },
-    }
+    parse::for_c::parse(line, size, data)
 }
 
 // The line of text of an event.
@@ -177,11 +131,7 @@ pub extern "C" fn disk_print(
     ensures { λ r. ⌜ (r ≡ line-answer (printed size (parts-from kind a b c (now («data» .entry))) (length (now (line .entry)))))
         × (now (line .exit) ≡ line-after size (parts-from kind a b c (now («data» .entry))) (now (line .entry))) ⌝ }
 {
-    let answer = print::print(kind, a, b, c, data, size, line);
-    match answer {
-        Printed::Length(n) => LineAnswer { code: 0, length: n },
-        Printed::Refused => LineAnswer { code: 3, length: 0 },
-    }
+    print::for_c::print(kind, a, b, c, data, size, line)
 }
 
 // The settings of the settings line.
@@ -189,26 +139,5 @@ pub extern "C" fn disk_print(
 pub extern "C" fn disk_parse_settings(line: &[u8]) -> SettingsAnswer
     ensures { λ r. ⌜ r ≡ four-answer (settings-answer (read-settings (now (line .entry)))) ⌝ }
 {
-    let answer = parse::parse_settings(line);
-    match answer {
-        SettingsLine::Are {
-            places,
-            size,
-            entries,
-            chunks,
-        } => SettingsAnswer {
-            code: 0,
-            places,
-            size,
-            entries,
-            chunks,
-        },
-        SettingsLine::Refused => SettingsAnswer {
-            code: 3,
-            places: 0,
-            size: 0,
-            entries: 0,
-            chunks: 0,
-        },
-    }
+    parse::for_c::parse_settings(line)
 }

@@ -16,8 +16,6 @@ pub const ENTRY_WORDS: usize = 2;
 
 pub const RELAY_WORDS: usize = 5;
 
-pub const BUCKETS: usize = constants::BUCKETS;
-
 // N, S, M, L, view, given, started
 pub const HEAD_WORDS: usize = 7;
 
@@ -57,11 +55,6 @@ pub const PROXY_WORDS: usize = ITEMS_AT + ITEMS_WORDS;
 
 pub const BAG_WORDS: usize = 1 + constants::MAX_RELAYS * RELAY_WORDS;
 
-// where the proxies and the bag lie in the store
-pub const PROXIES_AT: usize = HEAD_WORDS + BUCKETS * AGREED_WORDS;
-
-pub const BAG_AT: usize = PROXIES_AT + constants::PROXIES * PROXY_WORDS;
-
 // a place: id, flags, numbers, the append buffer, the copies, the log
 pub const ID_AT: usize = 0;
 
@@ -80,12 +73,6 @@ pub const BUFFER_AT: usize = 6;
 pub const BUFFER_WORDS: usize = 1 + constants::MAX_WAITING * ENTRY_WORDS;
 
 pub const COPIES_AT: usize = BUFFER_AT + BUFFER_WORDS;
-
-pub fn buckets(settings: Settings) -> usize
-    ensures { λ r. ⌜ r ≡ buckets settings ⌝ }
-{
-    settings.buckets()
-}
 
 // One copy of a bucket at a place, and both.
 pub fn copy_words(settings: Settings) -> usize

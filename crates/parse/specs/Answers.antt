@@ -11,6 +11,8 @@ use Rattle.parse.specs.declared.Parsed.{Parsed}
 use Rattle.parse.specs.declared.Parsed.the-variants.{Is, Refused}
 use Rattle.parse.specs.declared.SettingsLine.{SettingsLine}
 use Rattle.parse.specs.declared.SettingsLine.the-variants.{Are, Refused as Malformed}
+use Rattle.parse.specs.declared.for_c.EventAnswer.{EventAnswer}
+use Rattle.parse.specs.declared.for_c.SettingsAnswer.{SettingsAnswer}
 use Rattle.rules.specs.declared.settings.Settings.{Settings}
 
 -- has the event data?
@@ -39,3 +41,13 @@ bytes-read (some e) = e .bytes
 unfoldable pub settings-answer : Option Settings → SettingsLine
 settings-answer none = Malformed
 settings-answer (some c) = Are (c .places) (c .size) (c .entries) (c .chunks)
+
+-- ---- the number and the values of each answer, as the calls for C give them
+-- question 3: text well formed, data of S bytes?
+unfoldable pub event-answer : Parsed → EventAnswer
+event-answer (Is k a b c) = record { code = 0; kind = k; a = a; b = b; c = c }
+event-answer Refused = record { code = 3; kind = 0; a = 0; b = 0; c = 0 }
+
+unfoldable pub four-answer : SettingsLine → SettingsAnswer
+four-answer (Are n s m l) = record { code = 0; places = n; size = s; entries = m; chunks = l }
+four-answer Malformed = record { code = 3; places = 0; size = 0; entries = 0; chunks = 0 }

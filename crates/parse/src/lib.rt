@@ -7,6 +7,9 @@ ghost use Rattle.text.specs.Fields.{fields};
 ghost use Rattle.text.specs.Lines.{parts-of-fields, settings-of-fields, read-settings};
 ghost use Rattle.parse.specs.Answers.{parsed, with-room, answer-to, bytes-read, settings-answer};
 ghost use Rattle.parse.specs.Steps.{WordIs, Closed, FieldIs, NumbersAre, ReadingIs};
+
+pub mod for_c;
+
 use decimal::Number;
 
 // A kind with its numbers, those that it does not have 0, or a no to question 3.

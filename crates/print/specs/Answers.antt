@@ -10,6 +10,7 @@ use Rattle.text.specs.Lines.{line-of, is-well-formed}
 use Rattle.lists.specs.Tests.{_and_}
 use Rattle.print.specs.declared.Printed.{Printed}
 use Rattle.print.specs.declared.Printed.the-variants.{Length, Refused}
+use Rattle.print.specs.declared.for_c.LineAnswer.{LineAnswer}
 
 -- question 3: kind known, data of S bytes, and the area for the text long enough? So much room is lent for the line
 unfoldable pub can-print : ℕ → Parts → ℕ → Bool
@@ -21,3 +22,8 @@ printed S e room = cond (can-print S e room) (Length (length (line-of e))) Refus
 -- the line at the front of the area, or the area as it was
 unfoldable pub line-after : ℕ → Parts → List ℕ → List ℕ
 line-after S e area = cond (can-print S e (length area)) (onto 0 (line-of e) area) area
+
+-- the number and the values of each answer, as the call for C gives them
+unfoldable pub line-answer : Printed → LineAnswer
+line-answer (Length n) = record { code = 0; length = n }
+line-answer Refused = record { code = 3; length = 0 }

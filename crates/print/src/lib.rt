@@ -12,6 +12,8 @@ ghost use Rattle.text.specs.Lines.{line-of};
 ghost use Rattle.print.specs.Answers.{printed, line-after};
 ghost use Rattle.print.specs.Steps.{number-texts, length-of-line};
 
+pub mod for_c;
+
 // The length of the line, or a no to question 3.
 pub enum Printed {
     Length(usize),

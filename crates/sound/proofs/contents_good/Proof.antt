@@ -9,7 +9,7 @@ use Rattle.rules.specs.Sound.{sound-bag}
 use Rattle.layout.specs.Layout.{bag-codec, bag-at, bag-words, bag-part}
 use Rattle.checks.specs.Rows.{key-below}
 use Rattle.sound.specs.Store.{contents-sound}
-use Rattle.layout.proofs.Bounds.{few-buckets}
+use Rattle.rules.proofs.Limits.{few-buckets}
 use Rattle.layout.proofs.Lent.{lent}
 use native.Mathlib.Omega.{arith}
 use borrow.Author.Needs.{needs}

@@ -8,7 +8,7 @@ use Rattle.lists.proofs.Tests.{all-true, all-false}
 use Rattle.words.specs.Words.{words}
 use Rattle.layout.specs.Layout.{agreed-words, agreed-at}
 use Rattle.checks.specs.Agreed.{agreed-sound, agreed-at-sound}
-use Rattle.layout.proofs.Bounds.{few-buckets}
+use Rattle.rules.proofs.Limits.{few-buckets}
 use Rattle.layout.proofs.Lent.{lent}
 use native.Mathlib.Omega.{arith}
 use borrow.Author.Needs.{needs}

@@ -7,7 +7,7 @@ use Rattle.lists.proofs.Tests.{all-true, all-false}
 use Rattle.words.specs.Words.{words}
 use Rattle.checks.specs.Rows.{key-below}
 use Rattle.checks.specs.Copies.{copies-sound}
-use Rattle.layout.proofs.Bounds.{few-buckets}
+use Rattle.rules.proofs.Limits.{few-buckets}
 use Rattle.checks.proofs.CopyLaws.{AllCopies, all-copies, copies-of-bucket, copies-part}
 use native.Mathlib.Omega.{arith}
 use borrow.Author.Needs.{needs}

@@ -12,7 +12,7 @@ use Rattle.rules.specs.Sound.{sound-proxy}
 use Rattle.layout.specs.Layout.{proxy-codec, proxy-words, proxy-at}
 use Rattle.checks.specs.Rows.{key-below}
 use Rattle.checks.specs.Proxies.{proxy-sound}
-use Rattle.layout.proofs.Bounds.{few-buckets}
+use Rattle.rules.proofs.Limits.{few-buckets}
 use Rattle.layout.proofs.Lent.{lent}
 use native.Mathlib.Omega.{arith}
 use borrow.Author.Needs.{needs}

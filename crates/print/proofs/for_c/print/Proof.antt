@@ -1,9 +1,9 @@
--- `disk::disk_print` meets its contract.
+-- `print::for_c::print` meets its contract.
 use mathlib.Core.Path.{sym, ap, _∙_}
-use Rattle.disk.specs.Answers.{line-answer}
+use Rattle.print.specs.Answers.{line-answer}
 use borrow.Author.Needs.{needs}
-use Rattle.disk.proofs.disk_print.Statement.{statement}
-use Rattle.disk.proofs.disk_print.Tie as tie
+use Rattle.print.proofs.for_c.print.Statement.{statement}
+use Rattle.print.proofs.for_c.print.Tie as tie
 
 print-requires : tie.Need-print-requires
 print-requires c κs = search needs
@@ -32,8 +32,8 @@ unfolding line-answer
 returns-2 c =
     (ap line-answer (sym (c .enum-told .given .1) ∙ c .before .before .before .before .print .ensures .0), c .before .before .before .before .print .ensures .1)
 
-pub disk-print-spec : {M : Type 1} → statement M
-disk-print-spec =
+pub print-spec : {M : Type 1} → statement M
+print-spec =
     tie.close
     (tie.spec
     print-requires

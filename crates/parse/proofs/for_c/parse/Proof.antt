@@ -1,9 +1,9 @@
--- `disk::disk_parse` meets its contract.
+-- `parse::for_c::parse` meets its contract.
 use mathlib.Core.Path.{sym, ap, _∙_}
-use Rattle.disk.specs.Answers.{event-answer}
+use Rattle.parse.specs.Answers.{event-answer}
 use borrow.Author.Needs.{needs}
-use Rattle.disk.proofs.disk_parse.Statement.{statement}
-use Rattle.disk.proofs.disk_parse.Tie as tie
+use Rattle.parse.proofs.for_c.parse.Statement.{statement}
+use Rattle.parse.proofs.for_c.parse.Tie as tie
 
 parse-requires : tie.Need-parse-requires
 parse-requires c κs = search needs
@@ -34,8 +34,8 @@ returns-2 c = (
   c .before .before .before .before .parse .ensures .1,
 )
 
-pub disk-parse-spec : {M : Type 1} → statement M
-disk-parse-spec =
+pub parse-spec : {M : Type 1} → statement M
+parse-spec =
     tie.close
     (tie.spec
     parse-requires

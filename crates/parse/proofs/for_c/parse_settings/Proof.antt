@@ -1,9 +1,9 @@
--- `disk::disk_parse_settings` meets its contract.
+-- `parse::for_c::parse_settings` meets its contract.
 use mathlib.Core.Path.{sym, ap, _∙_}
-use Rattle.disk.specs.Answers.{four-answer}
+use Rattle.parse.specs.Answers.{four-answer}
 use borrow.Author.Needs.{needs}
-use Rattle.disk.proofs.disk_parse_settings.Statement.{statement}
-use Rattle.disk.proofs.disk_parse_settings.Tie as tie
+use Rattle.parse.proofs.for_c.parse_settings.Statement.{statement}
+use Rattle.parse.proofs.for_c.parse_settings.Tie as tie
 
 parse-settings-requires : tie.Need-parse-settings-requires
 parse-settings-requires c κs = search needs
@@ -22,6 +22,6 @@ returns-2 : tie.Need-returns-2
 unfolding four-answer
 returns-2 c = ap four-answer (sym (c .enum-told .given .1) ∙ c .before .before .parse-settings .ensures)
 
-pub disk-parse-settings-spec : {M : Type 1} → statement M
-disk-parse-settings-spec =
+pub parse-settings-spec : {M : Type 1} → statement M
+parse-settings-spec =
     tie.close (tie.spec parse-settings-requires enum-known-answer enum-told returns returns-2)

@@ -1,9 +1,9 @@
--- `disk::disk_alike` meets its contract.
+-- `alike::for_c::alike` meets its contract.
 use mathlib.Core.Path.{sym, ap, _∙_}
 use Rattle.alike.specs.Alike.{alike-number}
 use borrow.Author.Needs.{needs}
-use Rattle.disk.proofs.disk_alike.Statement.{statement}
-use Rattle.disk.proofs.disk_alike.Tie as tie
+use Rattle.alike.proofs.for_c.alike.Statement.{statement}
+use Rattle.alike.proofs.for_c.alike.Tie as tie
 
 alike-requires : tie.Need-alike-requires
 alike-requires c κs = search needs
@@ -29,7 +29,7 @@ returns-3 : tie.Need-returns-3
 unfolding alike-number
 returns-3 c = ap alike-number (sym (c .enum-told3 .given .1) ∙ c .before .before .alike .ensures)
 
-pub disk-alike-spec : {M : Type 1} → statement M
-disk-alike-spec =
+pub alike-spec : {M : Type 1} → statement M
+alike-spec =
     tie.close
     (tie.spec alike-requires enum-told enum-told-2 enum-told-3 returns returns-2 returns-3)
