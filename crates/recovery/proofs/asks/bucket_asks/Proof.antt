@@ -14,15 +14,16 @@ use Rattle.recovery.proofs.asks.bucket_asks.Statement.{statement}
 use Rattle.recovery.proofs.asks.bucket_asks.Tie as tie
 
 abbrev start : tie.After-up-member → tie.Start
-start c = c .before .before .before .before .before
+start c = search
 
 abbrev state : tie.After-up-member → State
 state c = decode (words (start c .args .store .now))
 
 inside : (c : tie.After-up-member) → is-bucket (state c) (start c .args .bucket) ≡ true
 inside c =
+    let after-buckets : tie.After-buckets = search in let else1 : tie.Else1 = search in
     is-bucket-yes (start c .args .settings) (start c .args .store .now) (start c .pre) (start c .args .bucket)
-    (omega (arith, c .before .before .before .buckets .ensures, c .before .before .if1 .left))
+    (omega (arith, after-buckets .buckets .ensures, else1 .if1 .left))
 
 answer : (c : tie.After-up-member) → c .up-member .result ≡ up-member (state c) (state c .bucket (start c .args .bucket) .primary)
 answer c = c .up-member .ensures ∙ ap (λ (k : Agreed). up-member (state c) (k .primary)) (c .before .agreed .ensures)
@@ -32,7 +33,7 @@ buckets-requires c κs = search needs
 
 returns : tie.Need-returns
 returns c =
-    let b = c .before .before .before in
+    let b : tie.Start = search in
     sym (first-stop 3 _ (no-bucket (b .args .settings) (b .args .store .now) (b .pre) (b .args .bucket)
     (omega (arith, c .before .buckets .ensures, c .if1 .taken))))
 

@@ -18,7 +18,7 @@ use Rattle.recovery.proofs.fetch.asks.Statement.{statement}
 use Rattle.recovery.proofs.fetch.asks.Tie as tie
 
 abbrev start : tie.Else1 → tie.Start
-start c = c .before .before .before
+start c = search
 
 abbrev state : tie.Else1 → State
 state c = decode (words (start c .args .store .now))
@@ -34,15 +34,16 @@ later c = bucket-more (start c .args .settings) (start c .args .store .now) (sta
 last : (c : tie.After-find-source) → first-no (fetch-asks (state (c .before .before .before)) (start (c .before .before .before) .args .bucket))
     ≡ first-no ((13 asks ltb 0 (source (state (c .before .before .before)) (start (c .before .before .before) .args .bucket))) ∷ [])
 last c =
-    later (c .before .before .before)
-    ∙ first-yes 13 _ (sym (ap (λ (k : Agreed). not (k .ready)) (c .before .before .agreed .ensures)) ∙ ap not (c .before .if2 .left))
+    let else1 : tie.Else1 = search in let after-agreed : tie.After-agreed = search in
+    later else1
+    ∙ first-yes 13 _ (sym (ap (λ (k : Agreed). not (k .ready)) (after-agreed .agreed .ensures)) ∙ ap not (c .before .if2 .left))
 
 bucket-asks-requires : tie.Need-bucket-asks-requires
 bucket-asks-requires c κs = search needs
 
 returns : tie.Need-returns
 returns c =
-    let b = c .before .before .before in
+    let b : tie.Start = search in
     bucket-first (b .args .settings) (b .args .store .now) (b .pre) (b .args .bucket) _ (c .before .bucket-asks .ensures) (c .if1 .taken) _
 
 agreed-requires : tie.Need-agreed-requires
@@ -51,7 +52,8 @@ agreed-requires c κs =
 
 returns-2 : tie.Need-returns-2
 returns-2 c =
-    sym (later (c .before .before) ∙ first-stop 13 _ (sym (ap (λ (k : Agreed). not (k .ready)) (c .before .agreed .ensures)) ∙ ap not (c .if2 .taken)))
+    let else1 : tie.Else1 = search in
+    sym (later else1 ∙ first-stop 13 _ (sym (ap (λ (k : Agreed). not (k .ready)) (c .before .agreed .ensures)) ∙ ap not (c .if2 .taken)))
 
 find-source-requires : tie.Need-find-source-requires
 find-source-requires c κs =

@@ -17,13 +17,13 @@ same-length c = search needs
 returns : tie.Need-returns
 unfolding rule
 returns c =
-    let b = c .before .before .before .before in refused (Event.fetch (b .args .bucket)) (words (b .args .store .now)) (b .pre .sound) _
+    let b : tie.Start = search in refused (Event.fetch (b .args .bucket)) (words (b .args .store .now)) (b .pre .sound) _
     (c .before .asks .ensures) (c .if1 .taken)
 
 replace-requires : tie.Need-replace-requires
 replace-requires c κs =
-    let b = c .before .before .before .before .before in
-    let y = fetch-yes (b .args .settings) (b .args .store .now) (b .pre) (b .args .bucket) (sym (c .before .before .asks .ensures) ∙ c .before .if1 .left) in
+    let after-asks : tie.After-asks = search in let b : tie.Start = search in
+    let y = fetch-yes (b .args .settings) (b .args .store .now) (b .pre) (b .args .bucket) (sym (after-asks .asks .ensures) ∙ c .before .if1 .left) in
     (b .pre, y .0, y .1)
 
 same-length-2 : tie.Need-same-length-2
@@ -32,10 +32,10 @@ same-length-2 c = search needs
 returns-2 : tie.Need-returns-2
 unfolding rule
 returns-2 c =
-    let at-asks = c .before .before .before .before .before in
-    let b = at-asks .before .before .before in
-    accepted (Event.fetch (b .args .bucket)) (words (b .args .store .now)) _ (sym (at-asks .asks .ensures) ∙ c .before .before .before .before .if1 .left)
-    (c .before .before .replace .ensures)
+    let else1 : tie.Else1 = search in let after-replace : tie.After-replace = search in let at-asks : tie.After-asks = search in
+    let b : tie.Start = search in
+    accepted (Event.fetch (b .args .bucket)) (words (b .args .store .now)) _ (sym (at-asks .asks .ensures) ∙ else1 .if1 .left)
+    (after-replace .replace .ensures)
 
 pub fetch-spec : {M : Type 1} → statement M
 fetch-spec =

@@ -15,39 +15,40 @@ use Rattle.recovery.proofs.fetch.replace.Statement.{statement}
 use Rattle.recovery.proofs.fetch.replace.Tie as tie
 
 abbrev start : tie.After-place2 → tie.Start
-start c = c .before .before .before .before .before .before .before .before .before
+start c = search
 
 abbrev state : tie.After-place2 → State
 state c = decode (words (start c .args .store .now))
 
 from : (c : tie.After-place2) → Stands (start c .args .settings) (state c) (source (state c) (start c .args .bucket)) (c .before .before .place .result)
 from c =
-    subst (λ (i : ℕ). Stands (start c .args .settings) (state c) i (c .before .before .place .result)) (c .before .before .before .before .find-source .ensures)
-    (c .before .before .place .ensures)
+    let after-place : tie.After-place = search in let after-find-source : tie.After-find-source = search in
+    subst (λ (i : ℕ). Stands (start c .args .settings) (state c) i (after-place .place .result)) (after-find-source .find-source .ensures)
+    (after-place .place .ensures)
 
 to : (c : tie.After-place2) → Stands (start c .args .settings) (state c) (state c .bucket (start c .args .bucket) .primary) (c .place2 .result)
 to c =
-    let at-agreed = c .before .before .before .before .before .before in
+    let at-agreed : tie.After-agreed = search in
     subst (λ (i : ℕ). Stands (start c .args .settings) (state c) i (c .place2 .result)) (ap (λ (k : Agreed). k .primary) (at-agreed .agreed .ensures))
     (c .place2 .ensures)
 
 agreed-requires : tie.Need-agreed-requires
-agreed-requires c κs = let b = c .before .before in (b .pre .0, b .pre .1 .inside)
+agreed-requires c κs = let b : tie.Start = search in (b .pre .0, b .pre .1 .inside)
 
 find-source-requires : tie.Need-find-source-requires
-find-source-requires c κs = let b = c .before .before .before .before in (b .pre .0, b .pre .1 .inside)
+find-source-requires c κs = let b : tie.Start = search in (b .pre .0, b .pre .1 .inside)
 
 place-requires : tie.Need-place-requires
 place-requires c κs =
-    let b = c .before .before .before .before .before .before in
+    let b : tie.Start = search in
     let s = decode (words (b .args .store .now)) in
     (b .pre .0, ap (up-member s) (c .before .find-source .ensures) ∙ source-up s (b .args .bucket) (b .pre .2))
 
 place-requires-2 : tie.Need-place-requires-2
 place-requires-2 c κs =
-    let b = c .before .before .before .before .before .before .before .before in
+    let after-agreed : tie.After-agreed = search in let b : tie.Start = search in
     let s = decode (words (b .args .store .now)) in
-    (b .pre .0, ap (λ (k : Agreed). up-member s (k .primary)) (c .before .before .before .before .before .agreed .ensures) ∙ b .pre .1 .primary)
+    (b .pre .0, ap (λ (k : Agreed). up-member s (k .primary)) (after-agreed .agreed .ensures) ∙ b .pre .1 .primary)
 
 replace-requires : tie.Need-replace-requires
 replace-requires c κs =
@@ -68,19 +69,22 @@ fetched-requires c κs = search needs
 
 write-requires : tie.Need-write-requires
 write-requires c κs =
-    let b = c .before .before .before .before .before .before .before .before .before .before .before .before .before .before .before in
-    (c .before .before .before .before .replace .kept .0 ∙ b .pre .0 .size, b .pre .1 .inside)
+    let after-replace : tie.After-replace = search in let b : tie.Start = search in
+    (after-replace .replace .kept .0 ∙ b .pre .0 .size, b .pre .1 .inside)
 
 same-length : tie.Need-same-length
-same-length c = c .before .before .write .kept .0 ∙ c .before .before .before .before .before .before .before .replace .kept .0
+same-length c =
+    let after-write : tie.After-write = search in let after-replace : tie.After-replace = search in
+    after-write .write .kept .0 ∙ after-replace .replace .kept .0
 
 returns : tie.Need-returns
 returns c =
-    let at = c .before .before .before .before .before .before .before .before .before in
-    let b = at .before .before .before .before .before .before .before .before .before in
+    let after-fetched : tie.After-fetched = search in let after-agreed : tie.After-agreed = search in
+    let after-replace : tie.After-replace = search in let after-write : tie.After-write = search in let at : tie.After-place2 = search in
+    let b : tie.Start = search in
     fetch-steps (b .args .settings) (b .args .store .now) (b .pre .0) (b .args .bucket) (b .pre .1 .inside) _ _ (from at) (to at) _ _ _
-    (c .before .before .before .fetched .ensures ∙ ap (λ (k : Agreed). fetched-record k) (at .before .before .before .before .before .before .agreed .ensures))
-    (c .before .before .before .before .before .before .before .replace .ensures) (c .before .before .write .ensures)
+    (after-fetched .fetched .ensures ∙ ap (λ (k : Agreed). fetched-record k) (after-agreed .agreed .ensures))
+    (after-replace .replace .ensures) (after-write .write .ensures)
 
 pub replace-spec : {M : Type 1} → statement M
 replace-spec =

@@ -10,7 +10,7 @@ use Rattle.recovery.proofs.member.find_source.Statement.{statement}
 use Rattle.recovery.proofs.member.find_source.Tie as tie
 
 abbrev start : tie.After-up-member → tie.Start
-start c = c .before .before .before
+start c = search
 
 abbrev state : tie.After-up-member → State
 state c = decode (words (start c .args .store .now))
@@ -21,7 +21,8 @@ first c = c .up-member .ensures ∙ ap (λ (k : Agreed). up-member (state c) (k 
 second : (c : tie.After-up-member2) → c .up-member2 .result
     ≡ up-member (state (c .before .before)) (state (c .before .before) .bucket (start (c .before .before) .args .bucket) .last-backup)
 second c =
-    c .up-member2 .ensures ∙ ap (λ (k : Agreed). up-member (state (c .before .before)) (k .last-backup)) (c .before .before .before .agreed .ensures)
+    let after-up-member : tie.After-up-member = search in let after-agreed : tie.After-agreed = search in
+    c .up-member2 .ensures ∙ ap (λ (k : Agreed). up-member (state after-up-member) (k .last-backup)) (after-agreed .agreed .ensures)
 
 agreed-requires : tie.Need-agreed-requires
 agreed-requires c κs = search needs

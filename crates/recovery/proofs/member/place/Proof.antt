@@ -20,15 +20,15 @@ enum-told c = search needs
 
 returns : tie.Need-returns
 returns c =
-    let b = c .before .before .before .before .before in
+    let after-find-member : tie.After-find-member = search in let b : tie.Start = search in
     let m : MemberAt (b .args .settings) (decode (words (b .args .store .now))) (b .args .id) (c .before .place .given .0 .0) =
-    rw (c .before .place .given .1) at (c .before .before .before .find-member .ensures) in
+    rw (c .before .place .given .1) at (after-find-member .find-member .ensures) in
     m .stands
 
 returns-2 : tie.Need-returns-2
 returns-2 c =
-    let b = c .before .before .before .before in
-    let n : up-member (decode (words (b .args .store .now))) (b .args .id) ≡ false = rw (c .enum-told .given .1) at (c .before .before .find-member .ensures) in
+    let after-find-member : tie.After-find-member = search in let b : tie.Start = search in
+    let n : up-member (decode (words (b .args .store .now))) (b .args .id) ≡ false = rw (c .enum-told .given .1) at (after-find-member .find-member .ensures) in
     clash n (b .pre .1)
 
 pub place-spec : {M : Type 1} → statement M

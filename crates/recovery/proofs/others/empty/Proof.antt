@@ -65,21 +65,21 @@ same-length c = search needs
 
 returns : tie.Need-returns
 returns c =
-    let at = c .before .before .before .before .before .before .before .before in
-    let b = at .before .before .before .before in
+    let after-copy-words : tie.After-copy-words = search in let after-clear : tie.After-clear = search in
+    let after-clear2 : tie.After-clear2 = search in let at : tie.After-disk-at = search in let b : tie.Start = search in
     let v = b .args .part .now in
     let t = b .args .settings in
     let g = b .args .bucket in
-    let size = 8 * at .before .before .copy-words .result in
+    let size = 8 * after-copy-words .copy-words .result in
     let m = 8 * at .before .memory-at .result in
     let d = 8 * at .disk-at .result in
-    let t1 = c .before .before .before .before .before .before .clear .last .0 in
+    let t1 = after-clear .clear .last .0 in
     let v1 : List ℕ = take m v ++ (t1 ++ drop (m + size - m) (drop m v)) in
     let l1 : length v1 ≡ length v = lent-length v t1 m (m + size - m) (omega arith) (omega arith) in
     let e1 = lent-run v t1 m (m + size - m) (copies-at t g) (copy-words t) (copy-codec t .enc []) (omega arith) (omega arith) (omega arith) (omega arith)
-    (c .before .before .before .before .before .before .clear .ensures) in
-    let e2 = lent-run v1 (c .before .before .clear2 .last .0) d (d + size - d) (copies-at t g + copy-words t) (copy-words t) (copy-codec t .enc [])
-    (omega arith) (omega arith) (omega arith) (omega arith) (c .before .before .clear2 .ensures) in
+    (after-clear .clear .ensures) in
+    let e2 = lent-run v1 (after-clear2 .clear2 .last .0) d (d + size - d) (copies-at t g + copy-words t) (copy-words t) (copy-codec t .enc [])
+    (omega arith) (omega arith) (omega arith) (omega arith) (after-clear2 .clear2 .ensures) in
     emptied-steps t g (b .pre .1) (words v) (b .pre .0 .clean) (length-words v ∙ omega arith) (b .pre .2) (words v1) _ e1 e2
 
 pub empty-spec : {M : Type 1} → statement M

@@ -17,7 +17,7 @@ use Rattle.recovery.proofs.ready.asks.Statement.{statement}
 use Rattle.recovery.proofs.ready.asks.Tie as tie
 
 abbrev start : tie.Else1 → tie.Start
-start c = c .before .before .before
+start c = search
 
 abbrev state : tie.Else1 → State
 state c = decode (words (start c .args .store .now))
@@ -35,14 +35,16 @@ later c =
 
 backup : (c : tie.After-up-member) → c .up-member .result
     ≡ up-member (state (c .before .before)) (state (c .before .before) .bucket (start (c .before .before) .args .bucket) .backup)
-backup c = c .up-member .ensures ∙ ap (λ (k : Agreed). up-member (state (c .before .before)) (k .backup)) (c .before .agreed .ensures)
+backup c =
+    let else1 : tie.Else1 = search in
+    c .up-member .ensures ∙ ap (λ (k : Agreed). up-member (state else1) (k .backup)) (c .before .agreed .ensures)
 
 bucket-asks-requires : tie.Need-bucket-asks-requires
 bucket-asks-requires c κs = search needs
 
 returns : tie.Need-returns
 returns c =
-    let b = c .before .before .before in
+    let b : tie.Start = search in
     bucket-first (b .args .settings) (b .args .store .now) (b .pre) (b .args .bucket) _ (c .before .bucket-asks .ensures) (c .if1 .taken) _
 
 agreed-requires : tie.Need-agreed-requires
@@ -57,7 +59,7 @@ fetched-asks-requires c κs = search needs
 
 returns-2 : tie.Need-returns-2
 returns-2 c =
-    let at = c .before .before in
+    let at : tie.After-up-member = search in
     sym (later at ∙ first-yes 6 _ (sym (backup at) ∙ c .before .if2 .taken)
     ∙ ap (λ (k : Agreed). first-no (fetched-asks k)) (sym (at .before .agreed .ensures)) ∙ sym (c .fetched-asks .ensures))
 

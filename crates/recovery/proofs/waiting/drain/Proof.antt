@@ -26,15 +26,15 @@ place-at-requires c κs = search needs
 
 add-buffer : tie.Need-add-buffer
 add-buffer c =
-    let b = c .before .before in omega (arith, c .place-at .ensures .1, store-small (b .args .settings) (b .pre .limits))
+    let b : tie.Start = search in omega (arith, c .place-at .ensures .1, store-small (b .args .settings) (b .pre .limits))
 
 memory-at-requires : tie.Need-memory-at-requires
 memory-at-requires c κs = search needs
 
 drain-requires : tie.Need-drain-requires
 drain-requires c κs =
-    let b = c .before .before .before .before in
-    rw (c .before .before .place-at .ensures .0, c .before .memory-at .ensures .0) (record {
+    let after-place-at : tie.After-place-at = search in let b : tie.Start = search in
+    rw (after-place-at .place-at .ensures .0, c .before .memory-at .ensures .0) (record {
       apart = omega arith;
       room = omega (arith, b .pre .size, c .before .memory-at .ensures .0, c .before .memory-at .ensures .1);
       few = b .pre .few;
@@ -61,13 +61,13 @@ part-drop-bucket-end c = search needs
 
 drop-bucket-requires : tie.Need-drop-bucket-requires
 drop-bucket-requires c κs =
-    let at = c .before .before .before in
-    let b = at .before .before .before .before .before in
+    let after-place-at : tie.After-place-at = search in let after-memory-at : tie.After-memory-at = search in let at : tie.After-drain = search in
+    let b : tie.Start = search in
     let s = b .args .store .now in
     let t = b .args .settings in
     let v = at .drain .last .0 in
-    let p = at .before .before .before .place-at in
-    let m = at .before .before .memory-at in
+    let p = after-place-at .place-at in
+    let m = after-memory-at .memory-at in
     let n : ℕ = p .result + 6 in
     let w = lent v (8 * n) (8 * n + 520) n 65 (omega arith) (omega arith) (omega arith) in
     let few : getD (words s) n 0 ≤ 32 = subst (λ (i : ℕ). getD (words s) (i + 6) 0 ≤ 32) (sym (p .ensures .0)) (b .pre .few) in
@@ -83,20 +83,20 @@ same-length c = search needs
 
 returns : tie.Need-returns
 returns c =
-    let at = c .before .before .before .before .before .before in
-    let b = at .before .before .before .before .before in
+    let after-place-at : tie.After-place-at = search in let after-drop-bucket : tie.After-drop-bucket = search in
+    let after-memory-at : tie.After-memory-at = search in let at : tie.After-drain = search in let b : tie.Start = search in
     let t = b .args .settings in
     let g = b .args .bucket in
     let v = at .drain .last .0 in
-    let p = at .before .before .before .place-at in
+    let p = after-place-at .place-at in
     let n : ℕ = p .result + 6 in
     let f : List Entry → List Entry = only (λ e. not (waits-for (buckets t) g e)) in
-    lent-run v (c .before .before .drop-bucket .last .0) (8 * n) (8 * n + 520 - 8 * n) n 65 (change buffer-codec f) (omega arith) (omega arith) (omega arith)
-    (omega arith) (c .before .before .drop-bucket .ensures)
+    lent-run v (after-drop-bucket .drop-bucket .last .0) (8 * n) (8 * n + 520 - 8 * n) n 65 (change buffer-codec f) (omega arith) (omega arith) (omega arith)
+    (omega arith) (after-drop-bucket .drop-bucket .ensures)
     ∙ ap (on-run n 65 (change buffer-codec f)) (at .drain .ensures)
     ∙ ap₂ (λ (i j : ℕ). on-run (i + 6) 65 (change buffer-codec f) (drained-words (buckets t) g (i + 6) max-waiting j (t .entries)
     (words (b .args .store .now))))
-    (p .ensures .0) (at .before .before .memory-at .ensures .0)
+    (p .ensures .0) (after-memory-at .memory-at .ensures .0)
 
 pub drain-spec : {M : Type 1} → statement M
 drain-spec =

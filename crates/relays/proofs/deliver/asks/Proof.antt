@@ -15,21 +15,22 @@ use Rattle.relays.proofs.deliver.asks.Tie as tie
 
 -- the record that was read is that of the block's bucket
 read : (c : tie.After-agreed)
-    → let b = c .before .before .before in
+    → let b : tie.Start = search in
     InBucket (decode (words (b .args .store .now))) (b .args .settings .entries) (b .args .relay .block .0) (c .before .number .result)
     (agreed-of (c .agreed .result))
 read c =
-    let b = c .before .before .before in
+    let b : tie.Start = search in
     in-bucket (b .args .settings) (b .args .store .now) (b .pre) (b .args .relay .block .0) _ (c .before .number .ensures .0) _ (c .agreed .ensures)
 
 -- the last question decides
 last : (c : tie.After-takes) (x : Bool) → c .takes .result ≡ x
-    → let b = c .before .before .before .before .before .before in
+    → let b : tie.Start = search in
     let s = decode (words (b .args .store .now)) in
     cond x 0 14 ≡ first-no (take-asks s (relay-of s (b .args .relay)))
 last c x y =
-    room-decides _ (c .before .before .before .before .before .before .args .relay) _ _ _ (read (c .before .before .before))
-    (sym (c .before .before .up-member .ensures) ∙ not-false _ (c .before .if1 .left)) x (sym (c .takes .ensures) ∙ y)
+    let start : tie.Start = search in let after-agreed : tie.After-agreed = search in let after-up-member : tie.After-up-member = search in
+    room-decides _ (start .args .relay) _ _ _ (read after-agreed)
+    (sym (after-up-member .up-member .ensures) ∙ not-false _ (c .before .if1 .left)) x (sym (c .takes .ensures) ∙ y)
 
 number-requires : tie.Need-number-requires
 number-requires c κs = search needs
@@ -42,7 +43,8 @@ up-member-requires c κs = search needs
 
 returns : tie.Need-returns
 returns c =
-    backup-down _ (c .before .before .before .before .before .args .relay) _ _ _ (read (c .before .before)) (sym (c .before .up-member .ensures)
+    let start : tie.Start = search in let after-agreed : tie.After-agreed = search in
+    backup-down _ (start .args .relay) _ _ _ (read after-agreed) (sym (c .before .up-member .ensures)
     ∙ not-true _ (c .if1 .taken))
 
 takes-requires : tie.Need-takes-requires

@@ -15,15 +15,15 @@ agreed-requires c κs = search needs
 
 returns : tie.Need-returns
 returns c =
-    let at-view = c .before .before .before .before .before in
-    let b = at-view .before .before in
-    new-relay (decode (words (b .args .store .now))) (b .args .relay) (c .before .before .before .if1 .taken ∙ at-view .view .ensures)
-    (agreed-of (c .before .before .agreed .result)) (c .before .before .agreed .ensures)
+    let then1 : tie.Then1 = search in let after-agreed : tie.After-agreed = search in let at-view : tie.After-view = search in
+    let b : tie.Start = search in
+    new-relay (decode (words (b .args .store .now))) (b .args .relay) (then1 .if1 .taken ∙ at-view .view .ensures)
+    (agreed-of (after-agreed .agreed .result)) (after-agreed .agreed .ensures)
 
 returns-2 : tie.Need-returns-2
 returns-2 c =
-    let b = c .before .before .before .before in
-    old-relay (decode (words (b .args .store .now))) (b .args .relay) (λ e. c .if1 .left (e ∙ sym (c .before .before .view .ensures)))
+    let after-view : tie.After-view = search in let b : tie.Start = search in
+    old-relay (decode (words (b .args .store .now))) (b .args .relay) (λ e. c .if1 .left (e ∙ sym (after-view .view .ensures)))
 
 pub is-taken-spec : {M : Type 1} → statement M
 is-taken-spec = tie.close (tie.spec view-requires agreed-requires returns returns-2)

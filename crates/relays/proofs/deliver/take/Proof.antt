@@ -15,38 +15,40 @@ use Rattle.relays.proofs.deliver.take.Tie as tie
 
 -- the record that was read is that of the block's bucket
 read : (c : tie.After-agreed)
-    → let b = c .before .before .before .before in
+    → let b : tie.Start = search in
     InBucket (decode (words (b .args .store .now))) (b .args .settings .entries) (b .args .relay .block .0) (c .before .before .number .result)
     (agreed-of (c .agreed .result))
 read c =
-    let b = c .before .before .before .before in
-    in-bucket (b .args .settings) (b .args .store .now) (b .pre .0) (b .args .relay .block .0) _ (c .before .before .number .ensures .0) _ (c .agreed .ensures)
+    let after-number : tie.After-number = search in let b : tie.Start = search in
+    in-bucket (b .args .settings) (b .args .store .now) (b .pre .0) (b .args .relay .block .0) _ (after-number .number .ensures .0) _ (c .agreed .ensures)
 
 -- the place holds the backup
 stands : (c : tie.After-place)
-    → let b = c .before .before .before .before .before .before .before .before in
+    → let b : tie.Start = search in
     Stands (b .args .settings) (decode (words (b .args .store .now))) (c .before .before .before .before .agreed .result .backup) (c .place .given .0 .0)
-stands c = rw (c .place .given .1) at (c .before .before .place-of .ensures)
+stands c =
+    let after-place-of : tie.After-place-of = search in
+    rw (c .place .given .1) at (after-place-of .place-of .ensures)
 
 -- the entry is in the backup's memory
 entered : (c : tie.After-bag-span)
-    → let b = c .before .before .before .before .before .before .before .before .before .before .before .before .before .before in
+    → let b : tie.Start = search in
     Entered (b .args .settings) (b .args .store .now) (b .args .index) (b .args .relay)
     (c .before .before .before .before .before .before .before .before .before .before .before .before .number .result) (c .bag-span .result .from)
     (c .bag-span .result .to) (c .before .before .before .insert .last .0)
 entered c =
-    let got = c .before .before .before .before .before .before .before .before .before .before in
-    let b = got .before .before .before .before in
+    let after-number : tie.After-number = search in let after-place : tie.After-place = search in let after-insert : tie.After-insert = search in
+    let after-store : tie.After-store = search in let got : tie.After-agreed = search in let b : tie.Start = search in
     let k = read got in
     record {
       store = b .pre .0;
       relay = b .pre .1;
       number = k .number;
-      bucket = got .before .before .number .ensures .1;
+      bucket = after-number .number .ensures .1;
       span = c .bag-span .ensures;
-      entry = entered-rule _ (b .args .relay) _ _ _ k _ (stands (c .before .before .before .before .before .before) .here) (words (b .args .store .now)) _
-          (c .before .before .before .insert .ensures);
-      size = omega (arith, c .before .before .store .given);
+      entry = entered-rule _ (b .args .relay) _ _ _ k _ (stands after-place .here) (words (b .args .store .now)) _
+          (after-insert .insert .ensures);
+      size = omega (arith, after-store .store .given);
     }
 
 number-requires : tie.Need-number-requires
@@ -69,20 +71,19 @@ same-length c = search needs
 
 returns : tie.Need-returns
 returns c =
-    let got = c .before .before .before .before in
-    let b = got .before .before .before .before in
+    let after-place-of : tie.After-place-of = search in let got : tie.After-agreed = search in let b : tie.Start = search in
     let h : brick-in (decode (words (b .args .store .now))) (got .agreed .result .backup) ≡ blank-brick =
-    rw (c .enum-told .given .1) at (c .before .before .place-of .ensures) in
+    rw (c .enum-told .given .1) at (after-place-of .place-of .ensures) in
     absurd (backup-stands _ (b .args .relay) _ _ _ (read got) (b .args .index) (b .pre .1) h)
 
 insert-requires : tie.Need-insert-requires
 insert-requires c κs =
-    let got = c .before .before .before .before .before .before in
-    let b = got .before .before .before .before in
-    let h = stands (c .before .before) in (
+    let after-place : tie.After-place = search in let after-number : tie.After-number = search in let got : tie.After-agreed = search in
+    let b : tie.Start = search in
+    let h = stands after-place in (
       b .pre .0,
       h .inside,
-      got .before .before .number .ensures .1,
+      after-number .number .ensures .1,
       omega (arith, h .some, h .here),
       copy-takes _ (b .args .relay) _ _ _ (read got) (b .args .index) (b .pre .1) _ (h .here),
     )
@@ -101,7 +102,7 @@ part-remove-end c = search needs
 
 remove-requires : tie.Need-remove-requires
 remove-requires c κs =
-    let b = c .before .before .before .before .before .before .before .before .before .before .before .before .before .before .before in
+    let b : tie.Start = search in
     let k = bag-stays (entered (c .before)) in
     (k .table, omega (arith, k .count, b .pre .1 .found .inside))
 
@@ -119,10 +120,10 @@ same-length-2 c = search needs
 
 returns-2 : tie.Need-returns-2
 returns-2 c =
-    let at-write = c .before .before in
-    let removed = at-write .before .before .before .before .before .remove in
+    let after-remove : tie.After-remove = search in let after-bag-span : tie.After-bag-span = search in let at-write : tie.After-write = search in
+    let removed = after-remove .remove in
     at-write .write .ensures
-    ∙ delivered (entered (at-write .before .before .before .before .before .before .before)) (removed .last .0) (removed .kept .0) (removed .ensures) _
+    ∙ delivered (entered after-bag-span) (removed .last .0) (removed .kept .0) (removed .ensures) _
     (ap (λ (j : ℕ). j + taken-at) (at-write .before .agreed-at .ensures .0))
 
 pub take-spec : {M : Type 1} → statement M

@@ -16,7 +16,7 @@ part-result-end : tie.Need-part-result-end
 part-result-end c = search needs
 
 returns : tie.Need-returns
-returns c = let b = c .before .before .before in bag-lent (b .args .settings) (b .args .store .now) (b .pre) _ _ (c .before .bag-span .ensures)
+returns c = let b : tie.Start = search in bag-lent (b .args .settings) (b .args .store .now) (b .pre) _ _ (c .before .bag-span .ensures)
 
 pub bag-part-spec : {M : Type 1} → statement M
 bag-part-spec =

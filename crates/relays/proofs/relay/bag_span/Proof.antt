@@ -14,7 +14,7 @@ places-at-requires : tie.Need-places-at-requires
 places-at-requires c κs = search needs
 
 mul-t5 : tie.Need-mul-t5
-mul-t5 c = let b = c .before .before in omega (arith, store-small (b .args .settings) (b .pre))
+mul-t5 c = let b : tie.Start = search in omega (arith, store-small (b .args .settings) (b .pre))
 
 returns : tie.Need-returns
 returns c = record { start = omega arith; end = omega arith; inside = omega arith }

@@ -21,10 +21,11 @@ key-at-requires c κs = search needs
 
 returns : tie.Need-returns
 returns c =
-    let b = c .before .before .before .before .before .before in
-    let part = c .before .before .before .before .bag-part in
+    let after-bag-part : tie.After-bag-part = search in let after-view-at : tie.After-view-at = search in
+    let after-order-at : tie.After-order-at = search in let b : tie.Start = search in
+    let part = after-bag-part .bag-part in
     relay-read (b .args .settings) (b .args .store .now) (b .pre .0) (b .args .index) (b .pre .1) (words (part .result .now)) (part .ensures .same) _ _ _ _
-    (c .before .before .before .view-at .ensures) (c .before .before .order-at .ensures) (c .before .block-at .ensures) (c .key-at .ensures)
+    (after-view-at .view-at .ensures) (after-order-at .order-at .ensures) (c .before .block-at .ensures) (c .key-at .ensures)
 
 pub read-spec : {M : Type 1} → statement M
 read-spec =

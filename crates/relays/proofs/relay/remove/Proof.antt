@@ -19,7 +19,7 @@ part-remove-end c = search needs
 
 remove-requires : tie.Need-remove-requires
 remove-requires c κs =
-    let b = c .before .before .before in
+    let b : tie.Start = search in
     let k = bag-lent (b .args .settings) (b .args .store .now) (b .pre .0) _ _ (c .before .bag-span .ensures) in
     (k .table, omega (arith, k .count, b .pre .1))
 
@@ -29,9 +29,9 @@ same-length c = search needs
 returns : tie.Need-returns
 unfolding drop-effect
 returns c =
-    let b = c .before .before .before .before .before .before in
-    let removed = c .before .before .remove in
-    bag-becomes (b .args .settings) (b .args .store .now) (b .pre .0) _ _ (c .before .before .before .before .bag-span .ensures)
+    let after-remove : tie.After-remove = search in let after-bag-span : tie.After-bag-span = search in let b : tie.Start = search in
+    let removed = after-remove .remove in
+    bag-becomes (b .args .settings) (b .args .store .now) (b .pre .0) _ _ (after-bag-span .bag-span .ensures)
     (λ l. remove-at l (b .args .index)) (removed .last .0)
     (removed .kept .0) (removed .ensures)
 

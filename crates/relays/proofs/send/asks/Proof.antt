@@ -21,12 +21,12 @@ use Rattle.relays.proofs.send.asks.Tie as tie
 
 -- the first group is answered yes, so the second decides
 asked : (c : tie.Else1) {m : ℕ}
-    → let b = c .before .before .before in
+    → let b : tie.Start = search in
     let s = decode (words (b .args .store .now)) in
     m ≡ first-no (room-asks s (b .args .block .0)) → m ≡ first-no (send-asks s (b .args .block .0))
 unfolding _and_
 asked c =
-    let b = c .before .before .before in
+    let b : tie.Start = search in
     goes-on (primary-asks (decode (words (b .args .store .now))) (b .args .block .0)) _ refl (c .before .primary-asks .ensures) (c .if1 .left)
 
 -- the bag has room
@@ -35,20 +35,20 @@ room c = omega (arith, c .before .relay-count .ensures, c .if2 .left)
 
 -- the record that was read is that of the block's bucket
 read : (c : tie.After-agreed)
-    → let b = c .before .before .before .before .before .before .before in
+    → let b : tie.Start = search in
     InBucket (decode (words (b .args .store .now))) (b .args .settings .entries) (b .args .block .0) (c .before .number .result)
     (agreed-of (c .agreed .result))
 read c =
-    let b = c .before .before .before .before .before .before .before in
+    let b : tie.Start = search in
     in-bucket (b .args .settings) (b .args .store .now) (b .pre) (b .args .block .0) _ (c .before .number .ensures .0) _ (c .agreed .ensures)
 
 -- the last question decides
 last : (c : tie.After-has) (x : Bool) → c .has .result ≡ x
-    → let b = c .before .before .before .before .before .before .before .before .before .before in
+    → let b : tie.Start = search in
     cond x 0 13 ≡ first-no (send-asks (decode (words (b .args .store .now))) (b .args .block .0))
 last c x y =
-    let got = c .before .before .before in
-    asked (got .before .before .before .before) (entry-decides _ _ _ _ _ (read got) (room (got .before .before)) (c .before .if3 .left) x
+    let else1 : tie.Else1 = search in let else2 : tie.Else2 = search in let got : tie.After-agreed = search in
+    asked else1 (entry-decides _ _ _ _ _ (read got) (room else2) (c .before .if3 .left) x
     (sym (c .has .ensures) ∙ y))
 
 primary-asks-requires : tie.Need-primary-asks-requires
@@ -56,7 +56,7 @@ primary-asks-requires c κs = search needs
 
 returns : tie.Need-returns
 returns c =
-    let b = c .before .before .before in
+    let b : tie.Start = search in
     stops-there (primary-asks (decode (words (b .args .store .now))) (b .args .block .0)) _ (c .before .primary-asks .ensures) (c .if1 .taken)
 
 relay-count-requires : tie.Need-relay-count-requires
@@ -64,8 +64,9 @@ relay-count-requires c κs = search needs
 
 returns-2 : tie.Need-returns-2
 returns-2 c =
-    let s = decode (words (c .before .before .before .before .before .args .store .now)) in
-    asked (c .before .before) (sym (first-stop 10 _ (le-ltb (length (s .bag)) max-relays (omega (arith, c .before .relay-count .ensures, c .if2 .taken)))))
+    let start : tie.Start = search in let else1 : tie.Else1 = search in
+    let s = decode (words (start .args .store .now)) in
+    asked else1 (sym (first-stop 10 _ (le-ltb (length (s .bag)) max-relays (omega (arith, c .before .relay-count .ensures, c .if2 .taken)))))
 
 number-requires : tie.Need-number-requires
 number-requires c κs = search needs
@@ -75,8 +76,8 @@ agreed-requires c κs = search needs
 
 returns-3 : tie.Need-returns-3
 returns-3 c =
-    let got = c .before .before in
-    asked (got .before .before .before .before) (no-order _ _ _ _ _ (read got) (room (got .before .before)) (c .if3 .taken))
+    let else1 : tie.Else1 = search in let else2 : tie.Else2 = search in let got : tie.After-agreed = search in
+    asked else1 (no-order _ _ _ _ _ (read got) (room else2) (c .if3 .taken))
 
 has-requires : tie.Need-has-requires
 has-requires c κs = search needs

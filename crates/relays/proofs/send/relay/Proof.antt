@@ -14,12 +14,12 @@ use Rattle.relays.proofs.send.relay.Tie as tie
 
 -- the record that was read is that of the block's bucket
 read : (c : tie.After-agreed)
-    → let b = c .before .before .before .before in
+    → let b : tie.Start = search in
     InBucket (decode (words (b .args .store .now))) (b .args .settings .entries) (b .args .block .0) (c .before .before .number .result)
     (agreed-of (c .agreed .result))
 read c =
-    let b = c .before .before .before .before in
-    in-bucket (b .args .settings) (b .args .store .now) (b .pre .0) (b .args .block .0) _ (c .before .before .number .ensures .0) _ (c .agreed .ensures)
+    let after-number : tie.After-number = search in let b : tie.Start = search in
+    in-bucket (b .args .settings) (b .args .store .now) (b .pre .0) (b .args .block .0) _ (after-number .number .ensures .0) _ (c .agreed .ensures)
 
 number-requires : tie.Need-number-requires
 number-requires c κs = search needs
@@ -28,7 +28,9 @@ agreed-requires : tie.Need-agreed-requires
 agreed-requires c κs = search needs
 
 add-order : tie.Need-add-order
-add-order c = omega (arith, order-left _ _ _ _ _ (read (c .before)) (c .before .before .before .before .before .pre .2))
+add-order c =
+    let start : tie.Start = search in
+    omega (arith, order-left _ _ _ _ _ (read (c .before)) (start .pre .2))
 
 view-requires : tie.Need-view-requires
 view-requires c κs = search needs
@@ -50,7 +52,7 @@ part-append-end c = search needs
 
 append-requires : tie.Need-append-requires
 append-requires c κs =
-    let b = c .before .before .before .before .before .before .before .before .before .before .before in
+    let b : tie.Start = search in
     let k = bag-lent (b .args .settings) (b .args .store .now) (b .pre .0) _ _ (c .before .bag-span .ensures) in
     (k .table, omega (arith, k .count, b .pre .1))
 

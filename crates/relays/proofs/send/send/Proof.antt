@@ -18,13 +18,13 @@ same-length c = search needs
 returns : tie.Need-returns
 unfolding rule
 returns c =
-    let b = c .before .before .before .before in
+    let b : tie.Start = search in
     refused (Event.send (b .args .block)) (words (b .args .store .now)) (b .pre .sound) _ (c .before .asks .ensures) (c .if1 .taken)
 
 relay-requires : tie.Need-relay-requires
 relay-requires c κs =
-    let b = c .before .before .before .before .before in
-    let k = sendable (decode (words (b .args .store .now))) (b .args .block) (sym (c .before .before .asks .ensures) ∙ c .before .if1 .left) in
+    let after-asks : tie.After-asks = search in let b : tie.Start = search in
+    let k = sendable (decode (words (b .args .store .now))) (b .args .block) (sym (after-asks .asks .ensures) ∙ c .before .if1 .left) in
     (b .pre, k .room, k .order)
 
 same-length-2 : tie.Need-same-length-2
@@ -33,11 +33,11 @@ same-length-2 c = search needs
 returns-2 : tie.Need-returns-2
 unfolding rule
 returns-2 c =
-    let at-asks = c .before .before .before .before .before in
-    let b = at-asks .before .before .before in
-    let done = c .before .before .relay in
+    let after-relay : tie.After-relay = search in let else1 : tie.Else1 = search in let at-asks : tie.After-asks = search in
+    let b : tie.Start = search in
+    let done = after-relay .relay in
     accepted (Event.send (b .args .block)) (words (b .args .store .now)) (words (done .last .0)) (sym (at-asks .asks .ensures)
-    ∙ c .before .before .before .before .if1 .left) (done .ensures)
+    ∙ else1 .if1 .left) (done .ensures)
 
 pub send-spec : {M : Type 1} → statement M
 send-spec =
