@@ -23,15 +23,12 @@ same-length c = search needs
 
 returns : tie.Need-returns
 returns c =
-    let at-walk = c .before .before .before .before .before .before in
-    let at-fair-share = at-walk .before .before in
-    let at-fill-all = at-fair-share .before .before .before in
-    let at-keep-all = at-fill-all .before .before .before .before in
-    let s = at-keep-all .before .before .before .before in
+    let after-walk2 : tie.After-walk2 = search in let at-walk : tie.After-walk = search in let at-fair-share : tie.After-fair-share = search in
+    let at-fill-all : tie.After-fill-all = search in let at-keep-all : tie.After-keep-all = search in let s : tie.Start = search in
     let c1 = at-keep-all .keep-all in
     let c2 = at-fill-all .fill-all in
     let c3 = at-walk .walk in
-    let c4 = c .before .before .walk2 in
+    let c4 = after-walk2 .walk2 in
     assigned (s .args .count) (s .args .members .now) (s .args .slots .now) (c1 .last .1 .0) (c2 .last .1 .0) (c3 .last .1 .0) (c4 .last .1 .0)
     (at-fair-share .fair-share .result)
     (c1 .ensures) (c2 .ensures) (at-fair-share .fair-share .ensures) (c3 .ensures) (c4 .ensures)

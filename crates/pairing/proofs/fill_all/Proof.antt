@@ -15,7 +15,9 @@ abbrev μ-loop : tie.MeasureT-loop
 μ-loop members slots₀ count bucket₀ slots bucket = count - bucket
 
 loop-holds : tie.Need-loop-holds Inv-loop μ-loop
-loop-holds c = (search needs, search needs, order-start (fill-at (c .before .before .args .members .now)) (c .before .before .args .slots .now))
+loop-holds c =
+    let start : tie.Start Inv-loop μ-loop = search in
+    (search needs, search needs, order-start (fill-at (start .args .members .now)) (start .args .slots .now))
 
 mul-fill-slot : tie.Need-mul-fill-slot Inv-loop μ-loop
 mul-fill-slot c = search needs
@@ -49,22 +51,22 @@ loop-less c = search needs
 
 loop-again : tie.Need-loop-again Inv-loop μ-loop
 loop-again c =
-    let at-fill-slot = c .before .before .before .before .before .before in
-    let at-loop = at-fill-slot .before .before .before in
-    let s = at-loop .before .before .before in
+    let after-fill-slot2 : tie.After-fill-slot2 Inv-loop μ-loop = search in let at-fill-slot : tie.After-fill-slot Inv-loop μ-loop = search in
+    let at-loop : tie.At-loop Inv-loop μ-loop = search in let s : tie.Start Inv-loop μ-loop = search in
     let l = at-loop .loop in
     let m = s .args .members .now in
     let t = at-fill-slot .fill-slot .last .1 .0 in
-    let e : c .before .before .fill-slot2 .last .1 .0 ≡ fill-at m (l .bucket) (l .slots) = cc
-    (at-fill-slot .fill-slot .ensures, c .before .before .fill-slot2 .ensures) in
-    (search needs, search needs, order-turn (fill-at m) (s .args .slots .now) (l .slots) (c .before .before .fill-slot2 .last .1 .0) (l .bucket) (l .inv .2) e)
+    let e : after-fill-slot2 .fill-slot2 .last .1 .0 ≡ fill-at m (l .bucket) (l .slots) = cc
+    (at-fill-slot .fill-slot .ensures, after-fill-slot2 .fill-slot2 .ensures) in
+    (search needs, search needs, order-turn (fill-at m) (s .args .slots .now) (l .slots) (after-fill-slot2 .fill-slot2 .last .1 .0) (l .bucket) (l .inv .2) e)
 
 same-length : tie.Need-same-length Inv-loop μ-loop
 same-length c = search needs
 
 returns : tie.Need-returns Inv-loop μ-loop
 returns c =
-    let e : c .before .loop .bucket ≡ c .before .before .before .before .args .count = omega arith in
+    let start : tie.Start Inv-loop μ-loop = search in
+    let e : c .before .loop .bucket ≡ start .args .count = omega arith in
     rw e at (c .before .loop .inv .2)
 
 pub fill-all-spec : {M : Type 1} → statement M

@@ -29,13 +29,13 @@ same-length c = search needs
 
 returns : tie.Need-returns
 returns c =
-    let s = c .before .before .before .before .before .before in
-    fill-empty (s .args .members .now) (s .args .slot) (s .args .other) (s .args .slots .now) (c .least-loaded .result) (c .before .before .if1 .taken)
+    let then1 : tie.Then1 = search in let s : tie.Start = search in
+    fill-empty (s .args .members .now) (s .args .slot) (s .args .other) (s .args .slots .now) (c .least-loaded .result) (then1 .if1 .taken)
     (c .least-loaded .ensures)
 
 returns-2 : tie.Need-returns-2
 returns-2 c =
-    let s = c .before .before .before .before in
+    let s : tie.Start = search in
     fill-held (s .args .members .now) (s .args .slot) (s .args .other) (s .args .slots .now) (c .if1 .left)
 
 pub fill-slot-spec : {M : Type 1} → statement M

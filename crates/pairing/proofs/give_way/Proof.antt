@@ -17,7 +17,7 @@ same-length c = search needs
 
 returns : tie.Need-returns
 returns c =
-    let s = c .before .before .before .before .before .before in
+    let s : tie.Start = search in
     way-light (s .args .members .now) (s .args .share) (s .args .slot) (s .args .other) (s .args .slots .now) (c .before .load-of .result)
     (c .before .load-of .ensures) (c .if1 .taken)
 
@@ -35,7 +35,7 @@ same-length-2 c = search needs
 
 returns-2 : tie.Need-returns-2
 returns-2 c =
-    let s = c .before .before .before .before .before .before .before .before .before in
+    let s : tie.Start = search in
     let v = s .args .slots .now in
     way-none (s .args .members .now) (s .args .share) (s .args .slot) (s .args .other) v (c .before .least-loaded .result) (c .before .least-loaded .ensures)
     (c .if2 .taken)
@@ -54,13 +54,13 @@ same-length-3 c = search needs
 
 returns-3 : tie.Need-returns-3
 returns-3 c =
-    let at-if1 = c .before .before .before .before .before .before in
+    let after-least-loaded : tie.After-least-loaded = search in let else2 : tie.Else2 = search in let at-if1 : tie.Else1 = search in
     let at-load-of = at-if1 .before in
-    let s = at-load-of .before .before .before .before .before in
+    let s : tie.Start = search in
     let v = s .args .slots .now in
-    way-given (s .args .members .now) (s .args .share) (s .args .slot) (s .args .other) v (c .before .before .before .before .least-loaded .result)
-    (c .before .before .before .before .least-loaded .ensures)
-    (at-load-of .load-of .result) (c .before .load-of2 .result) (at-load-of .load-of .ensures) (at-if1 .if1 .left) (c .before .before .before .if2 .left)
+    way-given (s .args .members .now) (s .args .share) (s .args .slot) (s .args .other) v (after-least-loaded .least-loaded .result)
+    (after-least-loaded .least-loaded .ensures)
+    (at-load-of .load-of .result) (c .before .load-of2 .result) (at-load-of .load-of .ensures) (at-if1 .if1 .left) (else2 .if2 .left)
     (c .before .load-of2 .ensures) (c .if3 .taken)
 
 same-length-4 : tie.Need-same-length-4
@@ -68,10 +68,10 @@ same-length-4 c = search needs
 
 returns-4 : tie.Need-returns-4
 returns-4 c =
-    let s = c .before .before .before .before .before .before .before .before .before .before .before .before in
+    let after-least-loaded : tie.After-least-loaded = search in let s : tie.Start = search in
     let v = s .args .slots .now in
-    way-full (s .args .members .now) (s .args .share) (s .args .slot) (s .args .other) v (c .before .before .before .before .least-loaded .result)
-    (c .before .before .before .before .least-loaded .ensures)
+    way-full (s .args .members .now) (s .args .share) (s .args .slot) (s .args .other) v (after-least-loaded .least-loaded .result)
+    (after-least-loaded .least-loaded .ensures)
     (c .before .load-of2 .result) (c .before .load-of2 .ensures) (c .if3 .left)
 
 pub give-way-spec : {M : Type 1} → statement M

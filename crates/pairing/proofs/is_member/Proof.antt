@@ -25,8 +25,8 @@ shared-slice-read-if1 c = search needs
 
 returns : tie.Need-returns Inv-loop μ-loop
 returns c =
-    let s = c .before .before .before .before in
-    let l = c .before .before .before .loop in
+    let at-loop : tie.At-loop Inv-loop μ-loop = search in let s : tie.Start Inv-loop μ-loop = search in
+    let l = at-loop .loop in
     sym (l .inv .1 ∙ among-here (s .args .members .now) (l .i) (s .args .id) (omega arith) (c .if1 .taken))
 
 add-i : tie.Need-add-i Inv-loop μ-loop
@@ -37,13 +37,13 @@ loop-less c = search needs
 
 loop-again : tie.Need-loop-again Inv-loop μ-loop
 loop-again c =
-    let s = c .before .before .before .before in
-    let l = c .before .before .before .loop in
+    let at-loop : tie.At-loop Inv-loop μ-loop = search in let s : tie.Start Inv-loop μ-loop = search in
+    let l = at-loop .loop in
     (search needs, l .inv .1 ∙ among-next (s .args .members .now) (l .i) (s .args .id) (omega arith) (c .if1 .left))
 
 returns-2 : tie.Need-returns-2 Inv-loop μ-loop
 returns-2 c =
-    let s = c .before .before in
+    let s : tie.Start Inv-loop μ-loop = search in
     let l = c .before .loop in
     sym (l .inv .1 ∙ among-end (s .args .members .now) (l .i) (s .args .id) (omega arith))
 

@@ -15,7 +15,9 @@ abbrev μ-loop : tie.MeasureT-loop
 μ-loop members slots₀ count bucket₀ slots bucket = count - bucket
 
 loop-holds : tie.Need-loop-holds Inv-loop μ-loop
-loop-holds c = (search needs, search needs, order-start (keep-at (c .before .before .args .members .now)) (c .before .before .args .slots .now))
+loop-holds c =
+    let start : tie.Start Inv-loop μ-loop = search in
+    (search needs, search needs, order-start (keep-at (start .args .members .now)) (start .args .slots .now))
 
 keep-at-requires : tie.Need-keep-at-requires Inv-loop μ-loop
 keep-at-requires c κs = search needs
@@ -28,13 +30,13 @@ loop-less c = search needs
 
 loop-again : tie.Need-loop-again Inv-loop μ-loop
 loop-again c =
-    let at-loop = c .before .before .before .before .before in
-    let s = at-loop .before .before .before in
+    let after-keep-at : tie.After-keep-at Inv-loop μ-loop = search in let at-loop : tie.At-loop Inv-loop μ-loop = search in
+    let s : tie.Start Inv-loop μ-loop = search in
     let l = at-loop .loop in (
       search needs,
       search needs,
-      order-turn (keep-at (s .args .members .now)) (s .args .slots .now) (l .slots) (c .before .before .keep-at .last .1 .0)
-          (l .bucket) (l .inv .2) (c .before .before .keep-at .ensures),
+      order-turn (keep-at (s .args .members .now)) (s .args .slots .now) (l .slots) (after-keep-at .keep-at .last .1 .0)
+          (l .bucket) (l .inv .2) (after-keep-at .keep-at .ensures),
     )
 
 same-length : tie.Need-same-length Inv-loop μ-loop
@@ -42,7 +44,8 @@ same-length c = search needs
 
 returns : tie.Need-returns Inv-loop μ-loop
 returns c =
-    let e : c .before .loop .bucket ≡ c .before .before .before .before .args .count = omega arith in
+    let start : tie.Start Inv-loop μ-loop = search in
+    let e : c .before .loop .bucket ≡ start .args .count = omega arith in
     rw e at (c .before .loop .inv .2)
 
 pub keep-all-spec : {M : Type 1} → statement M

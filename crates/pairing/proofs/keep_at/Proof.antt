@@ -47,9 +47,9 @@ same-length c = search needs
 
 returns : tie.Need-returns
 returns c =
-    let s = c .before .before .before .before .before .before .before in
-    keep-lone (s .args .members .now) (s .args .bucket) (s .args .slots .now) (c .before .before .before .kept-id .result) (c .before .kept-id2 .result)
-    (c .before .before .before .kept-id .ensures) (c .before .kept-id2 .ensures) (c .if1 .taken)
+    let after-kept-id : tie.After-kept-id = search in let s : tie.Start = search in
+    keep-lone (s .args .members .now) (s .args .bucket) (s .args .slots .now) (after-kept-id .kept-id .result) (c .before .kept-id2 .result)
+    (after-kept-id .kept-id .ensures) (c .before .kept-id2 .ensures) (c .if1 .taken)
 
 mul-slots-3 : tie.Need-mul-slots-3
 mul-slots-3 c = search needs
@@ -71,9 +71,9 @@ same-length-2 c = search needs
 
 returns-2 : tie.Need-returns-2
 returns-2 c =
-    let s = c .before .before .before .before .before .before .before in
-    keep-primary (s .args .members .now) (s .args .bucket) (s .args .slots .now) (c .before .before .before .kept-id .result) (c .before .kept-id2 .result)
-    (c .before .before .before .kept-id .ensures) (c .before .kept-id2 .ensures) (c .if1 .left)
+    let after-kept-id : tie.After-kept-id = search in let s : tie.Start = search in
+    keep-primary (s .args .members .now) (s .args .bucket) (s .args .slots .now) (after-kept-id .kept-id .result) (c .before .kept-id2 .result)
+    (after-kept-id .kept-id .ensures) (c .before .kept-id2 .ensures) (c .if1 .left)
 
 pub keep-at-spec : {M : Type 1} → statement M
 keep-at-spec =

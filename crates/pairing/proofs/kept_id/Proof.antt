@@ -6,7 +6,7 @@ use Rattle.pairing.proofs.kept_id.Tie as tie
 
 returns : tie.Need-returns
 returns c =
-    let s = c .before .before in
+    let s : tie.Start = search in
     sym (kept-twice (s .args .members .now) (s .args .id) (s .args .other) (c .if1 .taken))
 
 is-member-requires : tie.Need-is-member-requires
@@ -14,13 +14,13 @@ is-member-requires c κs = search needs
 
 returns-2 : tie.Need-returns-2
 returns-2 c =
-    let s = c .before .before .before .before in
+    let else1 : tie.Else1 = search in let s : tie.Start = search in
     sym (kept-member (s .args .members .now) (s .args .id) (s .args .other) (sym (c .before .is-member .ensures) ∙ c .if2 .taken)
-    (c .before .before .if1 .left))
+    (else1 .if1 .left))
 
 returns-3 : tie.Need-returns-3
 returns-3 c =
-    let s = c .before .before .before .before in
+    let s : tie.Start = search in
     sym (kept-gone (s .args .members .now) (s .args .id) (s .args .other) (sym (c .before .is-member .ensures) ∙ c .if2 .left))
 
 pub kept-id-spec : {M : Type 1} → statement M

@@ -16,7 +16,7 @@ abbrev μ-loop : tie.MeasureT-loop
 
 loop-holds : tie.Need-loop-holds Inv-loop μ-loop
 loop-holds c =
-    let s = c .before .before in
+    let s : tie.Start Inv-loop μ-loop = search in
     (search needs, least-end (s .args .slots .now) (s .args .members .now) (s .args .one) (s .args .two))
 
 sub-i : tie.Need-sub-i Inv-loop μ-loop
@@ -36,8 +36,8 @@ loop-less c = search needs
 
 loop-again : tie.Need-loop-again Inv-loop μ-loop
 loop-again c =
-    let s = c .before .before .before .before .before .before in
-    let l = c .before .before .before .loop in (
+    let at-loop : tie.At-loop Inv-loop μ-loop = search in let s : tie.Start Inv-loop μ-loop = search in
+    let l = at-loop .loop in (
       search needs,
       least-turn (s .args .slots .now) (s .args .members .now) (s .args .one) (s .args .two) (l .i) (l .best) (c .chosen .result) (omega arith)
           (l .inv .0) (l .inv .1) (c .chosen .ensures),

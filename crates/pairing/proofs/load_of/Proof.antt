@@ -28,8 +28,8 @@ shared-slice-read-if1 c = search needs
 
 add-held : tie.Need-add-held Inv-loop μ-loop
 add-held c =
-    let s = c .before .before .before .before in
-    let l = c .before .before .before .loop in
+    let at-loop : tie.At-loop Inv-loop μ-loop = search in let s : tie.Start Inv-loop μ-loop = search in
+    let l = at-loop .loop in
     omega (arith, load-room (s .args .slots .now) (l .i) (s .args .id) (l .held) (omega arith) (l .inv .0) (l .inv .1))
 
 loop-less : tie.Need-loop-less Inv-loop μ-loop
@@ -37,8 +37,8 @@ loop-less c = search needs
 
 loop-again : tie.Need-loop-again Inv-loop μ-loop
 loop-again c =
-    let s = c .before .before .before .before in
-    let l = c .before .before .before .loop in
+    let at-loop : tie.At-loop Inv-loop μ-loop = search in let s : tie.Start Inv-loop μ-loop = search in
+    let l = at-loop .loop in
     (search needs, load-hit (s .args .slots .now) (l .i) (s .args .id) (l .held) (omega arith) (l .inv .0) (l .inv .1) (c .if1 .taken))
 
 loop-less-2 : tie.Need-loop-less-2 Inv-loop μ-loop
@@ -46,8 +46,8 @@ loop-less-2 c = search needs
 
 loop-again-2 : tie.Need-loop-again-2 Inv-loop μ-loop
 loop-again-2 c =
-    let s = c .before .before .before .before in
-    let l = c .before .before .before .loop in
+    let at-loop : tie.At-loop Inv-loop μ-loop = search in let s : tie.Start Inv-loop μ-loop = search in
+    let l = at-loop .loop in
     (search needs, load-miss (s .args .slots .now) (l .i) (s .args .id) (l .held) (omega arith) (l .inv .0) (l .inv .1) (c .if1 .left))
 
 returns : tie.Need-returns Inv-loop μ-loop

@@ -17,12 +17,13 @@ abbrev μ-loop : tie.MeasureT-loop
 μ-loop members slots₀ count share role bucket₀ slots bucket = count - bucket
 
 loop-holds : tie.Need-loop-holds Inv-loop μ-loop
-loop-holds c = (
-  search needs,
-  search needs,
-  order-start (walk-at (c .before .before .args .members .now) (c .before .before .args .share) (c .before .before .args .role))
-      (c .before .before .args .slots .now),
-)
+loop-holds c =
+    let start : tie.Start Inv-loop μ-loop = search in (
+      search needs,
+      search needs,
+      order-start (walk-at (start .args .members .now) (start .args .share) (start .args .role))
+          (start .args .slots .now),
+    )
 
 mul-give-way : tie.Need-mul-give-way Inv-loop μ-loop
 mul-give-way c = search needs
@@ -50,13 +51,13 @@ loop-less c = search needs
 
 loop-again : tie.Need-loop-again Inv-loop μ-loop
 loop-again c =
-    let at-loop = c .before .before .before .before .before in
-    let s = at-loop .before .before .before in
+    let after-give-way : tie.After-give-way Inv-loop μ-loop = search in let at-loop : tie.At-loop Inv-loop μ-loop = search in
+    let s : tie.Start Inv-loop μ-loop = search in
     let l = at-loop .loop in (
       search needs,
       search needs,
       order-turn (walk-at (s .args .members .now) (s .args .share) (s .args .role)) (s .args .slots .now) (l .slots)
-          (c .before .before .give-way .last .1 .0) (l .bucket) (l .inv .2) (c .before .before .give-way .ensures),
+          (after-give-way .give-way .last .1 .0) (l .bucket) (l .inv .2) (after-give-way .give-way .ensures),
     )
 
 same-length : tie.Need-same-length Inv-loop μ-loop
@@ -64,7 +65,8 @@ same-length c = search needs
 
 returns : tie.Need-returns Inv-loop μ-loop
 returns c =
-    let e : c .before .loop .bucket ≡ c .before .before .before .before .args .count = omega arith in
+    let start : tie.Start Inv-loop μ-loop = search in
+    let e : c .before .loop .bucket ≡ start .args .count = omega arith in
     rw e at (c .before .loop .inv .2)
 
 pub walk-spec : {M : Type 1} → statement M

@@ -21,51 +21,50 @@ use Rattle.views.proofs.begin.write.Statement.{statement}
 use Rattle.views.proofs.begin.write.Tie as tie
 
 abbrev start : tie.After-write2 → tie.Start
-start c = c .before .before .before .before .before .before .before .before .before .before .before .before
+start c = search
 
 -- the header is written
 head : (c : tie.After-write2) → words (c .write2 .last .0)
     ≡ render (head-written (start c .args .settings) (start c .args .store .now) (start c .pre .0) (start c .args .started)) (words (start c .args .store .now))
 head c =
-    let at-view = c .before .before .before .before .before .before in
+    let after-write : tie.After-write = search in let at-view : tie.After-view = search in
     headed (start c .args .settings) (start c .args .store .now) (start c .pre .0) (start c .args .started) (at-view .view .result) _ _ (at-view .view .ensures)
-    (c .before .before .before .before .write .ensures) (c .write2 .ensures)
+    (after-write .write .ensures) (c .write2 .ensures)
 
 head-length : (c : tie.After-write2) → length (c .write2 .last .0) ≡ length (start c .args .store .now)
-head-length c = c .write2 .kept .0 ∙ c .before .before .before .before .write .kept .0
+head-length c =
+    let after-write : tie.After-write = search in
+    c .write2 .kept .0 ∙ after-write .write .kept .0
 
 -- and the buckets' records
+abbrev headed-at : tie.After-renew-all → tie.After-write2
+headed-at c = search
+
+abbrev proxies : tie.After-renew-all → ℕ
+proxies c = let at : tie.After-proxies-at = search in at .proxies-at .result
+
 abbrev after : tie.After-renew-all → List ℕ
-after c =
-    let v = c .before .before .before .before .write2 .last .0 in
-    let k = 8 * c .before .before .before .before .before .before .before .before .before .before .before .before .before .proxies-at .result - 56 in
-    take 56 v ++ (c .renew-all .last .0 ++ drop k (drop 56 v))
+after c = let v = headed-at c .write2 .last .0 in take 56 v ++ (c .renew-all .last .0 ++ drop (8 * proxies c - 56) (drop 56 v))
 
-long : (c : tie.After-renew-all) → length (c .renew-all .last .0)
-    ≡ 8 * c .before .before .before .before .before .before .before .before .before .before .before .before .before .proxies-at .result - 56
+long : (c : tie.After-renew-all) → length (c .renew-all .last .0) ≡ 8 * proxies c - 56
 long c =
-    let at-proxies-at = c .before .before .before .before .before .before .before .before .before .before .before .before .before in
-    let at = c .before .before .before .before in
-    let p = at-proxies-at .proxies-at in
+    let at-proxies-at : tie.After-proxies-at = search in
+    let at = headed-at c in
     c .renew-all .kept .0
-    ∙ run-length 56 (8 * p .result - 56) (at .write2 .last .0) (omega (arith, p .ensures, head-length at, start at .pre .0 .size))
+    ∙ run-length 56 (8 * proxies c - 56) (at .write2 .last .0) (omega (arith, at-proxies-at .proxies-at .ensures, head-length at, start at .pre .0 .size))
 
-records-length : (c : tie.After-renew-all) → length (after c) ≡ length (start (c .before .before .before .before) .args .store .now)
+records-length : (c : tie.After-renew-all) → length (after c) ≡ length (start (headed-at c) .args .store .now)
 records-length c =
-    let at-proxies-at = c .before .before .before .before .before .before .before .before .before .before .before .before .before in
-    let at = c .before .before .before .before in
-    let p = at-proxies-at .proxies-at in
-    lent-length (at .write2 .last .0) (c .renew-all .last .0) 56 (8 * p .result - 56) (omega (arith, p .ensures, head-length at, start at .pre .0 .size))
-    (long c)
+    let at-proxies-at : tie.After-proxies-at = search in
+    let at = headed-at c in
+    lent-length (at .write2 .last .0) (c .renew-all .last .0) 56 (8 * proxies c - 56)
+    (omega (arith, at-proxies-at .proxies-at .ensures, head-length at, start at .pre .0 .size)) (long c)
     ∙ head-length at
 
-records : (c : tie.After-renew-all) → words (after c)
-    ≡ render (records-written (start (c .before .before .before .before) .args .settings) (start (c .before .before .before .before) .args .store .now)
-    (start (c .before .before .before .before) .pre .0) (start (c .before .before .before .before) .args .started)
-    (start (c .before .before .before .before) .args .pairs .now)) (words (start (c .before .before .before .before) .args .store .now))
+records : (c : tie.After-renew-all) → let b = start (headed-at c) in words (after c)
+    ≡ render (records-written (b .args .settings) (b .args .store .now) (b .pre .0) (b .args .started) (b .args .pairs .now)) (words (b .args .store .now))
 records c =
-    let at-proxies-at = c .before .before .before .before .before .before .before .before .before .before .before .before .before in
-    let at = c .before .before .before .before in
+    let at-proxies-at : tie.After-proxies-at = search in let at : tie.After-write2 = search in
     let b = start at in
     let t = b .args .settings in
     let bs = b .args .store .now in
@@ -88,7 +87,8 @@ view-requires c κs = search needs
 
 add-write : tie.Need-add-write
 add-write c =
-    omega (arith, c .before .before .before .before .before .before .before .pre .1 .room, c .before .view .ensures)
+    let entry : tie.Start = search in
+    omega (arith, entry .pre .1 .room, c .before .view .ensures)
 
 write-requires : tie.Need-write-requires
 write-requires c κs = search needs
@@ -113,9 +113,9 @@ part-renew-all-end c = search needs
 
 renew-all-requires : tie.Need-renew-all-requires
 renew-all-requires c κs =
-    let b = c .before .before .before .before .before .before .before .before .before .before .before .before .before .before .before in
-    let p = c .before .before .before .before .before .before .before .before .before .before .before .before .proxies-at in (
-      run-length 56 (8 * p .result - 56) (c .before .before .before .write2 .last .0) (omega arith) ∙ omega arith,
+    let after-proxies-at : tie.After-proxies-at = search in let after-write2 : tie.After-write2 = search in let b : tie.Start = search in
+    let p = after-proxies-at .proxies-at in (
+      run-length 56 (8 * p .result - 56) (after-write2 .write2 .last .0) (omega arith) ∙ omega arith,
       ap length (b .pre .2) ∙ view-pairs-long (decode (words (b .args .store .now))) (b .args .settings)
           (settings-are (b .args .settings) (b .args .store .now) (b .pre .0)) (buckets (b .args .settings)) refl,
     )
@@ -134,10 +134,10 @@ part-begin-all-end c = search needs
 
 begin-all-requires : tie.Need-begin-all-requires
 begin-all-requires c κs =
-    let at = c .before .before .before in
-    let b = start (at .before .before .before .before) in
+    let after-write2 : tie.After-write2 = search in let after-places-at : tie.After-places-at = search in let at : tie.After-renew-all = search in
+    let b = start after-write2 in
     let bs = b .args .store .now in
-    let q = c .before .before .before .before .before .before .before .before .before .before .before .before .before .before .before .places-at in
+    let q = after-places-at .places-at in
     places-lent (b .args .settings) bs (b .pre .0) (records-written (b .args .settings) bs (b .pre .0) (b .args .started) (b .args .pairs .now)) refl refl
     (after at) (records at) (records-length at) (8 * q .result) (length bs) (omega (arith, q .ensures)) (omega (arith, q .ensures, b .pre .0 .size))
 
@@ -146,13 +146,14 @@ same-length c = search needs
 
 returns : tie.Need-returns
 returns c =
-    let at = c .before .before .before .before .before .before in
-    let b = start (at .before .before .before .before) in
+    let after-write2 : tie.After-write2 = search in let after-places-at : tie.After-places-at = search in
+    let after-begin-all : tie.After-begin-all = search in let at : tie.After-renew-all = search in
+    let b = start after-write2 in
     let bs = b .args .store .now in
-    let q = at .before .before .before .before .before .before .before .before .before .before .before .before .places-at in
+    let q = after-places-at .places-at in
     viewed (b .args .settings) bs (b .pre .0) (b .args .started) (b .args .pairs .now) (b .pre .1 .up) (b .pre .2) (after at) (records at) (records-length at)
-    (8 * q .result) (length bs) (omega (arith, q .ensures)) (omega (arith, q .ensures, b .pre .0 .size)) (c .before .before .begin-all .last .0) (omega arith)
-    (c .before .before .begin-all .ensures)
+    (8 * q .result) (length bs) (omega (arith, q .ensures)) (omega (arith, q .ensures, b .pre .0 .size)) (after-begin-all .begin-all .last .0) (omega arith)
+    (after-begin-all .begin-all .ensures)
 
 pub write-spec : {M : Type 1} → statement M
 write-spec =

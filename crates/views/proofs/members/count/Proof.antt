@@ -35,8 +35,8 @@ loop-less c = search needs
 
 loop-again : tie.Need-loop-again Inv-loop μ-loop
 loop-again c =
-    let b = c .before .before .before .before .before .before in
-    let l = c .before .before .before .before .loop in (
+    let at-loop : tie.At-loop Inv-loop μ-loop = search in let b : tie.Start Inv-loop μ-loop = search in
+    let l = at-loop .loop in (
       search needs,
       search needs,
       count-yes (l .place) (l .count) (counted (b .args .staying) (decode (words (b .args .store .now)))) (l .inv .2) (sym (c .before .counts .ensures)
@@ -48,8 +48,8 @@ loop-less-2 c = search needs
 
 loop-again-2 : tie.Need-loop-again-2 Inv-loop μ-loop
 loop-again-2 c =
-    let b = c .before .before .before .before .before .before in
-    let l = c .before .before .before .before .loop in (
+    let at-loop : tie.At-loop Inv-loop μ-loop = search in let b : tie.Start Inv-loop μ-loop = search in
+    let l = at-loop .loop in (
       search needs,
       search needs,
       count-no (l .place) (l .count) (counted (b .args .staying) (decode (words (b .args .store .now)))) (l .inv .2) (sym (c .before .counts .ensures)
@@ -58,8 +58,9 @@ loop-again-2 c =
 
 returns : tie.Need-returns Inv-loop μ-loop
 returns c =
-    let e : c .before .before .loop .place ≡ c .before .before .before .before .args .settings .places = omega arith in
-    rw e at (c .before .before .loop .inv .2)
+    let at-loop : tie.At-loop Inv-loop μ-loop = search in let start : tie.Start Inv-loop μ-loop = search in
+    let e : at-loop .loop .place ≡ start .args .settings .places = omega arith in
+    rw e at (at-loop .loop .inv .2)
 
 pub count-spec : {M : Type 1} → statement M
 count-spec =

@@ -13,7 +13,7 @@ id-requires c κs = search needs
 
 returns : tie.Need-returns
 returns c =
-    let b = c .before .before .before in
+    let b : tie.Start = search in
     let s = decode (words (b .args .store .now)) in
     let none = zero-blank (b .args .settings) (b .args .store .now) (b .pre .0) (s .ids (b .args .place)) (sym (c .before .id .ensures) ∙ c .if1 .taken) in
     not-counted (b .args .staying) s (b .args .place) (ap (λ (k : Brick). k .status .up) none)
@@ -23,20 +23,20 @@ status-requires c κs = search needs
 
 returns-2 : tie.Need-returns-2
 returns-2 c =
-    let b = c .before .before .before .before .before .before in
-    let e = c .before .before .status .ensures in
+    let after-status : tie.After-status = search in let b : tie.Start = search in
+    let e = after-status .status .ensures in
     counted-stayed (b .args .staying) _ (b .args .place) (c .if3 .taken) (sym (ap (λ (k : Status). k .up) e) ∙ c .before .if2 .taken) _
     (ap (λ (k : Status). k .began) e)
 
 returns-3 : tie.Need-returns-3
 returns-3 c =
-    let b = c .before .before .before .before .before .before in
-    let e = c .before .before .status .ensures in
+    let after-status : tie.After-status = search in let b : tie.Start = search in
+    let e = after-status .status .ensures in
     counted-up (b .args .staying) _ (b .args .place) (c .if3 .left) (sym (ap (λ (k : Status). k .up) e) ∙ c .before .if2 .taken)
 
 returns-4 : tie.Need-returns-4
 returns-4 c =
-    let b = c .before .before .before .before .before in
+    let b : tie.Start = search in
     not-counted (b .args .staying) (decode (words (b .args .store .now))) (b .args .place) (sym (ap (λ (k : Status). k .up) (c .before .status .ensures))
     ∙ c .if2 .left)
 

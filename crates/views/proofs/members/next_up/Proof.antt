@@ -34,8 +34,9 @@ loop-less c = search needs
 
 loop-again : tie.Need-loop-again Inv-loop μ-loop
 loop-again c =
-    let old = c .before .before .before .before .before .loop in
-    let hit = sym (c .before .before .up-within .ensures) ∙ c .before .if2 .taken in
+    let at-loop : tie.At-loop Inv-loop μ-loop = search in let after-up-within : tie.After-up-within Inv-loop μ-loop = search in
+    let old = at-loop .loop in
+    let hit = sym (after-up-within .up-within .ensures) ∙ c .before .if2 .taken in
     (search needs, rw (c .id .ensures) (lowest-hit _ _ _ _ (old .place) (old .least) (old .inv .1) hit))
 
 loop-less-2 : tie.Need-loop-less-2 Inv-loop μ-loop
@@ -43,13 +44,14 @@ loop-less-2 c = search needs
 
 loop-again-2 : tie.Need-loop-again-2 Inv-loop μ-loop
 loop-again-2 c =
-    let old = c .before .before .before .before .loop in
+    let at-loop : tie.At-loop Inv-loop μ-loop = search in
+    let old = at-loop .loop in
     (search needs, lowest-miss _ _ _ _ (old .place) (old .least) (old .inv .1) (sym (c .before .up-within .ensures) ∙ c .if2 .left))
 
 returns : tie.Need-returns Inv-loop μ-loop
 returns c =
-    let s = c .before .before .before .before in
-    let old = c .before .before .loop in
+    let at-loop : tie.At-loop Inv-loop μ-loop = search in let s : tie.Start Inv-loop μ-loop = search in
+    let old = at-loop .loop in
     let e : old .place ≡ s .args .settings .places = omega arith in
     next-found _ (s .args .store .now) (s .pre .0) (s .args .from) (old .least) (s .pre .1) (s .pre .2) (rw e at (old .inv .1))
 

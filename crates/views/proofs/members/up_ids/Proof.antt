@@ -42,7 +42,8 @@ loop-less c = search needs
 
 loop-again : tie.Need-loop-again Inv-loop μ-loop
 loop-again c =
-    let old = c .before .before .loop in
+    let at-loop : tie.At-loop Inv-loop μ-loop = search in
+    let old = at-loop .loop in
     let v = old .inv .1 in
     (search needs, listed-turn _ (old .ids) (old .count) (old .id) (c .next-up2 .result) v (omega arith) (omega (arith, v .behind)) (c .next-up2 .ensures))
 
@@ -51,7 +52,7 @@ same-length c = search needs
 
 returns : tie.Need-returns Inv-loop μ-loop
 returns c =
-    let s = c .before .before .before .before .before in
+    let s : tie.Start Inv-loop μ-loop = search in
     let old = c .before .loop in
     (omega (arith, old .inv .1 .behind, old .inv .1 .high), old .inv .1 .whole (omega arith) ∙ all-from _ (s .args .store .now) (s .pre .0))
 

@@ -20,7 +20,7 @@ place-words-requires c κs = search needs
 
 loop-holds : tie.Need-loop-holds Inv-loop μ-loop
 loop-holds c =
-    let b = c .before .before in
+    let b : tie.Start Inv-loop μ-loop = search in
     (ap (λ (k : ℕ). b .args .settings .places * k) (c .place-words .ensures), none-changed begun (b .args .settings) (b .args .part .now) (b .pre))
 
 offset-requires : tie.Need-offset-requires Inv-loop μ-loop
@@ -46,9 +46,10 @@ part-begin-end c = search needs
 
 begin-requires : tie.Need-begin-requires Inv-loop μ-loop
 begin-requires c κs =
-    let l = c .before .before .before .loop in
-    let size = c .before .before .before .before .place-words in
-    let b = c .before .before .before .before .before .before in
+    let at-loop : tie.At-loop Inv-loop μ-loop = search in let after-place-words : tie.After-place-words Inv-loop μ-loop = search in
+    let l = at-loop .loop in
+    let size = after-place-words .place-words in
+    let b : tie.Start Inv-loop μ-loop = search in
     let o = 8 * c .before .offset .result in
     let product = ap (λ (k : ℕ). l .place * k) (size .ensures) in
     next-place begun (b .args .settings) (b .args .part .now) (b .pre) (l .place) (omega arith) (l .part) (l .inv .1) o (o + 8 * size .result - o) (omega arith)
@@ -62,14 +63,16 @@ loop-less c = search needs
 
 loop-again : tie.Need-loop-again Inv-loop μ-loop
 loop-again c =
-    let l = c .before .before .before .before .before .before .loop in
-    let size = c .before .before .before .before .before .before .before .place-words in
-    let b = c .before .before .before .before .before .before .before .before .before in
-    let o = 8 * c .before .before .before .before .offset .result in
+    let at-loop : tie.At-loop Inv-loop μ-loop = search in let after-place-words : tie.After-place-words Inv-loop μ-loop = search in
+    let after-offset : tie.After-offset Inv-loop μ-loop = search in let after-begin : tie.After-begin Inv-loop μ-loop = search in
+    let l = at-loop .loop in
+    let size = after-place-words .place-words in
+    let b : tie.Start Inv-loop μ-loop = search in
+    let o = 8 * after-offset .offset .result in
     let product = ap (λ (k : ℕ). l .place * k) (size .ensures) in (
       l .inv .0,
       one-more begun (b .args .settings) (b .args .part .now) (b .pre) (l .place) (omega arith) (l .part) (l .inv .1) o (o + 8 * size .result - o)
-          (omega arith) (omega arith) (c .before .before .begin .last .0) (omega arith) (c .before .before .begin .ensures),
+          (omega arith) (omega arith) (after-begin .begin .last .0) (omega arith) (after-begin .begin .ensures),
     )
 
 same-length : tie.Need-same-length Inv-loop μ-loop
@@ -77,7 +80,7 @@ same-length c = search needs
 
 returns : tie.Need-returns Inv-loop μ-loop
 returns c =
-    let b = c .before .before .before .before in
+    let b : tie.Start Inv-loop μ-loop = search in
     all-changed begun (b .args .settings) (b .args .part .now) (b .pre) (c .before .loop .place) (c .before .loop .part) (omega arith) (c .before .loop .inv .1)
 
 pub begin-all-spec : {M : Type 1} → statement M

@@ -32,7 +32,7 @@ buckets-requires c κs = search needs
 
 loop-holds : tie.Need-loop-holds Inv-loop μ-loop
 loop-holds c =
-    let b = c .before .before .before in
+    let b : tie.Start Inv-loop μ-loop = search in
     let s = b .args .part .now in
     let slots = b .args .slots .now in
     let n = c .buckets .result in
@@ -83,8 +83,9 @@ shared-slice-read-renew-2 c = search needs
 
 renew-requires : tie.Need-renew-requires Inv-loop μ-loop
 renew-requires c κs =
-    let o = 8 * c .before .before .before .offset .result in
-    run-length o (o + 8 * 8 - o) (c .before .before .before .before .before .loop .part) (omega arith) ∙ omega arith
+    let after-offset : tie.After-offset Inv-loop μ-loop = search in let at-loop : tie.At-loop Inv-loop μ-loop = search in
+    let o = 8 * after-offset .offset .result in
+    run-length o (o + 8 * 8 - o) (at-loop .loop .part) (omega arith) ∙ omega arith
 
 add-bucket : tie.Need-add-bucket Inv-loop μ-loop
 add-bucket c = search needs
@@ -94,17 +95,19 @@ loop-less c = search needs
 
 loop-again : tie.Need-loop-again Inv-loop μ-loop
 loop-again c =
-    let b = c .before .before .before .before .before .before .before .before .before .before .before .before in
+    let after-buckets : tie.After-buckets Inv-loop μ-loop = search in let at-loop : tie.At-loop Inv-loop μ-loop = search in
+    let after-offset : tie.After-offset Inv-loop μ-loop = search in let after-renew : tie.After-renew Inv-loop μ-loop = search in
+    let b : tie.Start Inv-loop μ-loop = search in
     let s0 = b .args .part .now in
     let slots = b .args .slots .now in
-    let count = c .before .before .before .before .before .before .before .before .before .buckets .result in
-    let l = c .before .before .before .before .before .before .before .before .loop in
-    let o = 8 * c .before .before .before .before .before .before .offset .result in
+    let count = after-buckets .buckets .result in
+    let l = at-loop .loop in
+    let o = 8 * after-offset .offset .result in
     let n : ℕ = o + 8 * 8 - o in
     let turn = change-turn agreed-codec agreed-law count blank-agreed (λ g. renewed (at slots (2 * g)) (at slots (2 * g + 1))) (words s0)
     (length-words s0 ∙ omega arith)
-    (l .bucket) (omega arith) (l .part) o n (omega arith) (omega arith) (omega arith) (l .inv .2) (c .before .before .renew .last .0) (omega arith)
-    (c .before .before .renew .ensures) in
+    (l .bucket) (omega arith) (l .part) o n (omega arith) (omega arith) (omega arith) (l .inv .2) (after-renew .renew .last .0) (omega arith)
+    (after-renew .renew .ensures) in
     (search needs, search needs, turn)
 
 same-length : tie.Need-same-length Inv-loop μ-loop
@@ -112,15 +115,15 @@ same-length c = search needs
 
 returns : tie.Need-returns Inv-loop μ-loop
 returns c =
-    let b = c .before .before .before .before .before in
+    let after-buckets : tie.After-buckets Inv-loop μ-loop = search in let b : tie.Start Inv-loop μ-loop = search in
     let s0 = b .args .part .now in
     let slots = b .args .slots .now in
-    let n = c .before .before .buckets .result in
+    let n = after-buckets .buckets .result in
     let pair : ℕ → Agreed → Agreed = λ g. renewed (at slots (2 * g)) (at slots (2 * g + 1)) in
     let e : c .before .loop .bucket ≡ n = omega arith in
     rw e at (c .before .loop .inv .2)
     ∙ loop-end agreed-codec agreed-law n (each-changed agreed-codec n blank-agreed pair (words s0)) (words s0) (length-words s0 ∙ omega arith)
-    ∙ ap (λ (m : ℕ). enc-many agreed-codec m (each-changed agreed-codec m blank-agreed pair (words s0)) (words s0)) (c .before .before .buckets .ensures)
+    ∙ ap (λ (m : ℕ). enc-many agreed-codec m (each-changed agreed-codec m blank-agreed pair (words s0)) (words s0)) (after-buckets .buckets .ensures)
 
 pub renew-all-spec : {M : Type 1} → statement M
 renew-all-spec =

@@ -27,7 +27,7 @@ buckets-requires c κs = search needs
 
 loop-holds : tie.Need-loop-holds Inv-loop μ-loop
 loop-holds c =
-    let b = c .before .before .before in
+    let b : tie.Start Inv-loop μ-loop = search in
     let s = decode (words (b .args .store .now)) in
     (search needs, search needs, slots-start (λ g. s .bucket g .last-primary) (λ g. s .bucket g .last-backup) (b .args .slots .now))
 
@@ -54,7 +54,8 @@ mul-slots-4 c = search needs
 
 slice-write-slots-2 : tie.Need-slice-write-slots-2 Inv-loop μ-loop
 slice-write-slots-2 c =
-    let l = c .before .before .loop in
+    let at-loop : tie.At-loop Inv-loop μ-loop = search in
+    let l = at-loop .loop in
     omega (arith, length-set (l .slots) (2 * l .bucket) (c .agreed .result .«last_primary»))
 
 add-bucket : tie.Need-add-bucket Inv-loop μ-loop
@@ -65,9 +66,9 @@ loop-less c = search needs
 
 loop-again : tie.Need-loop-again Inv-loop μ-loop
 loop-again c =
-    let b = c .before .before .before .before .before .before in
+    let at-loop : tie.At-loop Inv-loop μ-loop = search in let b : tie.Start Inv-loop μ-loop = search in
     let s = decode (words (b .args .store .now)) in
-    let l = c .before .before .loop in
+    let l = at-loop .loop in
     let e = c .agreed .ensures in (
       search needs,
       search needs,
@@ -81,12 +82,12 @@ same-length c = search needs
 
 returns : tie.Need-returns Inv-loop μ-loop
 returns c =
-    let b = c .before .before .before .before .before in
+    let after-buckets : tie.After-buckets Inv-loop μ-loop = search in let b : tie.Start Inv-loop μ-loop = search in
     let s = decode (words (b .args .store .now)) in
     let l = c .before .loop in
-    let n = c .before .before .buckets .result in
+    let n = after-buckets .buckets .result in
     let e : l .bucket ≡ n = omega arith in
-    last-pairs-are s (b .args .settings) (settings-are (b .args .settings) (b .args .store .now) (b .pre .0)) n (c .before .before .buckets .ensures)
+    last-pairs-are s (b .args .settings) (settings-are (b .args .settings) (b .args .store .now) (b .pre .0)) n (after-buckets .buckets .ensures)
     (b .args .slots .now) (l .slots) (omega arith) (rw e at (l .inv .2))
 
 pub last-pairs-spec : {M : Type 1} → statement M

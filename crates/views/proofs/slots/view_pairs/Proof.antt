@@ -34,8 +34,7 @@ buckets-requires c κs = search needs
 
 assign-requires : tie.Need-assign-requires
 assign-requires c κs =
-    let at-up-ids = c .before .before .before .before .before .before .before .before .before in
-    let b = at-up-ids .before .before .before .before in
+    let at-up-ids : tie.After-up-ids = search in let b : tie.Start = search in
     let few = few-buckets (b .args .settings) in
     (omega arith, omega (arith, few, c .buckets .ensures), omega (arith, length-take (at-up-ids .up-ids .result - 0) (at-up-ids .up-ids .last .1 .1 .0)))
 
@@ -44,15 +43,14 @@ same-length c = search needs
 
 returns : tie.Need-returns
 returns c =
-    let at-last-pairs = c .before .before .before .before .before .before .before .before .before in
-    let at-up-ids = at-last-pairs .before .before .before in
-    let b = at-up-ids .before .before .before .before in
+    let after-buckets : tie.After-buckets = search in let after-assign : tie.After-assign = search in
+    let at-last-pairs : tie.After-last-pairs = search in let at-up-ids : tie.After-up-ids = search in let b : tie.Start = search in
     let s = decode (words (b .args .store .now)) in
     let n = at-up-ids .up-ids .result in
     let e : n - 0 ≡ n = omega arith in
-    view-pairs-are s (b .args .settings) (settings-are (b .args .settings) (b .args .store .now) (b .pre .0)) (c .before .before .before .buckets .result)
-    (c .before .before .before .buckets .ensures)
-    _ _ _ (at-up-ids .up-ids .ensures .1) (at-last-pairs .last-pairs .ensures) (rw e at (c .before .before .assign .ensures))
+    view-pairs-are s (b .args .settings) (settings-are (b .args .settings) (b .args .store .now) (b .pre .0)) (after-buckets .buckets .result)
+    (after-buckets .buckets .ensures)
+    _ _ _ (at-up-ids .up-ids .ensures .1) (at-last-pairs .last-pairs .ensures) (rw e at (after-assign .assign .ensures))
 
 pub view-pairs-spec : {M : Type 1} → statement M
 view-pairs-spec =

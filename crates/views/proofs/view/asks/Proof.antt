@@ -22,14 +22,16 @@ use Rattle.views.proofs.view.asks.Statement.{statement}
 use Rattle.views.proofs.view.asks.Tie as tie
 
 abbrev start : tie.After-count → tie.Start
-start c = c .before .before .before .before
+start c = search
 
 abbrev state : tie.After-count → State
 state c = decode (words (start c .args .store .now))
 
 -- the first two questions
 number : (c : tie.After-count) → ltb (state c .view) max-number ≡ true
-number c = lt-ltb (state c .view) max-number (omega (arith, c .before .before .view .ensures, c .before .if1 .left))
+number c =
+    let after-view : tie.After-view = search in
+    lt-ltb (state c .view) max-number (omega (arith, after-view .view .ensures, c .before .if1 .left))
 
 up : (c : tie.After-count) → ltb 1 (count-below (state c .settings .places) (is-up (state c))) ≡ ltb 1 (c .count .result)
 up c = ap (ltb 1) (sym (count-of (start c .args .settings) (start c .args .store .now) (start c .pre) false (c .count .result) (c .count .ensures)))
@@ -48,7 +50,8 @@ view-requires c κs = search needs
 
 returns : tie.Need-returns
 returns c =
-    sym (first-stop 12 _ (le-ltb (decode (words (c .before .before .before .args .store .now)) .view) max-number
+    let entry : tie.Start = search in
+    sym (first-stop 12 _ (le-ltb (decode (words (entry .args .store .now)) .view) max-number
     (omega (arith, c .before .view .ensures, c .if1 .taken))))
 
 count-requires : tie.Need-count-requires
@@ -63,20 +66,23 @@ count-requires-2 c κs = search needs
 
 mul-if3 : tie.Need-mul-if3
 mul-if3 c =
-    let b = start (c .before .before) in
-    omega (arith, c .count2 .ensures, count-at-most (b .args .settings .places) (counted true (state (c .before .before))), b .pre .limits .places-to)
+    let after-count : tie.After-count = search in
+    let b = start after-count in
+    omega (arith, c .count2 .ensures, count-at-most (b .args .settings .places) (counted true (state after-count)), b .pre .limits .places-to)
 
 started-requires : tie.Need-started-requires
 started-requires c κs = search needs
 
 returns-3 : tie.Need-returns-3
 returns-3 c =
-    sym (last (c .before) ∙ first-stop 13 _ (le-ltb (c .before .started .result) (2 * c .before .before .count2 .result) (c .if3 .taken)))
+    let after-count2 : tie.After-count2 = search in
+    sym (last (c .before) ∙ first-stop 13 _ (le-ltb (c .before .started .result) (2 * after-count2 .count2 .result) (c .if3 .taken)))
 
 returns-4 : tie.Need-returns-4
 returns-4 c =
+    let after-count2 : tie.After-count2 = search in
     sym (last (c .before)
-    ∙ first-yes 13 _ (lt-ltb (c .before .started .result) (2 * c .before .before .count2 .result) (omega (arith, c .if3 .left))) ∙ none-asked)
+    ∙ first-yes 13 _ (lt-ltb (c .before .started .result) (2 * after-count2 .count2 .result) (omega (arith, c .if3 .left))) ∙ none-asked)
 
 pub asks-spec : {M : Type 1} → statement M
 asks-spec =

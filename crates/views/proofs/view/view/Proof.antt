@@ -17,14 +17,15 @@ same-length c = search needs
 returns : tie.Need-returns
 unfolding rule
 returns c =
-    let b = c .before .before .before .before in refused Event.view (words (b .args .store .now)) (b .pre .sound) _ (c .before .asks .ensures) (c .if1 .taken)
+    let b : tie.Start = search in refused Event.view (words (b .args .store .now)) (b .pre .sound) _ (c .before .asks .ensures) (c .if1 .taken)
 
 begin-requires : tie.Need-begin-requires
 begin-requires c κs =
-    let b = c .before .before .before .before .before in (
+    let after-asks : tie.After-asks = search in
+    let b : tie.Start = search in (
       b .pre,
       view-yes (b .args .settings) (b .args .store .now) (b .pre)
-          (sym (c .before .before .asks .ensures) ∙ c .before .if1 .left),
+          (sym (after-asks .asks .ensures) ∙ c .before .if1 .left),
     )
 
 same-length-2 : tie.Need-same-length-2
@@ -33,10 +34,10 @@ same-length-2 c = search needs
 returns-2 : tie.Need-returns-2
 unfolding rule
 returns-2 c =
-    let at-asks = c .before .before .before .before .before in
-    let b = at-asks .before .before .before in
-    accepted Event.view (words (b .args .store .now)) _ (sym (at-asks .asks .ensures) ∙ c .before .before .before .before .if1 .left)
-    (c .before .before .begin .ensures)
+    let else1 : tie.Else1 = search in let after-begin : tie.After-begin = search in let at-asks : tie.After-asks = search in
+    let b : tie.Start = search in
+    accepted Event.view (words (b .args .store .now)) _ (sym (at-asks .asks .ensures) ∙ else1 .if1 .left)
+    (after-begin .begin .ensures)
 
 pub view-spec : {M : Type 1} → statement M
 view-spec =
