@@ -14,19 +14,21 @@ use borrow.Author.Needs.{needs}
 use Rattle.membership.proofs.lose.lose.Statement.{statement}
 use Rattle.membership.proofs.lose.lose.Tie as tie
 
-asked : (c : tie.Else1) → let b = c .before .before .before .before in first-no (lose-asks (decode (words (b .args .store .now))) (b .args .place)) ≡ 0
+asked : (c : tie.Else1) → let b : tie.Start = search in first-no (lose-asks (decode (words (b .args .store .now))) (b .args .place)) ≡ 0
 asked c = sym (c .before .asks .ensures) ∙ c .if1 .left
 
 stands : (c : tie.Else1)
-    → let b = c .before .before .before .before in
+    → let b : tie.Start = search in
     let s = decode (words (b .args .store .now)) in
     Stands (b .args .settings) s (s .ids (b .args .place)) (b .args .place)
-stands c = let b = c .before .before .before .before in lose-yes (b .args .settings) (b .args .store .now) (b .pre) (b .args .place) (asked c)
+stands c = let b : tie.Start = search in lose-yes (b .args .settings) (b .args .store .now) (b .pre) (b .args .place) (asked c)
 
 place : (c : tie.After-span-of)
-    → let b = c .before .before .before .before .before in
+    → let b : tie.Start = search in
     LentPlace (b .args .store .now) (b .args .settings) (b .args .place) (c .span-of .result .from) (c .span-of .result .to)
-place c = lent-place (c .before .before .before .before .before .pre) (c .span-of .ensures) (stands (c .before) .inside)
+place c =
+    let start : tie.Start = search in
+    lent-place (start .pre) (c .span-of .ensures) (stands (c .before) .inside)
 
 asks-requires : tie.Need-asks-requires
 asks-requires c κs = search needs
@@ -37,11 +39,13 @@ same-length c = search needs
 returns : tie.Need-returns
 unfolding rule
 returns c =
-    let b = c .before .before .before .before in
+    let b : tie.Start = search in
     refused (Event.lose (b .args .place)) (words (b .args .store .now)) (b .pre .sound) _ (c .before .asks .ensures) (c .if1 .taken)
 
 span-of-requires : tie.Need-span-of-requires
-span-of-requires c κs = (c .before .before .before .before .pre .limits, stands c .inside)
+span-of-requires c κs =
+    let start : tie.Start = search in
+    (start .pre .limits, stands c .inside)
 
 sub-set-id : tie.Need-sub-set-id
 sub-set-id c = search needs
@@ -53,7 +57,9 @@ part-set-id-end : tie.Need-part-set-id-end
 part-set-id-end c = part-inside (place c)
 
 set-id-requires : tie.Need-set-id-requires
-set-id-requires c κs = let brick = part-brick (place (c .before)) (stands (c .before .before) .some) in (brick .size, brick .filled, brick .clean)
+set-id-requires c κs =
+    let else1 : tie.Else1 = search in
+    let brick = part-brick (place (c .before)) (stands else1 .some) in (brick .size, brick .filled, brick .clean)
 
 same-length-2 : tie.Need-same-length-2
 same-length-2 c = search needs
@@ -61,10 +67,9 @@ same-length-2 c = search needs
 returns-2 : tie.Need-returns-2
 unfolding rule
 returns-2 c =
-    let k = c .before .before .before .before in
-    let b = k .before .before .before .before .before in
+    let after-set-id : tie.After-set-id = search in let k : tie.After-span-of = search in let b : tie.Start = search in
     let changed = lose-changes (decode (words (b .args .store .now))) (b .args .place) (part-filled (place k) (stands (k .before) .some)) in
-    let done = c .before .before .set-id in
+    let done = after-set-id .set-id in
     accepted (Event.lose (b .args .place)) (words (b .args .store .now)) _ (asked (k .before))
     (part-changed (place k) (done .last .0) changed (done .kept .0) (done .ensures))
 

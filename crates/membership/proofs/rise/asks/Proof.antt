@@ -12,32 +12,39 @@ use Rattle.lent.proofs.Places.{no-place, is-place-yes}
 use Rattle.membership.proofs.rise.asks.Statement.{statement}
 use Rattle.membership.proofs.rise.asks.Tie as tie
 
-is-there : (c : tie.Else1) → let b = c .before .before in is-place (decode (words (b .args .store .now))) (b .args .place) ≡ true
-is-there c = let b = c .before .before in is-place-yes (b .args .settings) (b .args .store .now) (b .pre) (b .args .place) (omega arith)
+is-there : (c : tie.Else1) → let b : tie.Start = search in is-place (decode (words (b .args .store .now))) (b .args .place) ≡ true
+is-there c = let b : tie.Start = search in is-place-yes (b .args .settings) (b .args .store .now) (b .pre) (b .args .place) (omega arith)
 
 returns : tie.Need-returns
-returns c = let b = c .before .before in sym (first-stop 3 _ (no-place (b .args .settings) (b .args .store .now) (b .pre) (b .args .place) (c .if1 .taken)))
+returns c = let b : tie.Start = search in sym (first-stop 3 _ (no-place (b .args .settings) (b .args .store .now) (b .pre) (b .args .place) (c .if1 .taken)))
 
 id-requires : tie.Need-id-requires
-id-requires c κs = (c .before .before .pre, omega arith)
+id-requires c κs =
+    let start : tie.Start = search in
+    (start .pre, omega arith)
 
 returns-2 : tie.Need-returns-2
 returns-2 c =
-    sym (first-yes 3 _ (is-there (c .before .before)) ∙ first-stop 13 _ (no-first _ _ (ap not (eq-eqb _ 0 (sym (c .before .id .ensures) ∙ c .if2 .taken)))))
+    let else1 : tie.Else1 = search in
+    sym (first-yes 3 _ (is-there else1) ∙ first-stop 13 _ (no-first _ _ (ap not (eq-eqb _ 0 (sym (c .before .id .ensures) ∙ c .if2 .taken)))))
 
 is-up-requires : tie.Need-is-up-requires
-is-up-requires c κs = (c .before .before .before .before .pre, omega arith)
+is-up-requires c κs =
+    let start : tie.Start = search in
+    (start .pre, omega arith)
 
 returns-3 : tie.Need-returns-3
 returns-3 c =
-    sym (first-yes 3 _ (is-there (c .before .before .before .before))
+    let else1 : tie.Else1 = search in
+    sym (first-yes 3 _ (is-there else1)
     ∙ first-stop 13 _ (no-second _ _ (ap not (sym (c .before .is-up .ensures) ∙ c .if3 .taken))))
 
 returns-4 : tie.Need-returns-4
 returns-4 c =
-    let here = ap not (ne-eqb _ 0 (λ z. c .before .before .if2 .left (c .before .before .before .id .ensures ∙ z))) in
+    let else2 : tie.Else2 = search in let after-id : tie.After-id = search in let else1 : tie.Else1 = search in
+    let here = ap not (ne-eqb _ 0 (λ z. else2 .if2 .left (after-id .id .ensures ∙ z))) in
     let down = ap not (sym (c .before .is-up .ensures) ∙ c .if3 .left) in
-    sym (first-yes 3 _ (is-there (c .before .before .before .before)) ∙ first-yes 13 _ (both _ _ here down) ∙ none-asked)
+    sym (first-yes 3 _ (is-there else1) ∙ first-yes 13 _ (both _ _ here down) ∙ none-asked)
 
 pub asks-spec : {M : Type 1} → statement M
 asks-spec = tie.close (tie.spec returns id-requires returns-2 is-up-requires returns-3 returns-4)
