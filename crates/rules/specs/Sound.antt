@@ -1,9 +1,11 @@
--- Sound. 01's list, item by item, with the definition that states each:
---   settings in limits                                    sound (in-limits)
+-- Sound. 01's list, item by item, and the definition that states each:
+--   settings in limits                                    sound, by in-limits
+--   the length theirs                                     sound-words of crates/layout/specs/Store.antt
 --   counts in range                                       sound-entries, sound-log, sound-bag
 --   ids in range                                          sound-header, sound-place, sound-pair, sound-key
 --   keys in range                                         sound-key
---   places in range                                       sound-header (how many bricks the view began with); a place is an index below their number
+--   places in range                                       sound-header: the view began with at most as many bricks as there are places
+--   flags in range                                        sound-words of crates/layout/specs/Store.antt
 --   no id at two places                                   alone
 --   no block twice in a copy                              sound-table
 --   no key twice in a log                                 keys-apart
@@ -11,8 +13,8 @@
 --   no key of a brick present at or above its next        sound-key
 --   every id given already                                sound-place, sound-pair, sound-key
 --   no pair with one brick twice                          sound-pair
---   each block in its bucket's copy, its proxy's items    sound-copies (in-bucket), sound-proxy (belongs)
--- In four points more is asked than this list says (docs/DECISIONS.md); no list of events from format leads to a store that they refuse:
+--   each block in its bucket's copy, its proxy's items    sound-copies by in-bucket, sound-proxy by belongs
+-- In four points more is asked than this list says (docs/DECISIONS.md). No list of events from format leads to a store that they refuse:
 --   a member is up                                        sound-status
 --   a down brick's memory is its disk, its buffer empty   sound-copies, sound-buffer
 --   copies and items are sorted by block                  sound-table
