@@ -6,7 +6,8 @@ use Prim.Native.Nat.{ℕ, zero, suc, _+_, _*_, _-_, _≤_, _<_}
 use native.Mathlib.Numerals.{add-one}
 use native.Mathlib.Omega.{arith}
 use lib.Dec.{ltb}
-use lib.ListN.{length, take, replicate, length-take, length-replicate}
+use lib.ListN.{length, take, replicate, length-take, length-replicate, replicate-append-replicate}
+use lib.Seq.{take-at}
 use borrow.Author.Tests.{lt-ltb, le-leb}
 use Rattle.lists.proofs.Tests.{by, both}
 use Rattle.rules.specs.declared.settings.Settings.{Settings}
@@ -40,16 +41,15 @@ first-ids (suc (suc (suc (suc (suc (suc (suc zero))))))) h = refl
 first-ids (suc (suc (suc (suc (suc (suc (suc (suc zero)))))))) h = refl
 first-ids (suc (suc (suc (suc (suc (suc (suc (suc (suc n))))))))) h = absurd (omega arith)
 
-pub take-zeros : (n size : ℕ) → size ≤ n → take {A = ℕ} size (replicate n 0) ≡ replicate size 0
-take-zeros n zero h = refl
-take-zeros zero (suc size) h = absurd (omega arith)
-take-zeros (suc n) (suc size) h = ap (λ (l : List ℕ). 0 ∷ l) (take-zeros n size (omega arith))
-
 -- no bucket had a pair before
 pub no-pairs : (c : Settings) (n : ℕ) → n ≡ buckets c → take {A = ℕ} (2 * n - 0) (replicate (2 * max-buckets) 0) ≡ replicate (2 * buckets c) 0
 no-pairs c n e =
-    let k : 2 * n - 0 ≡ 2 * buckets c = omega arith in
-    rw k (take-zeros (2 * max-buckets) (2 * buckets c) (omega (arith, few-buckets c)))
+    let k : ℕ = 2 * buckets c in
+    let rest : ℕ = 2 * max-buckets - k in
+    let used : 2 * n - 0 ≡ k = omega arith in
+    let all : k + rest ≡ 2 * max-buckets = omega (arith, few-buckets c) in
+    let split = replicate-append-replicate {A = ℕ} k rest 0 ∙ ap (λ (m : ℕ). replicate {A = ℕ} m 0) all in
+    rw used (ap (λ (l : List ℕ). take k l) (sym split) ∙ take-at (replicate k 0) (replicate rest 0) k (length-replicate k 0))
 
 pub first-pairs-are : (c : Settings) → Limits c → (n : ℕ) → n ≡ buckets c → (last slots : Slots) → last ≡ replicate (2 * buckets c) 0
     → slots ≡ pairs n (take (c .places) all-ids) last → slots ≡ first-pairs c
