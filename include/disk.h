@@ -127,7 +127,8 @@ uint64_t disk_length(uint64_t places, uint64_t size, uint64_t entries, uint64_t 
  * 1: a setting is outside its limits, or store_length is not disk_length of the settings. */
 uint64_t disk_format(uint8_t *store, size_t store_length, uint64_t places, uint64_t size, uint64_t entries, uint64_t chunks);
 
-/* Whether lent bytes are a sound store: settings within limits and the length theirs, everything in range and in its place.
+/* Whether lent bytes are a sound store: written in this layout (its version is the first word), settings within limits and the length theirs, everything
+ * in range and in its place.
  * 0: they are. 2: they are not. Its cost grows with what is in use. */
 uint64_t disk_check(const uint8_t *store, size_t store_length);
 

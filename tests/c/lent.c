@@ -16,7 +16,7 @@ size_t length_of(settings settings)
     size_t copy = 1 + 2 * settings.entries;
     size_t log = 1 + 3 * settings.chunks + settings.chunks * settings.size / 8;
     size_t place = 1 + 3 + 2 + 65 + 16 * 2 * copy + log;
-    return 8 * (7 + 16 * 8 + 4 * 66 + 321 + settings.places * place);
+    return 8 * (WORDS_BEFORE_PLACES + settings.places * place);
 }
 
 uint64_t word(const area *store, size_t index)

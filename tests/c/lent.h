@@ -20,6 +20,12 @@ typedef struct {
     uint64_t kind, a, b, c, code, key;
 } row;
 
+/* The bytes that every store begins with, from docs/LAYOUT.md; the words up to the places. */
+#define VERSION "DISK0001"
+#define VERSION_BYTES 8
+#define HEADER_WORDS 8
+#define WORDS_BEFORE_PLACES (HEADER_WORDS + 16 * 8 + 4 * 66 + 321)
+
 #define NO_KEY 0
 #define KEY(id, sequence) ((uint64_t)(id) << 56 | (sequence))
 #define WALK(lent, rows) walk((lent), (rows), COUNT(rows))

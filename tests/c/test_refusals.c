@@ -87,12 +87,11 @@ static void use_all_ids(lent *lent)
 static void fill_backup(lent *lent)
 {
     static const uint64_t copy[] = {2, 6, KEY(1, 0), 7, KEY(1, 0)};
-    const size_t header_to_bag = 7 + 16 * 8 + 4 * 66 + 321;
-    const size_t place = (lent->store.length / 8 - header_to_bag) / lent->settings.places;
+    const size_t place = (lent->store.length / 8 - WORDS_BEFORE_PLACES) / lent->settings.places;
     map_5(lent);
     accept(lent, DISK_SEND, 5, 0);
     for (size_t i = 0; i < COUNT(copy); i++)
-        set_word(&lent->store, header_to_bag + place + 6 + 65 + i, copy[i]);
+        set_word(&lent->store, WORDS_BEFORE_PLACES + place + 6 + 65 + i, copy[i]);
 }
 
 /* What happens on a fresh store, and the event that is then refused. */

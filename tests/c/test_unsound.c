@@ -2,6 +2,7 @@
 #include "list.h"
 
 #include <stdlib.h>
+#include <string.h>
 
 /* A list of all kinds, of right and of wrong lengths. */
 static void run_unsound(area *store)
@@ -59,7 +60,7 @@ static void other_lengths(position position)
 
 /* The words in use of a fresh store of three places: the header, the buckets, a view and a count for each proxy, the bag's count; and for each place its id,
  * flags and numbers, and the counts of its buffer, its copies and its log. */
-enum { IN_USE = 7 + 16 * 8 + 4 * 2 + 1 + 3 * (6 + 1 + 32 + 1) };
+enum { IN_USE = HEADER_WORDS + 16 * 8 + 4 * 2 + 1 + 3 * (6 + 1 + 32 + 1) };
 
 /* One word at a time becomes a number that is in no range. In a word in use it makes the store unsound; no rule reads the others. */
 static void damaged_words(position position)
@@ -85,12 +86,46 @@ static void damaged_words(position position)
 static void header_alone(position position)
 {
     lent lent = formatted(position, least);
-    area store = lend(position, 7 * 8);
+    area store = lend(position, HEADER_WORDS * 8);
     static const uint64_t header[] = {8, 8192, 1024, 65536, 1, 8, 8};
+    memcpy(store.bytes, VERSION, VERSION_BYTES);
     for (size_t i = 0; i < COUNT(header); i++)
-        set_word(&store, i, header[i]);
+        set_word(&store, 1 + i, header[i]);
     expect_unsound(&lent, &store);
     take_back(&store);
+    end(&lent);
+}
+
+/* A store whose first word is not the version: one bit changed, or the bytes in the other order. */
+static void other_versions(position position)
+{
+    lent lent = formatted(position, least), other = formatted(position, least);
+    EXPECT(memcmp(other.store.bytes, VERSION, VERSION_BYTES) == 0);
+    for (size_t bit = 0; bit < 64; bit++) {
+        uint8_t good = other.store.bytes[bit / 8];
+        other.store.bytes[bit / 8] = good ^ (uint8_t)(1 << bit % 8);
+        expect_unsound(&lent, &other.store);
+        other.store.bytes[bit / 8] = good;
+    }
+    for (size_t i = 0; i < VERSION_BYTES; i++)
+        other.store.bytes[i] = (uint8_t)VERSION[VERSION_BYTES - 1 - i];
+    expect_unsound(&lent, &other.store);
+    end(&lent);
+    end(&other);
+}
+
+/* A store of the layout that had no version: all words but the first, at their length then and at that of now. */
+static void older_layout(position position)
+{
+    lent lent = formatted(position, least);
+    size_t then = lent.store.length - VERSION_BYTES;
+    for (size_t length = then; length <= lent.store.length; length += VERSION_BYTES) {
+        area store = lend(position, length);
+        memset(store.bytes, 0, length);
+        memcpy(store.bytes, lent.store.bytes + VERSION_BYTES, then);
+        expect_unsound(&lent, &store);
+        take_back(&store);
+    }
     end(&lent);
 }
 
@@ -111,6 +146,8 @@ static void unsound(position position)
 {
     other_lengths(position);
     header_alone(position);
+    other_versions(position);
+    older_layout(position);
     random_bytes(position);
 }
 

@@ -9,7 +9,7 @@ use lib.Seq.{take-at, drop-at, length-take-le}
 use Rattle.lists.specs.Runs.{enc-all, Sized, none, more}
 use Rattle.lists.specs.Rows.{over-rows}
 use Rattle.lists.proofs.Runs.{length-enc-all}
-use Rattle.codec.specs.Codec.{Codec, Two, word, flag, Reading, via, enc-two, _then_, enc-many, many, Row, table, enc-slot, slot}
+use Rattle.codec.specs.Codec.{Codec, Two, word, flag, fixed, Reading, via, enc-two, _then_, enc-many, many, Row, table, enc-slot, slot}
 
 pub record Lawful {A : Type 0} (c : Codec A) : Type 0 where
   pub keeps : (a : A) (w : List ℕ) → length w ≡ c .size → length (c .enc a w) ≡ c .size
@@ -20,6 +20,9 @@ word-law = record { keeps = λ a w h. refl; idem = λ a w h. refl }
 
 pub flag-law : Lawful flag
 flag-law = record { keeps = λ a w h. refl; idem = λ a w h. refl }
+
+pub fixed-law : (n : ℕ) → Lawful (fixed n)
+fixed-law n = record { keeps = λ a w h. refl; idem = λ a w h. refl }
 
 pub via-law : {A B : Type 0} {c : Codec A} (r : Reading A B) → Lawful c → Lawful (via r c)
 via-law r l = record { keeps = λ b. l .keeps (r .from b); idem = λ b. l .idem (r .from b) }

@@ -14,7 +14,7 @@ use Rattle.lists.specs.Rows.{rows, over-rows, table-dec}
 use Rattle.lists.proofs.Tests.{by-eq, by-lt}
 use Rattle.lists.proofs.Runs.{fits-in, run-length, run-front, run-all, below-append, below-take, below-drop, below-enc-all}
 use Rattle.lists.proofs.Rows.{length-rows, rows-take, enc-rows, rows-back}
-use Rattle.codec.specs.Codec.{Codec, Clean, Fits, word-limit, word, flag, Reading, via, Two, enc-two, _then_, enc-many, many, Row, table, enc-slot, slot}
+use Rattle.codec.specs.Codec.{Codec, Clean, Fits, word-limit, word, flag, fixed, Reading, via, Two, enc-two, _then_, enc-many, many, Row, table, enc-slot, slot}
 use Rattle.codec.proofs.Laws.{Lawful, two-is, two-left, two-right, two-take, two-drop, many-none, many-last, many-left, many-right}
 use Rattle.codec.proofs.Laws.{Exact, all-sized, rest-length}
 use Rattle.codec.proofs.Focus.{Focus, part-of, clean-part, nth, slot-none, slot-some}
@@ -58,6 +58,15 @@ flag-part f w h e k =
   where
     small : (v : List ℕ) → Clean flag v → getD v 0 0 ≤ 1
     small v k = let e : cond (eqb (getD v 0 0) 1) 1 0 ≡ getD v 0 0 = ap (λ (l : List ℕ). getD l 0 0) k in omega (arith, flag-small (eqb (getD v 0 0) 1))
+
+pub clean-fixed : (n : ℕ) → CleanIf (fixed n) (λ w. getD w 0 0 ≡ n)
+clean-fixed n = record { clean = λ w h e. ap (λ (a : ℕ). a ∷ []) (sym e) ∙ one-of w h }
+
+pub fixed-part : {A : Type 0} {c : Codec A} {n : ℕ} (f : Focus c (fixed n)) (w : List ℕ) → length w ≡ c .size → f .Else (c .dec w) (c .dec w) → Clean c w
+    → getD w (f .off) 0 ≡ n
+fixed-part {n = n} f w h e k =
+    let first : n ≡ getD (run (f .off) 1 w) 0 0 = ap (λ (l : List ℕ). getD l 0 0) (clean-part f w h e k) in
+    sym (rw (getD-take 1 (drop (f .off) w) 0 0 (omega arith), getD-drop (f .off) w 0 0, add-zero (f .off)) at first)
 
 pub clean-via : {A B : Type 0} {c : Codec A} {P : List ℕ → Type 0} (r : Reading A B) → ((a : A) → r .from (r .to a) ≡ a) → CleanIf c P → CleanIf (via r c) P
 clean-via {c = c} r e k = record { clean = λ w h p. ap (λ a. c .enc a w) (e (c .dec w)) ∙ k .clean w h p }
@@ -133,6 +142,9 @@ fits-word a l = record { back = λ w h. refl; small = λ w h b. more l none }
 pub fits-flag : (a : Bool) → Fits flag a
 fits-flag true = record { back = λ w h. refl; small = λ w h b. more (lit< tt) none }
 fits-flag false = record { back = λ w h. refl; small = λ w h b. more (lit< tt) none }
+
+pub fits-fixed : (n : ℕ) → n < word-limit → Fits (fixed n) tt
+fits-fixed n l = record { back = λ w h. refl; small = λ w h b. more l none }
 
 pub fits-via : {A B : Type 0} (r : Reading A B) (c : Codec A) (b : B) → r .to (r .from b) ≡ b → Fits c (r .from b) → Fits (via r c) b
 fits-via r c b e f = record { back = λ w h. ap (r .to) (f .back w h) ∙ e; small = f .small }

@@ -38,6 +38,10 @@ word = record { size = 1; dec = λ w. getD w 0 0; enc = λ a w. a ∷ [] }
 abbrev pub flag : Codec Bool
 flag = record { size = 1; dec = λ w. eqb (getD w 0 0) 1; enc = λ a w. cond a 1 0 ∷ [] }
 
+-- ---- one word that is always the same: it is written, and nothing is read from it
+abbrev pub fixed : ℕ → Codec (Unit {0})
+fixed n = record { size = 1; dec = λ w. tt; enc = λ a w. n ∷ [] }
+
 -- ---- the same words read as another type: a value made of its parts, and its parts
 pub record Reading (A B : Type 0) : Type 0 where
   pub to : A → B

@@ -1,4 +1,4 @@
--- Clean words, part by part: flags are 0 or 1, and logs are clean. All else may hold any words.
+-- Clean words, part by part: the version is the layout's, flags are 0 or 1, and logs are clean. All else may hold any words.
 use mathlib.Core.Path.{_≡_, refl, sym, ap, subst, _∙_}
 use mathlib.Core.List.{List}
 use Prim.Native.Nat.{ℕ, _+_, _*_, _≤_, _<_}
@@ -10,18 +10,18 @@ use Rattle.lists.proofs.Runs.{fits-in, run-length, run-front, run-rest, run-all
 use Rattle.rules.specs.declared.settings.Settings.{Settings}
 use Rattle.rules.specs.Limits.{proxies, buckets, max-relays, max-items, max-waiting}
 use Rattle.codec.specs.Codec.{Codec, Clean, word, _then_, many}
-use Rattle.codec.proofs.Focus.{clean-part}
-use Rattle.codec.proofs.Round.{CleanIf, Any, clean-word, clean-flag, clean-via, clean-two, flag-part, clean-many, clean-table, clean-slot}
+use Rattle.codec.proofs.Focus.{_through_, clean-part}
+use Rattle.codec.proofs.Round.{CleanIf, Any, clean-word, clean-flag, clean-fixed, clean-via, clean-two, flag-part, fixed-part, clean-many, clean-table, clean-slot}
 use Rattle.layout.specs.Disk.{blank-agreed, blank-proxy, blank-copies, blank-brick, blank-place}
 use Rattle.layout.specs.Disk.{settings-reading, head-reading, agreed-reading, proxy-reading, status-reading, copies-reading, brick-reading, disk-reading}
-use Rattle.layout.specs.Layout.{head-codec, agreed-codec, proxy-codec, bag-codec, status-codec, buffer-codec, copies-codec}
+use Rattle.layout.specs.Layout.{layout-version, head-codec, agreed-codec, proxy-codec, bag-codec, status-codec, buffer-codec, copies-codec}
 use Rattle.layout.specs.Layout.{all-copies-codec, log-codec, place-codec, all-agreed-codec, all-proxies-codec, disk-codec}
 use Rattle.layout.specs.Layout.{head-words, agreed-words, log-words, place-words, store-words, agreed-at, proxies-at, bag-at, places-at, place-at}
-use Rattle.layout.specs.Layout.{agreed-part, place-part, ready-at, fetched-at, up-at, member-at, began-at, log-at}
+use Rattle.layout.specs.Layout.{agreed-part, place-part, version-at, ready-at, fetched-at, up-at, member-at, began-at, log-at}
 use Rattle.layout.proofs.Codecs.{entry-exact, relay-exact}
-use Rattle.layout.proofs.Foci.{ready-in, fetched-in, up-of, member-of, began-of, log-of, agreed-focus, place-focus}
+use Rattle.layout.proofs.Foci.{version-in, head-in, ready-in, fetched-in, up-of, member-of, began-of, log-of, agreed-focus, place-focus}
 
--- ---- the header, a proxy, the bag, buffers and copies: any words
+-- ---- the settings, a proxy, the bag, buffers and copies: any words
 any-two : {A B : Type 0} {c : Codec A} {d : Codec B} → CleanIf c Any → CleanIf d Any → CleanIf (c then d) Any
 any-two k l = record { clean = λ w h _. clean-two k l .clean w h (tt, tt) }
 
@@ -34,9 +34,6 @@ words-two = any-two clean-word clean-word
 words-four : CleanIf (word then word then word then word) Any
 words-four = any-two clean-word (any-two clean-word words-two)
 
-head-any : CleanIf head-codec Any
-head-any = clean-via head-reading (λ t. refl) (any-two (clean-via settings-reading (λ t. refl) words-four) (any-two clean-word words-two))
-
 pub proxy-any : CleanIf proxy-codec Any
 proxy-any = clean-via proxy-reading (λ t. refl) (any-two clean-word (clean-table entry-exact max-items))
 
@@ -48,6 +45,15 @@ log-if c = record { clean = λ w h k. k }
 
 first-of : (w : List ℕ) → getD (take 1 w) 0 0 ≡ getD w 0 0
 first-of w = getD-take 1 w 0 0 (omega arith)
+
+-- ---- the header: its version
+head-if : CleanIf head-codec (λ w. getD w version-at 0 ≡ layout-version)
+head-if = record {
+  clean = λ w h v.
+      clean-via head-reading (λ t. refl)
+      (clean-two (clean-fixed layout-version) (any-two (clean-via settings-reading (λ t. refl) words-four) (any-two clean-word words-two))) .clean w h
+      (first-of w ∙ v, tt);
+}
 
 -- ---- a bucket's record: its two flags
 pub record AgreedClean (w : List ℕ) : Type 0 where
@@ -109,8 +115,9 @@ module _ (c : Settings) (w : List ℕ) (h : length w ≡ place-words c) where
       (p .began) in
       ((one, (two, (three, tt))), (tt, (tt, subst (Clean (log-codec c)) (sym log-words-of) (p .log)))))
 
--- ---- the store: each bucket's record, and each place that holds a brick
+-- ---- the store: its version, each bucket's record, and each place that holds a brick
 pub record CleanParts (c : Settings) (ws : List ℕ) : Type 0 where
+  pub version : getD ws version-at 0 ≡ layout-version
   pub agreed : (g : ℕ) → g < buckets c → AgreedClean (agreed-part g ws)
   pub place : (p : ℕ) → p < c .places → 0 < getD (place-part c p ws) 0 0 → PlaceClean c (place-part c p ws)
 
@@ -133,21 +140,22 @@ module _ (c : Settings) (ws : List ℕ) (h : length ws ≡ store-words c) where
 
   pub clean-parts : Clean (disk-codec c) ws → CleanParts c ws
   clean-parts k = record {
+    version = fixed-part (head-in c through version-in) ws h (refl, refl) k;
     agreed = λ g l. clean-agreed _ (agreed-long g l) (clean-part (agreed-focus c g l) ws h ((refl, refl), λ j m z. refl) k);
     place = λ p l. clean-place c _ (place-long p l) (clean-part (place-focus c p l) ws h ((((refl, refl), refl), refl), λ j m z. refl) k);
   }
 
   from-places : drop (bag-codec .size) (drop (all-proxies-codec .size) (drop (all-agreed-codec c .size) (drop (head-codec .size) ws))) ≡ drop (places-at c) ws
-  from-places = rw (drop-drop (all-agreed-codec c .size) 7 ws, drop-drop 264 (proxies-at c) ws, drop-drop 321 (bag-at c) ws)
+  from-places = rw (drop-drop (all-agreed-codec c .size) 8 ws, drop-drop 264 (proxies-at c) ws, drop-drop 321 (bag-at c) ws)
 
   pub parts-clean : CleanParts c ws → Clean (disk-codec c) ws
   parts-clean k =
       clean-via disk-reading (λ t. refl)
-      (clean-two head-any
+      (clean-two head-if
       (clean-two (clean-many (buckets c) blank-agreed agreed-if)
       (clean-two (any-many proxies blank-proxy proxy-any)
       (clean-two (clean-table relay-exact max-relays) (clean-many (c .places) blank-place (place-if c)))))) .clean ws h (
-        tt,
+        getD-take head-words ws version-at 0 (omega arith) ∙ k .version,
         (
           λ g l. subst AgreedClean (sym (part-in head-words (buckets c) g agreed-words ws l (omega arith))) (k .agreed g l),
           (

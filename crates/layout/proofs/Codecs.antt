@@ -7,8 +7,8 @@ use lib.ListN.{length}
 use Rattle.rules.specs.declared.settings.Settings.{Settings}
 use Rattle.rules.specs.Limits.{proxies, buckets, max-relays, max-items, max-waiting}
 use Rattle.log.proofs.Codec.{log-keeps, log-idem}
-use Rattle.codec.proofs.Laws.{Lawful, Exact, word-law, flag-law, via-law, then-law, many-law, table-law, slot-law}
-use Rattle.layout.specs.Layout.{settings-codec, head-codec, agreed-codec, items-codec, proxy-codec, bag-codec}
+use Rattle.codec.proofs.Laws.{Lawful, Exact, word-law, flag-law, fixed-law, via-law, then-law, many-law, table-law, slot-law}
+use Rattle.layout.specs.Layout.{layout-version, settings-codec, head-codec, agreed-codec, items-codec, proxy-codec, bag-codec}
 use Rattle.layout.specs.Layout.{status-codec, buffer-codec, copy-codec, copies-codec, all-copies-codec, log-codec, brick-codec, place-codec}
 use Rattle.layout.specs.Layout.{all-agreed-codec, all-proxies-codec, all-places-codec, disk-codec}
 use Rattle.layout.specs.Disk.{blank-agreed, blank-proxy, blank-copies, blank-brick, blank-place}
@@ -42,7 +42,7 @@ pub settings-law : Lawful settings-codec
 settings-law = via-law settings-reading (then-law word-law (then-law word-law (then-law word-law word-law)))
 
 pub head-law : Lawful head-codec
-head-law = via-law head-reading (then-law settings-law (then-law word-law (then-law word-law word-law)))
+head-law = via-law head-reading (then-law (fixed-law layout-version) (then-law settings-law (then-law word-law (then-law word-law word-law))))
 
 pub agreed-law : Lawful agreed-codec
 agreed-law =

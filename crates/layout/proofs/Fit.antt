@@ -18,13 +18,13 @@ use Rattle.rules.proofs.Limits.{Limits, limits}
 use Rattle.rules.proofs.Sound.{EntryOk, RelayOk, KeyOf, Sound}
 use Rattle.rules.proofs.SoundTest.{facts-sound}
 use Rattle.log.proofs.Codec.{log-back, log-small}
-use Rattle.codec.specs.Codec.{Fits, word-limit, word, flag, _&_, _then_}
-use Rattle.codec.proofs.Laws.{word-law, flag-law}
-use Rattle.codec.proofs.Round.{fits-word, fits-flag, fits-via, fits-two, fits-many, fits-table, fits-slot}
+use Rattle.codec.specs.Codec.{Fits, word-limit, word, flag, fixed, _&_, _then_}
+use Rattle.codec.proofs.Laws.{word-law, flag-law, fixed-law}
+use Rattle.codec.proofs.Round.{fits-word, fits-flag, fits-fixed, fits-via, fits-two, fits-many, fits-table, fits-slot}
 use Rattle.layout.specs.Disk.{Copies, Brick, Disk, blank-agreed, blank-proxy, blank-copies, blank-brick, blank-place}
 use Rattle.layout.specs.Disk.{relay-row, settings-reading, head-reading, agreed-reading, proxy-reading, status-reading}
 use Rattle.layout.specs.Disk.{copies-reading, brick-reading, disk-reading}
-use Rattle.layout.specs.Layout.{entries-codec, settings-codec, head-codec, agreed-codec, items-codec, proxy-codec, bag-codec}
+use Rattle.layout.specs.Layout.{layout-version, entries-codec, settings-codec, head-codec, agreed-codec, items-codec, proxy-codec, bag-codec}
 use Rattle.layout.specs.Layout.{status-codec, buffer-codec, copy-codec, copies-codec, all-copies-codec, log-codec, brick-codec, place-codec}
 use Rattle.layout.specs.Layout.{all-agreed-codec, all-proxies-codec, all-places-codec, disk-codec, settings-of, store-words}
 use Rattle.layout.specs.Store.{to-state, brick-in, agreed-in, to-disk, decode, render}
@@ -66,14 +66,15 @@ module _ (s : State) (sd : Sound s) where
   head-fits : Fits head-codec (to-disk s .head)
   head-fits =
       let l = lim in
-      fits-via head-reading (settings-codec then word then word then word) (to-disk s .head) refl
+      fits-via head-reading (fixed layout-version then settings-codec then word then word then word) (to-disk s .head) refl
+      (fits-two (fixed-law layout-version) (fits-fixed layout-version (omega arith))
       (fits-two settings-law
       (fits-via settings-reading (word then word then word then word) (s .settings) refl
       (fits-two word-law (fits-word (s .settings .places) (omega (arith, l .places-to)))
       (fits-two word-law (fits-word (s .settings .size) (omega (arith, l .size-to)))
       (fits-two word-law (fits-word (s .settings .entries) (omega (arith, l .entries-to))) (fits-word (s .settings .chunks) (omega (arith, l .chunks-to)))))))
       (fits-two word-law (fits-word (s .view) (omega (arith, sd .view-last)))
-      (fits-two word-law (fits-word (s .given) (omega (arith, sd .bricks .few))) (fits-word (s .started) (omega (arith, sd .started, l .places-to))))))
+      (fits-two word-law (fits-word (s .given) (omega (arith, sd .bricks .few))) (fits-word (s .started) (omega (arith, sd .started, l .places-to)))))))
 
   agreed-fits : (g : ℕ) → g < buckets (s .settings) → Fits agreed-codec (agreed-in (s .bucket g))
   agreed-fits g h =

@@ -4,12 +4,12 @@ use Prim.Native.Nat.{ℕ, _<_}
 use native.Mathlib.Omega.{arith}
 use Rattle.rules.specs.declared.settings.Settings.{Settings}
 use Rattle.rules.specs.Limits.{proxies, buckets}
-use Rattle.codec.specs.Codec.{word, flag, _then_}
-use Rattle.codec.proofs.Laws.{Lawful, word-law, flag-law, then-law}
+use Rattle.codec.specs.Codec.{word, flag, fixed, _then_}
+use Rattle.codec.proofs.Laws.{Lawful, word-law, flag-law, fixed-law, then-law}
 use Rattle.codec.proofs.Focus.{Focus, _through_, seen-as, at-offset, first, second, nth, filled}
 use Rattle.layout.specs.Disk.{blank-agreed, blank-proxy, blank-copies, blank-brick, blank-place}
 use Rattle.layout.specs.Disk.{head-reading, agreed-reading, proxy-reading, status-reading, copies-reading, brick-reading, disk-reading}
-use Rattle.layout.specs.Layout.{head-codec, agreed-codec, items-codec, proxy-codec, bag-codec, status-codec, buffer-codec}
+use Rattle.layout.specs.Layout.{layout-version, settings-codec, head-codec, agreed-codec, items-codec, proxy-codec, bag-codec, status-codec, buffer-codec}
 use Rattle.layout.specs.Layout.{copy-codec, copies-codec, all-copies-codec, log-codec, brick-codec, place-codec}
 use Rattle.layout.specs.Layout.{all-agreed-codec, all-proxies-codec, all-places-codec, disk-codec}
 use Rattle.layout.specs.Layout.{agreed-at, proxies-at, proxy-at, bag-at, place-at, items-at, up-at, member-at, began-at, next-at, ceiling-at}
@@ -33,14 +33,28 @@ pub flags-words : Lawful (flag then flag then word then word)
 flags-words = then-law flag-law flag-words
 
 -- ---- in the header
+pub from-settings : Lawful (settings-codec then word then word then word)
+from-settings = then-law settings-law three-words
+
+abbrev pub version-in : Focus head-codec (fixed layout-version)
+version-in = seen-as head-reading (λ t. refl) (first (fixed-law layout-version) from-settings)
+
 abbrev pub view-in : Focus head-codec word
-view-in = seen-as head-reading (λ t. refl) (second settings-law three-words through first word-law two-words)
+view-in =
+    seen-as head-reading (λ t. refl)
+    (second (fixed-law layout-version) from-settings through second settings-law three-words through first word-law two-words)
 
 abbrev pub given-in : Focus head-codec word
-given-in = seen-as head-reading (λ t. refl) (second settings-law three-words through second word-law two-words through first word-law word-law)
+given-in =
+    seen-as head-reading (λ t. refl)
+    (second (fixed-law layout-version) from-settings through second settings-law three-words through second word-law two-words
+    through first word-law word-law)
 
 abbrev pub started-in : Focus head-codec word
-started-in = seen-as head-reading (λ t. refl) (second settings-law three-words through second word-law two-words through second word-law word-law)
+started-in =
+    seen-as head-reading (λ t. refl)
+    (second (fixed-law layout-version) from-settings through second settings-law three-words through second word-law two-words
+    through second word-law word-law)
 
 -- ---- in the store
 module _ (c : Settings) where

@@ -18,17 +18,18 @@ use Rattle.layout.proofs.Foci.{view-in, given-in, started-in, head-in, 
 use Rattle.layout.proofs.Places.{of-map, of-same}
 use Rattle.layout.proofs.Decoded.{tidy, as-decoded}
 
--- ---- the settings are the first four words
+-- ---- the settings are the four words after the version
 four : (w : List ℕ)
-    → head-codec .dec (take head-words w) .settings ≡ record { places = getD w 0 0; size = getD w 1 0; entries = getD w 2 0; chunks = getD w 3 0 }
+    → head-codec .dec (take head-words w) .settings ≡ record { places = getD w 1 0; size = getD w 2 0; entries = getD w 3 0; chunks = getD w 4 0 }
 four [] = refl
-four (a ∷ []) = refl
-four (a ∷ b ∷ []) = refl
-four (a ∷ b ∷ c ∷ []) = refl
-four (a ∷ b ∷ c ∷ d ∷ w) = refl
+four (v ∷ []) = refl
+four (v ∷ a ∷ []) = refl
+four (v ∷ a ∷ b ∷ []) = refl
+four (v ∷ a ∷ b ∷ c ∷ []) = refl
+four (v ∷ a ∷ b ∷ c ∷ d ∷ w) = refl
 
 module _ (ws : List ℕ) where
-  pub settings-are : settings-of ws ≡ record { places = getD ws 0 0; size = getD ws 1 0; entries = getD ws 2 0; chunks = getD ws 3 0 }
+  pub settings-are : settings-of ws ≡ record { places = getD ws 1 0; size = getD ws 2 0; entries = getD ws 3 0; chunks = getD ws 4 0 }
   unfolding settings-of
   settings-are = four ws
 
@@ -36,15 +37,15 @@ module _ (ws : List ℕ) where
 module _ (ws : List ℕ) (h : length ws ≡ store-words (settings-of ws)) where
   pub view-read : decode ws .view ≡ getD ws view-at 0
   unfolding decode
-  view-read = read-word (head-in (settings-of ws) through view-in) ws h (refl, (refl, refl))
+  view-read = read-word (head-in (settings-of ws) through view-in) ws h (refl, ((refl, refl), refl))
 
   pub given-read : decode ws .given ≡ getD ws given-at 0
   unfolding decode
-  given-read = read-word (head-in (settings-of ws) through given-in) ws h (refl, ((refl, refl), refl))
+  given-read = read-word (head-in (settings-of ws) through given-in) ws h (refl, (((refl, refl), refl), refl))
 
   pub started-read : decode ws .started ≡ getD ws started-at 0
   unfolding decode
-  started-read = read-word (head-in (settings-of ws) through started-in) ws h (refl, ((refl, refl), refl))
+  started-read = read-word (head-in (settings-of ws) through started-in) ws h (refl, (((refl, refl), refl), refl))
 
   pub agreed-read : (g : ℕ) → g < buckets (settings-of ws) → agreed-in (decode ws .bucket g) ≡ agreed-codec .dec (agreed-part g ws)
   unfolding decode

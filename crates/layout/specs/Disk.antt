@@ -37,10 +37,11 @@ pub record Head : Type 0 where
   pub given : ℕ
   pub started : ℕ
 
-abbrev pub head-reading : Reading (Two Settings (Two ℕ (Two ℕ ℕ))) Head
+-- the version of the layout comes first, and is no part of the value
+abbrev pub head-reading : Reading (Two (Unit {0}) (Two Settings (Two ℕ (Two ℕ ℕ)))) Head
 head-reading = record {
-  to = λ t. record { settings = t .fst; view = t .snd .fst; given = t .snd .snd .fst; started = t .snd .snd .snd };
-  from = λ h. h .settings & h .view & h .given & h .started;
+  to = λ t. record { settings = t .snd .fst; view = t .snd .snd .fst; given = t .snd .snd .snd .fst; started = t .snd .snd .snd .snd };
+  from = λ h. tt & h .settings & h .view & h .given & h .started;
 }
 
 -- ---- a bucket's share of the agreed record

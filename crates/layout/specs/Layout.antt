@@ -9,7 +9,7 @@ use Rattle.rules.specs.Entries.{Entry}
 use Rattle.rules.specs.Chunks.{Chunk}
 use Rattle.rules.specs.State.{Relay}
 use Rattle.log.specs.Log.{chunks-codec}
-use Rattle.codec.specs.Codec.{Codec, word, flag, via, _then_, many, table, slot}
+use Rattle.codec.specs.Codec.{Codec, word, flag, fixed, via, _then_, many, table, slot}
 use Rattle.layout.specs.Disk.{Head, Agreed, Proxy, Status, Copies, Brick, Place, Disk, blank-agreed, blank-proxy, blank-copies, blank-brick, blank-place}
 use Rattle.layout.specs.Disk.{entry-row, relay-row, settings-reading, head-reading, agreed-reading, proxy-reading, status-reading}
 use Rattle.layout.specs.Disk.{copies-reading, brick-reading, disk-reading}
@@ -18,16 +18,20 @@ use Rattle.layout.specs.Disk.{copies-reading, brick-reading, disk-readin
 abbrev pub word-bytes : ℕ
 word-bytes = 8
 
+-- the version of this layout, by which a store of another is told: the bytes "DISK0001" as a word
+abbrev pub layout-version : ℕ
+layout-version = 0x313030304b534944
+
 -- ---- a table of entries
 abbrev pub entries-codec : ℕ → Codec (List Entry)
 entries-codec most = table most entry-row
 
--- ---- the header: N, S, M, L, view, given, started
+-- ---- the header: the version, N, S, M, L, view, given, started
 abbrev pub settings-codec : Codec Settings
 settings-codec = via settings-reading (word then word then word then word)
 
 abbrev pub head-codec : Codec Head
-head-codec = via head-reading (settings-codec then word then word then word)
+head-codec = via head-reading (fixed layout-version then settings-codec then word then word then word)
 
 -- ---- a bucket: primary, backup, last primary, last backup, ready, fetched, order, taken
 abbrev pub agreed-codec : Codec Agreed
@@ -118,8 +122,14 @@ abbrev pub store-words : Settings → ℕ
 store-words c = disk-codec c .size
 
 -- ---- offsets in the store
+abbrev pub version-at : ℕ
+version-at = 0
+
+abbrev pub settings-at : ℕ
+settings-at = version-at + 1
+
 abbrev pub view-at : ℕ
-view-at = settings-codec .size
+view-at = settings-at + settings-codec .size
 
 abbrev pub given-at : ℕ
 given-at = view-at + 1

@@ -103,8 +103,9 @@ unfoldable pub render : State → List ℕ → List ℕ
 render s ws = disk-codec (s .settings) .enc (to-disk s) ws
 
 -- ---- sound
--- the length is that of the settings; the words are what their own state renders (so flags are 0 or 1, and a log's positions list its rows by
--- ascending key); and the state is sound (so the settings are in limits)
+-- the length is that of the settings; the words are what their own state renders (so the first word is the layout's version, flags are 0 or 1, and
+-- a log's positions list its rows by ascending key); and the state is sound (so the settings are in limits). The state holds no version: only the
+-- layout asks for it
 unfoldable pub sound-words : List ℕ → Bool
 sound-words ws = eqb (length ws) (store-words (settings-of ws)) and same-numbers (render (decode ws) ws) ws and sound (decode ws)
 

@@ -16,38 +16,51 @@ pub const ENTRY_WORDS: usize = 2;
 
 pub const RELAY_WORDS: usize = 5;
 
-// N, S, M, L, view, given, started
-pub const HEAD_WORDS: usize = 7;
+// the bytes "DISK0001" as a word: a store of another layout begins otherwise
+pub const VERSION: u64 = 0x3130_3030_4b53_4944;
 
-pub const VIEW_AT: usize = 4;
+// the header
+pub const VERSION_AT: usize = 0;
 
-pub const GIVEN_AT: usize = 5;
+pub const PLACES_COUNT_AT: usize = VERSION_AT + 1;
 
-pub const STARTED_AT: usize = 6;
+pub const BLOCK_SIZE_AT: usize = PLACES_COUNT_AT + 1;
+
+pub const MAX_ENTRIES_AT: usize = BLOCK_SIZE_AT + 1;
+
+pub const MAX_CHUNKS_AT: usize = MAX_ENTRIES_AT + 1;
+
+pub const VIEW_AT: usize = MAX_CHUNKS_AT + 1;
+
+pub const GIVEN_AT: usize = VIEW_AT + 1;
+
+pub const STARTED_AT: usize = GIVEN_AT + 1;
+
+pub const HEAD_WORDS: usize = STARTED_AT + 1;
 
 // a bucket's record
 pub const PRIMARY_AT: usize = 0;
 
-pub const BACKUP_AT: usize = 1;
+pub const BACKUP_AT: usize = PRIMARY_AT + 1;
 
-pub const LAST_PRIMARY_AT: usize = 2;
+pub const LAST_PRIMARY_AT: usize = BACKUP_AT + 1;
 
-pub const LAST_BACKUP_AT: usize = 3;
+pub const LAST_BACKUP_AT: usize = LAST_PRIMARY_AT + 1;
 
-pub const READY_AT: usize = 4;
+pub const READY_AT: usize = LAST_BACKUP_AT + 1;
 
-pub const FETCHED_AT: usize = 5;
+pub const FETCHED_AT: usize = READY_AT + 1;
 
-pub const ORDER_AT: usize = 6;
+pub const ORDER_AT: usize = FETCHED_AT + 1;
 
-pub const TAKEN_AT: usize = 7;
+pub const TAKEN_AT: usize = ORDER_AT + 1;
 
-pub const AGREED_WORDS: usize = 8;
+pub const AGREED_WORDS: usize = TAKEN_AT + 1;
 
 // a proxy: the known view, items
 pub const KNOWN_AT: usize = 0;
 
-pub const ITEMS_AT: usize = 1;
+pub const ITEMS_AT: usize = KNOWN_AT + 1;
 
 pub const ITEMS_WORDS: usize = 1 + constants::MAX_ITEMS * ENTRY_WORDS;
 
@@ -58,17 +71,17 @@ pub const BAG_WORDS: usize = 1 + constants::MAX_RELAYS * RELAY_WORDS;
 // a place: id, flags, numbers, the append buffer, the copies, the log
 pub const ID_AT: usize = 0;
 
-pub const UP_AT: usize = 1;
+pub const UP_AT: usize = ID_AT + 1;
 
-pub const MEMBER_AT: usize = 2;
+pub const MEMBER_AT: usize = UP_AT + 1;
 
-pub const BEGAN_AT: usize = 3;
+pub const BEGAN_AT: usize = MEMBER_AT + 1;
 
-pub const NEXT_AT: usize = 4;
+pub const NEXT_AT: usize = BEGAN_AT + 1;
 
-pub const CEILING_AT: usize = 5;
+pub const CEILING_AT: usize = NEXT_AT + 1;
 
-pub const BUFFER_AT: usize = 6;
+pub const BUFFER_AT: usize = CEILING_AT + 1;
 
 pub const BUFFER_WORDS: usize = 1 + constants::MAX_WAITING * ENTRY_WORDS;
 

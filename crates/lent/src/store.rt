@@ -14,10 +14,10 @@ pub fn settings(store: &[u8]) -> Settings
     ensures { λ r. ⌜ StoreOf r (now (store .entry)) ⌝ }
 {
     Settings {
-        places: words::read(store, 0) as usize,
-        size: words::read(store, 1) as usize,
-        entries: words::read(store, 2) as usize,
-        chunks: words::read(store, 3) as usize,
+        places: words::read(store, sizes::PLACES_COUNT_AT) as usize,
+        size: words::read(store, sizes::BLOCK_SIZE_AT) as usize,
+        entries: words::read(store, sizes::MAX_ENTRIES_AT) as usize,
+        chunks: words::read(store, sizes::MAX_CHUNKS_AT) as usize,
     }
 }
 

@@ -187,4 +187,4 @@ pub join-changes : (ws : List ℕ) → SoundWords ws → (p : ℕ) (v : List ℕ
 unfolding join-effect
 join-changes ws sd p v id e i =
     rw (e, i) (sym (again-word ws sd (head-in (settings-of ws) through given-in) (seated (decode ws) p) (join-effect (decode ws) p) refl refl
-    (refl, ((refl, refl), refl))))
+    (refl, (((refl, refl), refl), refl))))

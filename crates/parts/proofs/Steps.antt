@@ -11,17 +11,19 @@ use lib.Seq.{paste, take-all, drop-length}
 use Rattle.lists.proofs.Tests.{flag-word}
 use Rattle.codec.specs.Codec.{enc-two}
 use Rattle.layout.specs.Disk.{Head, Agreed, Status}
-use Rattle.layout.specs.Layout.{head-codec, agreed-codec, status-codec}
+use Rattle.layout.specs.Layout.{layout-version, head-codec, agreed-codec, status-codec}
 
 -- every word is written
 put-all : (vs w : List ℕ) → length w ≡ length vs → paste w 0 vs (length vs) ≡ vs
 put-all vs w h = rw (take-all (length vs) vs (omega arith), zero-add (length vs), ← h, drop-length w) (append-nil vs)
 
-pub head-written : (a : Head) (w : List ℕ) → length w ≡ 7
-    → paste w 0 (a .settings .places ∷ a .settings .size ∷ a .settings .entries ∷ a .settings .chunks ∷ a .view ∷ a .given ∷ a .started ∷ []) 7
-    ≡ head-codec .enc a w
+abbrev head-list : Head → List ℕ
+head-list a =
+    layout-version ∷ a .settings .places ∷ a .settings .size ∷ a .settings .entries ∷ a .settings .chunks ∷ a .view ∷ a .given ∷ a .started ∷ []
+
+pub head-written : (a : Head) (w : List ℕ) → length w ≡ 8 → paste w 0 (head-list a) 8 ≡ head-codec .enc a w
 unfolding enc-two
-head-written a w h = put-all (a .settings .places ∷ a .settings .size ∷ a .settings .entries ∷ a .settings .chunks ∷ a .view ∷ a .given ∷ a .started ∷ []) w h
+head-written a w h = put-all (head-list a) w h
 
 abbrev agreed-list : Agreed → List ℕ
 agreed-list a =
@@ -39,19 +41,20 @@ status-written a w h =
     ∙ rw (flag-word (a .up), flag-word (a .member), flag-word (a .began)) refl
 
 pub head-read : (w : List ℕ) → record {
-  settings = record { places = getD w 0 0; size = getD w 1 0; entries = getD w 2 0; chunks = getD w 3 0 };
-  view = getD w 4 0;
-  given = getD w 5 0;
-  started = getD w 6 0;
+  settings = record { places = getD w 1 0; size = getD w 2 0; entries = getD w 3 0; chunks = getD w 4 0 };
+  view = getD w 5 0;
+  given = getD w 6 0;
+  started = getD w 7 0;
 } ≡ head-codec .dec w
 head-read [] = refl
-head-read (a ∷ []) = refl
-head-read (a ∷ b ∷ []) = refl
-head-read (a ∷ b ∷ c ∷ []) = refl
-head-read (a ∷ b ∷ c ∷ d ∷ []) = refl
-head-read (a ∷ b ∷ c ∷ d ∷ e ∷ []) = refl
-head-read (a ∷ b ∷ c ∷ d ∷ e ∷ f ∷ []) = refl
-head-read (a ∷ b ∷ c ∷ d ∷ e ∷ f ∷ g ∷ w) = refl
+head-read (v ∷ []) = refl
+head-read (v ∷ a ∷ []) = refl
+head-read (v ∷ a ∷ b ∷ []) = refl
+head-read (v ∷ a ∷ b ∷ c ∷ []) = refl
+head-read (v ∷ a ∷ b ∷ c ∷ d ∷ []) = refl
+head-read (v ∷ a ∷ b ∷ c ∷ d ∷ e ∷ []) = refl
+head-read (v ∷ a ∷ b ∷ c ∷ d ∷ e ∷ f ∷ []) = refl
+head-read (v ∷ a ∷ b ∷ c ∷ d ∷ e ∷ f ∷ g ∷ w) = refl
 
 pub agreed-read : (w : List ℕ) → record {
   primary = getD w 0 0;

@@ -1,4 +1,4 @@
-// The header: the settings, the view, the highest id given, the number of bricks that the view began with.
+// The header: the version of the layout, the settings, the view, the highest id given, the number of bricks that the view began with.
 ghost use mathlib.Core.Path.{_≡_};
 ghost use Prim.Native.Nat.{_*_};
 ghost use lib.ListN.{length};
@@ -20,12 +20,11 @@ pub fn read(part: &[u8]) -> Head
     requires { ⌜ length (now part) ≡ 8 * head-words ⌝ }
     ensures { λ r. ⌜ head-of r ≡ head-codec .dec (words (now (part .entry))) ⌝ }
 {
-    // the settings stand first, in the order of their fields
     let settings = Settings {
-        places: words::read(part, 0) as usize,
-        size: words::read(part, 1) as usize,
-        entries: words::read(part, 2) as usize,
-        chunks: words::read(part, 3) as usize,
+        places: words::read(part, sizes::PLACES_COUNT_AT) as usize,
+        size: words::read(part, sizes::BLOCK_SIZE_AT) as usize,
+        entries: words::read(part, sizes::MAX_ENTRIES_AT) as usize,
+        chunks: words::read(part, sizes::MAX_CHUNKS_AT) as usize,
     };
     Head {
         settings,
@@ -40,6 +39,7 @@ pub fn write(part: &mut [u8], head: Head)
     ensures { λ _. ⌜ words (now (part .exit)) ≡ head-codec .enc (head-of head) (words (now (part .entry))) ⌝ }
 {
     let list = [
+        sizes::VERSION,
         head.settings.places as u64,
         head.settings.size as u64,
         head.settings.entries as u64,

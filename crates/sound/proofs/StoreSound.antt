@@ -14,7 +14,7 @@ use Rattle.rules.specs.Sound.{sound-key, sound-brick, sound-place, sound-bucket
 use Rattle.rules.proofs.Limits.{Limits, limits}
 use Rattle.codec.specs.Codec.{word-limit}
 use Rattle.layout.specs.Places.{Apart}
-use Rattle.layout.specs.Layout.{settings-of, store-words, place-part, given-at}
+use Rattle.layout.specs.Layout.{layout-version, settings-of, store-words, place-part, version-at, given-at}
 use Rattle.layout.specs.Store.{decode, sound-words}
 use Rattle.layout.proofs.Clean.{PlaceClean}
 use Rattle.layout.proofs.Decoded.{settings-read}
@@ -27,7 +27,8 @@ use Rattle.sound.specs.Store.{contents-sound, parts-sound}
 use Rattle.sound.proofs.PartSound.{header-same, record-there, record-back, proxy-same, bag-same}
 use Rattle.sound.proofs.PlaceSound.{places-apart, place-there, place-back}
 
-module _ (ws : List ℕ) (h : length ws ≡ store-words (settings-of ws)) (y : in-limits (settings-of ws) ≡ true) (b : Below word-limit ws) where
+module _ (ws : List ℕ) (h : length ws ≡ store-words (settings-of ws)) (v : getD ws version-at 0 ≡ layout-version) (y : in-limits (settings-of ws) ≡ true)
+    (b : Below word-limit ws) where
   abbrev c : Settings
   c = settings-of ws
 
@@ -73,7 +74,7 @@ module _ (ws : List ℕ) (h : length ws ≡ store-words (settings-of ws)) (y : i
       λ p l. place-there ws h p l lim b apart (all-at _ _ places p l) in
       checked-sound ws (record {
         size = h;
-        parts = record { agreed = λ g l. record-there ws h g l (records g l) .0; place = λ p l. each p l .1 };
+        parts = record { version = v; agreed = λ g l. record-there ws h g l (records g l) .0; place = λ p l. each p l .1 };
         state = both _ _ (both _ _ (both _ _ (both _ _ (both _ _
             (sym (own in-limits) ∙ y)
             (sym (header-same ws h) ∙ and-l _ _ (and-l _ _ t)))

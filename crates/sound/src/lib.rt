@@ -77,10 +77,13 @@ pub fn is_sound(store: &[u8]) -> bool
     if store.len() < 8 * sizes::HEAD_WORDS {
         return false;
     }
-    let places = words::read(store, 0) as usize;
-    let size = words::read(store, 1) as usize;
-    let entries = words::read(store, 2) as usize;
-    let chunks = words::read(store, 3) as usize;
+    if words::read(store, sizes::VERSION_AT) != sizes::VERSION {
+        return false;
+    }
+    let places = words::read(store, sizes::PLACES_COUNT_AT) as usize;
+    let size = words::read(store, sizes::BLOCK_SIZE_AT) as usize;
+    let entries = words::read(store, sizes::MAX_ENTRIES_AT) as usize;
+    let chunks = words::read(store, sizes::MAX_CHUNKS_AT) as usize;
     let Checked::Good(settings) = Settings::new(places, size, entries, chunks) else {
         return false;
     };

@@ -67,8 +67,8 @@ module _ (c : Settings) (bs : List ℕ) (v : StoreOf c bs) (started : ℕ) where
       let first : State = heading s (suc (s .view)) (s .started) in
       e2 ∙ ap (λ (w : List ℕ). set w started-at started)
       (e1 ∙ ap (λ (n : ℕ). set (words bs) view-at n) (add-one view ∙ ap suc ev)
-      ∙ sym (change-word (words bs) sd (head-in own through view-in) first refl (refl, (refl, refl))))
-      ∙ sym (again-word (words bs) sd (head-in own through started-in) first head-written refl refl (refl, ((refl, refl), refl)))
+      ∙ sym (change-word (words bs) sd (head-in own through view-in) first refl (refl, ((refl, refl), refl))))
+      ∙ sym (again-word (words bs) sd (head-in own through started-in) first head-written refl refl (refl, (((refl, refl), refl), refl)))
 
   -- the header and the buckets' records
   abbrev pub records-written : Slots → State

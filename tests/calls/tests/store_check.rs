@@ -28,6 +28,31 @@ fn every_byte_of_a_formatted_store_damaged() {
     assert!(refused > 1000);
 }
 
+/// The words of an older layout, which had no version: those after the first, at their old length and at the present one.
+fn without_version(store: &[u8]) -> [Vec<u8>; 2] {
+    let words = &store[8..];
+    [words.to_vec(), [words, &[0; 8]].concat()]
+}
+
+#[test]
+fn other_versions() {
+    let mut r = Random::new(14);
+    for _ in 0..100 {
+        let s = small_settings(&mut r);
+        let store = sound_store(&mut r, s, 50);
+        assert_eq!(&store[..8], b"DISK0001");
+        let others = (0..64).map(|bit| model::VERSION ^ 1 << bit).chain([0, 1, s.places, model::VERSION.swap_bytes(), u64::MAX, r.next()]);
+        for version in others {
+            let mut other = store.clone();
+            model::put(&mut other, 0, version);
+            assert_eq!(same_answer(&other), 2, "version {version:#x}");
+        }
+        for old in without_version(&store) {
+            assert_eq!(same_answer(&old), 2);
+        }
+    }
+}
+
 #[test]
 fn random_sound_stores() {
     let mut r = Random::new(11);

@@ -22,7 +22,7 @@ pub struct Sum {
 fn size(start: &Start) -> usize {
     match start {
         Start::Format(settings, _) => settings.size as usize,
-        Start::Edited(bytes) => call_tests::store::model::get(bytes, 1) as usize,
+        Start::Edited(bytes) => call_tests::store::model::Settings::of(bytes).size as usize,
     }
 }
 

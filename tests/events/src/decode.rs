@@ -108,6 +108,9 @@ impl<'a> Reader<'a> {
 }
 
 fn settings(reader: &mut Reader) -> Option<Settings> {
+    if reader.bytes(8)? != layout::VERSION {
+        return None;
+    }
     let s = Settings::new(reader.word()?, reader.word()?, reader.word()?, reader.word()?);
     s.in_limits().then_some(s)
 }

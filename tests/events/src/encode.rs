@@ -80,6 +80,7 @@ impl Writer<'_> {
 pub fn encode(state: &State, store: &mut [u8]) {
     let s = state.settings;
     let mut writer = Writer { store, at: 0 };
+    writer.bytes(layout::VERSION);
     writer.words(&[s.places, s.size, s.entries, s.chunks, state.view.0, state.given, state.started]);
     state.buckets.iter().for_each(|b| writer.bucket(b));
     state.proxies.iter().for_each(|p| writer.proxy(p));

@@ -1,7 +1,11 @@
 //! How many words each part of docs/LAYOUT.md has.
 use crate::model::{Settings, BUCKETS, MOST_ITEMS, MOST_RELAYS, MOST_WAITING, PROXIES};
 
-pub const HEADER: usize = 7;
+/// The bytes that every store begins with.
+pub const VERSION: &[u8; 8] = b"DISK0001";
+
+/// The version, N, S, M, L, the view, the highest id given, the number that the view began with.
+pub const HEADER: usize = 1 + 4 + 3;
 pub const BUCKET: usize = 8;
 pub const PROXY: usize = 2 + 2 * MOST_ITEMS;
 pub const RELAY: usize = 5;

@@ -116,7 +116,7 @@ fn the_highest_key() {
     let place = model::AT_PLACES + 2 * s.place();
     model::put(&mut store, place + 5, model::SEQUENCES);
     for (given, id, next, code) in [(254, 3, 0, 2), (255, 3, 0, 0), (255, 255, model::SEQUENCES - 1, 2), (255, 255, model::SEQUENCES, 0)] {
-        for (at, word) in [(5, given), (place, id), (place + 4, next)] {
+        for (at, word) in [(model::AT_GIVEN, given), (place, id), (place + 4, next)] {
             model::put(&mut store, at, word);
         }
         assert_eq!([peer::check(&store), call_tests::store::check(&store)], [code; 2]);

@@ -10,7 +10,14 @@ pub const MAX_NUMBER: u64 = u32::MAX as u64;
 pub const BLOCKS: u64 = 1 << 51;
 pub const SEQUENCES: u64 = 1 << 56;
 
-pub const HEADER: usize = 7;
+/// The word that every store begins with.
+pub const VERSION: u64 = u64::from_le_bytes(*b"DISK0001");
+
+pub const AT_SETTINGS: usize = 1;
+pub const AT_VIEW: usize = AT_SETTINGS + 4;
+pub const AT_GIVEN: usize = AT_VIEW + 1;
+pub const AT_STARTED: usize = AT_GIVEN + 1;
+pub const HEADER: usize = AT_STARTED + 1;
 pub const BUCKET: usize = 8;
 pub const PROXY: usize = 2 + 2 * MAX_ITEMS;
 pub const RELAY: usize = 5;
@@ -31,6 +38,12 @@ pub struct Settings {
 
 impl Settings {
     pub fn new(places: u64, size: u64, entries: u64, chunks: u64) -> Self {
+        Settings { places, size, entries, chunks }
+    }
+
+    /// As a store has them, in limits or not.
+    pub fn of(store: &[u8]) -> Self {
+        let [places, size, entries, chunks] = std::array::from_fn(|i| get(store, AT_SETTINGS + i));
         Settings { places, size, entries, chunks }
     }
 
@@ -129,7 +142,7 @@ pub fn format(store: &mut [u8], s: Settings) -> u64 {
     if !s.in_limits() || store.len() != s.bytes() {
         return 1;
     }
-    let header = [s.places, s.size, s.entries, s.chunks, 1, s.places, s.places];
+    let header = [VERSION, s.places, s.size, s.entries, s.chunks, 1, s.places, s.places];
     header.iter().enumerate().for_each(|(i, &v)| put(store, i, v));
     let members: Vec<u64> = (1..=s.places).collect();
     for (g, p) in pairs(&members, &[[0, 0]; BUCKETS]).iter().enumerate() {
@@ -271,14 +284,14 @@ pub fn check(store: &[u8]) -> u64 {
 }
 
 fn is_sound(store: &[u8]) -> bool {
-    if store.len() < 8 * AT_PLACES {
+    if store.len() < 8 * AT_PLACES || get(store, 0) != VERSION {
         return false;
     }
-    let s = Settings::new(get(store, 0), get(store, 1), get(store, 2), get(store, 3));
+    let s = Settings::of(store);
     if !s.in_limits() || store.len() != s.bytes() {
         return false;
     }
-    let (view, given, started) = (get(store, 4), get(store, 5), get(store, 6));
+    let (view, given, started) = (get(store, AT_VIEW), get(store, AT_GIVEN), get(store, AT_STARTED));
     if view < 1 || view > MAX_NUMBER || given > MAX_ID || started > s.places {
         return false;
     }
@@ -334,8 +347,8 @@ pub fn alike(store: &[u8], other: &[u8]) -> u64 {
     if !is_sound(store) || !is_sound(other) {
         return 2;
     }
-    let s = Settings::new(get(store, 0), get(store, 1), get(store, 2), get(store, 3));
-    let same = (0..=4).all(|i| get(store, i) == get(other, i))
+    let s = Settings::of(store);
+    let same = (AT_SETTINGS..=AT_VIEW).all(|i| get(store, i) == get(other, i))
         && members(store, s) == members(other, s)
         && (0..BUCKETS).all(|g| primary_memory(store, s, g) == primary_memory(other, s, g));
     !same as u64

@@ -103,12 +103,12 @@ pub fn sound_store(r: &mut Random, s: Settings, percent: u64) -> Vec<u8> {
     let store = r.bytes(s.bytes());
     let given = r.among(s.places, MAX_ID);
     let mut m = Maker { r, store, s, given, next: [None; 256] };
-    let header = [s.places, s.size, s.entries, s.chunks];
+    let header = [VERSION, s.places, s.size, s.entries, s.chunks];
     header.iter().enumerate().for_each(|(i, &v)| put(&mut m.store, i, v));
     let (view, started) = (m.r.among(1, MAX_NUMBER), m.r.among(0, s.places));
-    m.put(4, view);
-    m.put(5, given);
-    m.put(6, started);
+    m.put(AT_VIEW, view);
+    m.put(AT_GIVEN, given);
+    m.put(AT_STARTED, started);
     for p in 0..s.places as usize {
         let at = AT_PLACES + p * s.place();
         let id = m.r.among(1, given);

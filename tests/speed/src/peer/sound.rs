@@ -2,8 +2,8 @@
 use super::store::{bucket_at, proxy_at, Shape, AT_GIVEN, AT_STARTED, AT_VIEW, BEGAN, CEILING, MEMBER, MOST_PLACES, NEXT, UP};
 use super::words::{get, read, rows, same, Row, Word};
 use call_tests::store::model::{
-    bucket_of, Settings, AT_BAG, AT_BUFFER, AT_COPIES, AT_PLACES, BLOCKS, BUCKET, BUCKETS, MAX_ID, MAX_ITEMS, MAX_NUMBER, MAX_RELAYS, MAX_WAITING, PROXIES,
-    RELAY, SEQUENCES,
+    bucket_of, Settings, AT_BAG, AT_BUFFER, AT_COPIES, AT_PLACES, AT_SETTINGS, BLOCKS, BUCKET, BUCKETS, MAX_ID, MAX_ITEMS, MAX_NUMBER, MAX_RELAYS,
+    MAX_WAITING, PROXIES, RELAY, SEQUENCES, VERSION,
 };
 
 type Ids = [u64; MOST_PLACES];
@@ -46,10 +46,11 @@ pub fn check(words: &[Word]) -> Option<(Shape, Ids)> {
 }
 
 fn shape_of(words: &[Word]) -> Option<Shape> {
-    if words.len() < AT_PLACES {
+    if words.len() < AT_PLACES || get(words, 0) != VERSION {
         return None;
     }
-    let s = Settings::new(get(words, 0), get(words, 1), get(words, 2), get(words, 3));
+    let [places, size, entries, chunks] = std::array::from_fn(|i| get(words, AT_SETTINGS + i));
+    let s = Settings::new(places, size, entries, chunks);
     (s.in_limits() && words.len() == s.words()).then(|| Shape::new(&s))
 }
 

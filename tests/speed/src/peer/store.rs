@@ -2,12 +2,9 @@
 use super::sound::check;
 use super::words::{get, set, Word};
 use call_tests::store::model::{Settings, AT_BUCKETS, AT_BUFFER, AT_COPIES, AT_PLACES, AT_PROXIES, BUCKET, PROXY};
+pub use call_tests::store::model::{AT_GIVEN, AT_STARTED, AT_VIEW};
 
 pub const MOST_PLACES: usize = 8;
-
-pub const AT_VIEW: usize = 4;
-pub const AT_GIVEN: usize = 5;
-pub const AT_STARTED: usize = 6;
 
 // Words of a bucket's record.
 pub const PRIMARY: usize = 0;

@@ -44,20 +44,20 @@ abbrev proxies : tie.After-renew-all → ℕ
 proxies c = let at : tie.After-proxies-at = search in at .proxies-at .result
 
 abbrev after : tie.After-renew-all → List ℕ
-after c = let v = headed-at c .write2 .last .0 in take 56 v ++ (c .renew-all .last .0 ++ drop (8 * proxies c - 56) (drop 56 v))
+after c = let v = headed-at c .write2 .last .0 in take 64 v ++ (c .renew-all .last .0 ++ drop (8 * proxies c - 64) (drop 64 v))
 
-long : (c : tie.After-renew-all) → length (c .renew-all .last .0) ≡ 8 * proxies c - 56
+long : (c : tie.After-renew-all) → length (c .renew-all .last .0) ≡ 8 * proxies c - 64
 long c =
     let at-proxies-at : tie.After-proxies-at = search in
     let at = headed-at c in
     c .renew-all .kept .0
-    ∙ run-length 56 (8 * proxies c - 56) (at .write2 .last .0) (omega (arith, at-proxies-at .proxies-at .ensures, head-length at, start at .pre .0 .size))
+    ∙ run-length 64 (8 * proxies c - 64) (at .write2 .last .0) (omega (arith, at-proxies-at .proxies-at .ensures, head-length at, start at .pre .0 .size))
 
 records-length : (c : tie.After-renew-all) → length (after c) ≡ length (start (headed-at c) .args .store .now)
 records-length c =
     let at-proxies-at : tie.After-proxies-at = search in
     let at = headed-at c in
-    lent-length (at .write2 .last .0) (c .renew-all .last .0) 56 (8 * proxies c - 56)
+    lent-length (at .write2 .last .0) (c .renew-all .last .0) 64 (8 * proxies c - 64)
     (omega (arith, at-proxies-at .proxies-at .ensures, head-length at, start at .pre .0 .size)) (long c)
     ∙ head-length at
 
@@ -72,7 +72,7 @@ records c =
     let n = b .args .started in
     let slots = b .args .pairs .now in
     let p = at-proxies-at .proxies-at in
-    later-effect t bs v (all-agreed-in t) (refl, refl) (head-written t bs v n) refl refl (at .write2 .last .0) (head at) (head-length at) 56 (8 * p .result)
+    later-effect t bs v (all-agreed-in t) (refl, refl) (head-written t bs v n) refl refl (at .write2 .last .0) (head at) (head-length at) 64 (8 * p .result)
     (omega arith) (omega (arith, p .ensures)) (records-written t bs v n slots) refl (refl, refl) (c .renew-all .last .0) (omega (arith, long c, p .ensures))
     (λ old g. renewed (slot slots (2 * g)) (slot slots (2 * g + 1)) (old g)) refl (c .renew-all .ensures)
 
@@ -115,7 +115,7 @@ renew-all-requires : tie.Need-renew-all-requires
 renew-all-requires c κs =
     let after-proxies-at : tie.After-proxies-at = search in let after-write2 : tie.After-write2 = search in let b : tie.Start = search in
     let p = after-proxies-at .proxies-at in (
-      run-length 56 (8 * p .result - 56) (after-write2 .write2 .last .0) (omega arith) ∙ omega arith,
+      run-length 64 (8 * p .result - 64) (after-write2 .write2 .last .0) (omega arith) ∙ omega arith,
       ap length (b .pre .2) ∙ view-pairs-long (decode (words (b .args .store .now))) (b .args .settings)
           (settings-are (b .args .settings) (b .args .store .now) (b .pre .0)) (buckets (b .args .settings)) refl,
     )
