@@ -13,10 +13,11 @@ use Rattle.reads.proofs.asks.Tie as tie
 
 -- what is looked for is the mapped key
 found : (c : tie.After-is-found) {x : Bool} → c .is-found .result ≡ x
-    → let b = c .before .before .before .before .before in
+    → let b : tie.Start = search in
     let s = decode (words (b .args .store .now)) in is-found s (mapped s (b .args .block)) ≡ x
 found c q =
-    let s = decode (words (c .before .before .before .before .before .args .store .now)) in
+    let start : tie.Start = search in
+    let s = decode (words (start .args .store .now)) in
     ap (is-found s) (sym (c .before .mapped .ensures)) ∙ sym (c .is-found .ensures) ∙ q
 
 served-asks-requires : tie.Need-served-asks-requires
@@ -24,7 +25,7 @@ served-asks-requires c κs = search needs
 
 returns : tie.Need-returns
 returns c =
-    let b = c .before .before .before in
+    let b : tie.Start = search in
     stops-there (served-asks (decode (words (b .args .store .now))) (b .args .proxy) (b .args .block)) _ (c .before .served-asks .ensures) (c .if1 .taken)
 
 mapped-requires : tie.Need-mapped-requires
@@ -36,16 +37,14 @@ is-found-requires c κs = search needs
 returns-2 : tie.Need-returns-2
 unfolding _and_
 returns-2 c =
-    let asked = c .before .before .before in
-    let b = asked .before .before .before in
+    let asked : tie.Else1 = search in let b : tie.Start = search in
     goes-on (served-asks (decode (words (b .args .store .now))) (b .args .proxy) (b .args .block)) _ refl (asked .before .served-asks .ensures) (asked .if1 .left)
     (sym (first-yes 11 _ (found (c .before) (c .if2 .taken)) ∙ none-asked))
 
 returns-3 : tie.Need-returns-3
 unfolding _and_
 returns-3 c =
-    let asked = c .before .before .before in
-    let b = asked .before .before .before in
+    let asked : tie.Else1 = search in let b : tie.Start = search in
     goes-on (served-asks (decode (words (b .args .store .now))) (b .args .proxy) (b .args .block)) _ refl (asked .before .served-asks .ensures) (asked .if1 .left)
     (sym (first-stop 11 _ (found (c .before) (c .if2 .left))))
 

@@ -16,30 +16,29 @@ use Rattle.reads.proofs.fill_block.Tie as tie
 
 -- what is looked for is the mapped key
 found : (c : tie.After-fill-key) {x : Bool} → c .fill-key .result ≡ x
-    → let b = c .before .before .before .before .before .before .before .before in
+    → let b : tie.Start = search in
     let s = decode (words (b .args .store .now)) in is-found s (mapped s (b .args .block)) ≡ x
 found c q =
-    let s = decode (words (c .before .before .before .before .before .before .before .before .args .store .now)) in
-    ap (is-found s) (sym (c .before .before .mapped .ensures)) ∙ sym (c .fill-key .ensures .0) ∙ q
+    let start : tie.Start = search in let after-mapped : tie.After-mapped = search in
+    let s = decode (words (start .args .store .now)) in
+    ap (is-found s) (sym (after-mapped .mapped .ensures)) ∙ sym (c .fill-key .ensures .0) ∙ q
 
 all-asked : (c : tie.After-fill-key) → c .fill-key .result ≡ true
-    → let b = c .before .before .before .before .before .before .before .before in 0 ≡ first-no (get-asks (decode (words (b .args .store .now))) (b .args .proxy)
+    → let b : tie.Start = search in 0 ≡ first-no (get-asks (decode (words (b .args .store .now))) (b .args .proxy)
     (b .args .block))
 unfolding _and_
 all-asked c y =
-    let asked = c .before .before .before in
-    let b = c .before .before .before .before .before .before .before .before in
+    let asked : tie.Else1 = search in let b : tie.Start = search in
     goes-on (served-asks (decode (words (b .args .store .now))) (b .args .proxy) (b .args .block)) _ refl (asked .before .served-asks .ensures)
     (asked .if1 .left)
     (sym (first-yes 11 _ (found c y) ∙ none-asked))
 
 not-found : (c : tie.After-fill-key) → c .fill-key .result ≡ false
-    → let b = c .before .before .before .before .before .before .before .before in 11 ≡ first-no (get-asks (decode (words (b .args .store .now))) (b .args .proxy)
+    → let b : tie.Start = search in 11 ≡ first-no (get-asks (decode (words (b .args .store .now))) (b .args .proxy)
     (b .args .block))
 unfolding _and_
 not-found c n =
-    let asked = c .before .before .before in
-    let b = c .before .before .before .before .before .before .before .before in
+    let asked : tie.Else1 = search in let b : tie.Start = search in
     goes-on (served-asks (decode (words (b .args .store .now))) (b .args .proxy) (b .args .block)) _ refl (asked .before .served-asks .ensures)
     (asked .if1 .left)
     (sym (first-stop 11 _ (found c n)))
@@ -52,7 +51,7 @@ served-asks-requires c κs = search needs
 
 returns : tie.Need-returns
 returns c =
-    let b = c .before .before .before .before .before in
+    let b : tie.Start = search in
     let s = decode (words (b .args .store .now)) in
     let no = stops-there (served-asks s (b .args .proxy) (b .args .block)) _ (c .before .served-asks .ensures) (c .if1 .taken) in
     fills-refused s (b .args .proxy) (b .args .block) _ (refused s (b .args .proxy) (b .args .block) _ no (c .if1 .taken)) (c .if1 .taken) (b .args .area .now)
@@ -68,13 +67,12 @@ same-length c = search needs
 
 returns-2 : tie.Need-returns-2
 returns-2 c =
-    let at-mapped = c .before .before .before .before .before in
-    let b = at-mapped .before .before .before .before .before .before in
+    let after-fill-key : tie.After-fill-key = search in let at-mapped : tie.After-mapped = search in let b : tie.Start = search in
     let s = decode (words (b .args .store .now)) in
-    let r = c .before .before .before .fill-key in
+    let r = after-fill-key .fill-key in
     let key = at-mapped .mapped in
     fills-accepted s (b .args .proxy) (b .args .block)
-    (accepted s (b .args .proxy) (b .args .block) 0 (all-asked (c .before .before .before) (c .if2 .taken)) refl _ (key .ensures) _ refl) refl
+    (accepted s (b .args .proxy) (b .args .block) 0 (all-asked after-fill-key (c .if2 .taken)) refl _ (key .ensures) _ refl) refl
     (b .args .area .now) _
     (r .ensures .1 ∙ ap (λ (x : Bool). cond x (key-bytes s (key .result .0)) (b .args .area .now)) (c .if2 .taken))
 
@@ -83,12 +81,11 @@ same-length-2 c = search needs
 
 returns-3 : tie.Need-returns-3
 returns-3 c =
-    let at-mapped = c .before .before .before .before .before in
-    let b = at-mapped .before .before .before .before .before .before in
+    let after-fill-key : tie.After-fill-key = search in let at-mapped : tie.After-mapped = search in let b : tie.Start = search in
     let s = decode (words (b .args .store .now)) in
-    let r = c .before .before .before .fill-key in
+    let r = after-fill-key .fill-key in
     rw (r .ensures .1 ∙ ap (λ (x : Bool). cond x (key-bytes s (at-mapped .mapped .result .0)) (b .args .area .now)) (c .if2 .left))
-    (fills-refused s (b .args .proxy) (b .args .block) 11 (refused s (b .args .proxy) (b .args .block) 11 (not-found (c .before .before .before) (c .if2 .left))
+    (fills-refused s (b .args .proxy) (b .args .block) 11 (refused s (b .args .proxy) (b .args .block) 11 (not-found after-fill-key (c .if2 .left))
     (λ e. omega arith)) (λ e. omega arith) (b .args .area .now))
 
 pub fill-block-spec : {M : Type 1} → statement M

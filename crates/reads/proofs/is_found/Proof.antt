@@ -22,19 +22,19 @@ enum-told-2 c = search needs
 
 returns-2 : tie.Need-returns-2
 returns-2 c =
-    let s = c .before .before .before .before .before .before in
+    let after-holder : tie.After-holder = search in let s : tie.Start = search in
     let state = decode (words (s .args .store .now)) in
     let at = c .enum-told .given in
     let h : LiesAt (s .args .settings) state (holder state (s .args .key .0)) (s .args .key .0) (at .0 .0) (at .0 .1 .0) =
-    rw (at .1) at (c .before .before .holder .ensures) in
+    rw (at .1) at (after-holder .holder .ensures) in
     sym (found-held _ _ (h .stands .some))
 
 returns-3 : tie.Need-returns-3
 returns-3 c =
-    let s = c .before .before .before .before .before .before in
+    let after-holder : tie.After-holder = search in let else1 : tie.Else1 = search in let s : tie.Start = search in
     let state = decode (words (s .args .store .now)) in
-    let h : holder state (s .args .key .0) ≡ 0 = rw (c .enum-told2 .given .1) at (c .before .before .holder .ensures) in
-    sym (found-none _ _ (c .before .before .before .if1 .left) h)
+    let h : holder state (s .args .key .0) ≡ 0 = rw (c .enum-told2 .given .1) at (after-holder .holder .ensures) in
+    sym (found-none _ _ (else1 .if1 .left) h)
 
 pub is-found-spec : {M : Type 1} → statement M
 is-found-spec =

@@ -11,7 +11,7 @@ use Rattle.reads.proofs.key_bytes.Tie as tie
 
 returns : tie.Need-returns
 returns c =
-    let s = c .before .before .before .before in
+    let s : tie.Start = search in
     s .pre .1 ∙ zero-bytes _ (s .args .store .now) (s .pre .0) (s .args .key .0) (c .if1 .taken)
 
 holder-requires : tie.Need-holder-requires
@@ -22,22 +22,23 @@ enum-known-place c = search needs
 
 -- where the chunk lies
 lies : (c : tie.After-place)
-    → let s = c .before .before .before .before .before .before .before in
+    → let s : tie.Start = search in
     let state = decode (words (s .args .store .now)) in
     LiesAt (s .args .settings) state (holder state (s .args .key .0)) (s .args .key .0) (c .place .given .0 .0) (c .place .given .0 .1 .0)
-lies c = rw (c .place .given .1) at (c .before .before .holder .ensures)
+lies c =
+    let after-holder : tie.After-holder = search in
+    rw (c .place .given .1) at (after-holder .holder .ensures)
 
 chunk-requires : tie.Need-chunk-requires
 chunk-requires c κs =
     let at = lies (c .before) in
-    let s = c .before .before .before .before .before .before .before .before in
+    let s : tie.Start = search in
     (s .pre .0, at .stands .inside, omega (arith, at .stands .some, at .stands .here), rw (at .stands .here) (at .found .in-use))
 
 returns-2 : tie.Need-returns-2
 returns-2 c =
-    let p = c .before .before in
-    let s = p .before .before .before .before .before .before .before in
-    c .chunk .ensures ∙ lying-bytes _ (s .args .store .now) (s .pre .0) (s .args .key .0) (p .before .before .before .if1 .left) _ _ (lies p)
+    let else1 : tie.Else1 = search in let p : tie.After-place = search in let s : tie.Start = search in
+    c .chunk .ensures ∙ lying-bytes _ (s .args .store .now) (s .pre .0) (s .args .key .0) (else1 .if1 .left) _ _ (lies p)
 
 enum-told : tie.Need-enum-told
 enum-told c = search needs
@@ -53,10 +54,10 @@ part-result-end c = search needs
 
 returns-3 : tie.Need-returns-3
 returns-3 c =
-    let s = c .before .before .before .before .before .before .before .before in
+    let after-holder : tie.After-holder = search in let else1 : tie.Else1 = search in let s : tie.Start = search in
     let state = decode (words (s .args .store .now)) in
-    let none : holder state (s .args .key .0) ≡ 0 = rw (c .before .enum-told .given .1) at (c .before .before .before .holder .ensures) in
-    no-bytes _ (s .args .store .now) (s .pre .0) (s .args .key .0) (c .before .before .before .before .if1 .left) none
+    let none : holder state (s .args .key .0) ≡ 0 = rw (c .before .enum-told .given .1) at (after-holder .holder .ensures) in
+    no-bytes _ (s .args .store .now) (s .pre .0) (s .args .key .0) (else1 .if1 .left) none
 
 pub key-bytes-spec : {M : Type 1} → statement M
 key-bytes-spec =
