@@ -25,8 +25,8 @@ same-length c = search needs
 returns : tie.Need-returns
 unfolding kinds-open
 returns c =
-    let s = c .before .before .before .before .before .before in
-    at-kind {k = 14} (λ k. event-from k (s .args .place) 0 0 []) (c .before .before .before .before .match .keys1) (c .before .before .crash .ensures)
+    let after-crash : tie.After-crash = search in let s : tie.Start = search in
+    at-kind {k = 14} (λ k. event-from k (s .args .place) 0 0 []) (c .before .before .before .before .match .keys1) (after-crash .crash .ensures)
 
 same-length-2 : tie.Need-same-length-2
 same-length-2 c = search needs
@@ -34,8 +34,8 @@ same-length-2 c = search needs
 returns-2 : tie.Need-returns-2
 unfolding kinds-open
 returns-2 c =
-    let s = c .before .before .before .before .before .before in
-    at-kind {k = 15} (λ k. event-from k (s .args .place) 0 0 []) (c .before .before .before .before .match .keys2) (c .before .before .lose .ensures)
+    let after-lose : tie.After-lose = search in let s : tie.Start = search in
+    at-kind {k = 15} (λ k. event-from k (s .args .place) 0 0 []) (c .before .before .before .before .match .keys2) (after-lose .lose .ensures)
 
 same-length-3 : tie.Need-same-length-3
 same-length-3 c = search needs
@@ -43,8 +43,8 @@ same-length-3 c = search needs
 returns-3 : tie.Need-returns-3
 unfolding kinds-open
 returns-3 c =
-    let s = c .before .before .before .before .before .before in
-    at-kind {k = 16} (λ k. event-from k (s .args .place) 0 0 []) (c .before .before .before .before .match .keys3) (c .before .before .rise .ensures)
+    let after-rise : tie.After-rise = search in let s : tie.Start = search in
+    at-kind {k = 16} (λ k. event-from k (s .args .place) 0 0 []) (c .before .before .before .before .match .keys3) (after-rise .rise .ensures)
 
 same-length-4 : tie.Need-same-length-4
 same-length-4 c = search needs
@@ -52,8 +52,8 @@ same-length-4 c = search needs
 returns-4 : tie.Need-returns-4
 unfolding kinds-open
 returns-4 c =
-    let s = c .before .before .before .before .before .before in
-    at-kind {k = 17} {kind = s .args .kind} (λ k. event-from k (s .args .place) 0 0 []) (omega arith) (c .before .before .join .ensures)
+    let after-join : tie.After-join = search in let s : tie.Start = search in
+    at-kind {k = 17} {kind = s .args .kind} (λ k. event-from k (s .args .place) 0 0 []) (omega arith) (after-join .join .ensures)
 
 pub change-brick-spec : {M : Type 1} → statement M
 change-brick-spec =

@@ -22,8 +22,8 @@ same-length c = search needs
 returns : tie.Need-returns
 unfolding kinds-open
 returns c =
-    let s = c .before .before .before .before .before .before in
-    at-kind {k = 18} (λ k. event-from k (s .args .bucket) 0 0 []) (c .before .before .before .before .match .keys1) (c .before .before .view .ensures)
+    let after-view : tie.After-view = search in let s : tie.Start = search in
+    at-kind {k = 18} (λ k. event-from k (s .args .bucket) 0 0 []) (c .before .before .before .before .match .keys1) (after-view .view .ensures)
 
 same-length-2 : tie.Need-same-length-2
 same-length-2 c = search needs
@@ -31,8 +31,8 @@ same-length-2 c = search needs
 returns-2 : tie.Need-returns-2
 unfolding kinds-open
 returns-2 c =
-    let s = c .before .before .before .before .before .before in
-    at-kind {k = 19} (λ k. event-from k (s .args .bucket) 0 0 []) (c .before .before .before .before .match .keys2) (c .before .before .fetch .ensures)
+    let after-fetch : tie.After-fetch = search in let s : tie.Start = search in
+    at-kind {k = 19} (λ k. event-from k (s .args .bucket) 0 0 []) (c .before .before .before .before .match .keys2) (after-fetch .fetch .ensures)
 
 same-length-3 : tie.Need-same-length-3
 same-length-3 c = search needs
@@ -40,8 +40,8 @@ same-length-3 c = search needs
 returns-3 : tie.Need-returns-3
 unfolding kinds-open
 returns-3 c =
-    let s = c .before .before .before .before .before .before in
-    at-kind {k = 20} {kind = s .args .kind} (λ k. event-from k (s .args .bucket) 0 0 []) (omega arith) (c .before .before .ready .ensures)
+    let after-ready : tie.After-ready = search in let s : tie.Start = search in
+    at-kind {k = 20} {kind = s .args .kind} (λ k. event-from k (s .args .bucket) 0 0 []) (omega arith) (after-ready .ready .ensures)
 
 pub change-view-spec : {M : Type 1} → statement M
 change-view-spec =

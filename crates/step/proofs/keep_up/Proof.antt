@@ -19,8 +19,8 @@ same-length c = search needs
 returns : tie.Need-returns
 unfolding kinds-open
 returns c =
-    let s = c .before .before .before .before .before .before in
-    at-kind {k = 21} (λ k. event-from k (s .args .place) 0 0 []) (c .before .before .before .before .match .keys1) (c .before .before .mend .ensures)
+    let after-mend : tie.After-mend = search in let s : tie.Start = search in
+    at-kind {k = 21} (λ k. event-from k (s .args .place) 0 0 []) (c .before .before .before .before .match .keys1) (after-mend .mend .ensures)
 
 same-length-2 : tie.Need-same-length-2
 same-length-2 c = search needs
@@ -28,8 +28,8 @@ same-length-2 c = search needs
 returns-2 : tie.Need-returns-2
 unfolding kinds-open
 returns-2 c =
-    let s = c .before .before .before .before .before .before in
-    at-kind {k = 22} {kind = s .args .kind} (λ k. event-from k (s .args .place) 0 0 []) (omega arith) (c .before .before .collect .ensures)
+    let after-collect : tie.After-collect = search in let s : tie.Start = search in
+    at-kind {k = 22} {kind = s .args .kind} (λ k. event-from k (s .args .place) 0 0 []) (omega arith) (after-collect .collect .ensures)
 
 pub keep-up-spec : {M : Type 1} → statement M
 keep-up-spec =

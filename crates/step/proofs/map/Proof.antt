@@ -28,8 +28,8 @@ same-length c = search needs
 returns : tie.Need-returns
 unfolding kinds-open
 returns c =
-    let s = c .before .before .before .before .before .before in
-    at-kind {k = 4} (λ k. event-from k (s .args .a) (s .args .b) 0 []) (c .before .before .before .before .match .keys1) (c .before .before .map .ensures)
+    let after-map : tie.After-map = search in let s : tie.Start = search in
+    at-kind {k = 4} (λ k. event-from k (s .args .a) (s .args .b) 0 []) (c .before .before .before .before .match .keys1) (after-map .map .ensures)
 
 same-length-2 : tie.Need-same-length-2
 same-length-2 c = search needs
@@ -37,8 +37,8 @@ same-length-2 c = search needs
 returns-2 : tie.Need-returns-2
 unfolding kinds-open
 returns-2 c =
-    let s = c .before .before .before .before .before .before in
-    at-kind {k = 5} (λ k. event-from k (s .args .a) (s .args .b) 0 []) (c .before .before .before .before .match .keys2) (c .before .before .send .ensures)
+    let after-send : tie.After-send = search in let s : tie.Start = search in
+    at-kind {k = 5} (λ k. event-from k (s .args .a) (s .args .b) 0 []) (c .before .before .before .before .match .keys2) (after-send .send .ensures)
 
 same-length-3 : tie.Need-same-length-3
 same-length-3 c = search needs
@@ -46,8 +46,8 @@ same-length-3 c = search needs
 returns-3 : tie.Need-returns-3
 unfolding kinds-open
 returns-3 c =
-    let s = c .before .before .before .before .before .before in
-    at-kind {k = 6} (λ k. event-from k (s .args .a) (s .args .b) 0 []) (c .before .before .before .before .match .keys3) (c .before .before .deliver .ensures)
+    let after-deliver : tie.After-deliver = search in let s : tie.Start = search in
+    at-kind {k = 6} (λ k. event-from k (s .args .a) (s .args .b) 0 []) (c .before .before .before .before .match .keys3) (after-deliver .deliver .ensures)
 
 same-length-4 : tie.Need-same-length-4
 same-length-4 c = search needs
@@ -55,8 +55,8 @@ same-length-4 c = search needs
 returns-4 : tie.Need-returns-4
 unfolding kinds-open
 returns-4 c =
-    let s = c .before .before .before .before .before .before in
-    at-kind {k = 7} (λ k. event-from k (s .args .a) (s .args .b) 0 []) (c .before .before .before .before .match .keys4) (c .before .before .drop .ensures)
+    let after-drop : tie.After-drop = search in let s : tie.Start = search in
+    at-kind {k = 7} (λ k. event-from k (s .args .a) (s .args .b) 0 []) (c .before .before .before .before .match .keys4) (after-drop .drop .ensures)
 
 same-length-5 : tie.Need-same-length-5
 same-length-5 c = search needs

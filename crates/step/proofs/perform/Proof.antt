@@ -35,7 +35,9 @@ event c = let k = call c in event-from (k .kind) (k .a) (k .b) (k .c) (k .bytes)
 other : (c : tie.After-slice-known2) → (call c .kind ≡ get-kind → ⊥) → {e : Event} → event c ≡ e → (r : Answer) (after : List ℕ)
     → ((i : ℕ) → getD after i 0 < 256) → length after ≡ length (store c) → Performs e (words (store c)) r (words after)
     → outcome-of r (call c .area) after ≡ outcome (store c) (call c)
-other c u {e} q r after b h p = other-steps (call c) (store c) (sound-store _ (store c) (c .before .before .before .before .pre)) u r after (below-of 256 _ b) h e q p
+other c u {e} q r after b h p =
+    let start : tie.Start = search in
+    other-steps (call c) (store c) (sound-store _ (store c) (start .pre)) u r after (below-of 256 _ b) h e q p
 
 -- fields that the kind doesn't have
 two : (c : tie.After-slice-known2) → 4 ≤ call c .kind → call c .kind ≤ 8 → event c ≡ event-from (call c .kind) (call c .a) (call c .b) 0 []
@@ -48,8 +50,9 @@ one c l h = let k = call c in one-number (k .a) (k .b) (k .c) (k .bytes) (k .kin
 none : (c : tie.After-slice-known2) → (call c .kind ≡ get-kind → ⊥) → event c ≡ Event.unknown
     → outcome-of (No 3) (call c .area) (store c) ≡ outcome (store c) (call c)
 none c u q =
-    other c u q (No 3) (store c) (λ i. omega (arith, c .before .before .before .slice-known .given i)) refl
-    (unknown-refused _ (c .before .before .before .before .pre .sound))
+    let after-slice-known : tie.After-slice-known = search in let start : tie.Start = search in
+    other c u q (No 3) (store c) (λ i. omega (arith, after-slice-known .slice-known .given i)) refl
+    (unknown-refused _ (start .pre .sound))
 
 done-requires : tie.Need-done-requires
 done-requires c κs = search needs
@@ -84,8 +87,8 @@ same-length c = search needs
 returns : tie.Need-returns
 unfolding kinds-open
 returns c =
-    let s = c .before .before .before .before .before in
-    let r = c .before .before .done in
+    let after-done : tie.After-done = search in let s : tie.After-slice-known2 = search in
+    let r = after-done .done in
     other s (λ z. omega arith) (rw (c .before .before .before .before .match .keys1) refl) (r .result) _
     (λ i. omega (arith, c .slice-known3 .given i)) (r .kept .0) (r .ensures)
 
@@ -98,9 +101,10 @@ same-length-3 c = search needs
 returns-2 : tie.Need-returns-2
 unfolding decode-bytes
 returns-2 c =
-    let s = c .before .before .before .before .before .before in
-    get-steps (store s) (sound-store _ (store s) (s .before .before .before .before .pre)) (below-of 256 _ (λ i. omega (arith, s .before .before .before .slice-known .given i))) (call s)
-    (c .before .before .before .before .before .match .keys2) (c .before .before .get-into .result) _ (c .before .before .get-into .ensures)
+    let start : tie.Start = search in let after-slice-known : tie.After-slice-known = search in let after-get-into : tie.After-get-into = search in
+    let s : tie.After-slice-known2 = search in
+    get-steps (store s) (sound-store _ (store s) (start .pre)) (below-of 256 _ (λ i. omega (arith, after-slice-known .slice-known .given i))) (call s)
+    (c .before .before .before .before .before .match .keys2) (after-get-into .get-into .result) _ (after-get-into .get-into .ensures)
 
 same-length-4 : tie.Need-same-length-4
 same-length-4 c = search needs
@@ -108,8 +112,8 @@ same-length-4 c = search needs
 returns-3 : tie.Need-returns-3
 unfolding kinds-open
 returns-3 c =
-    let s = c .before .before .before .before .before in
-    let r = c .before .before .abandon in
+    let after-abandon : tie.After-abandon = search in let s : tie.After-slice-known2 = search in
+    let r = after-abandon .abandon in
     other s (λ z. omega arith) (rw (c .before .before .before .before .match .keys3) refl) (r .result) _
     (λ i. omega (arith, c .slice-known5 .given i)) (r .kept .0) (r .ensures)
 
@@ -118,8 +122,8 @@ same-length-5 c = search needs
 
 returns-4 : tie.Need-returns-4
 returns-4 c =
-    let s = c .before .before .before .before .before .before .before in
-    let r = c .before .before .write in
+    let after-write : tie.After-write = search in let s : tie.After-slice-known2 = search in
+    let r = after-write .write in
     other s (λ z. omega arith) refl (r .result) _ (λ i. omega (arith, c .slice-known6 .given i)) (r .kept .0) (r .ensures)
 
 same-length-6 : tie.Need-same-length-6
@@ -127,8 +131,8 @@ same-length-6 c = search needs
 
 returns-5 : tie.Need-returns-5
 returns-5 c =
-    let s = c .before .before .before .before .before .before .before .before in
-    let r = c .before .before .map in
+    let after-map : tie.After-map = search in let s : tie.After-slice-known2 = search in
+    let r = after-map .map in
     other s (λ z. omega arith) (two s (omega arith) (omega arith)) (r .result) _ (λ i. omega (arith, c .slice-known7 .given i)) (r .kept .0) (r .ensures)
 
 same-length-7 : tie.Need-same-length-7
@@ -145,8 +149,8 @@ same-length-8 c = search needs
 
 returns-7 : tie.Need-returns-7
 returns-7 c =
-    let s = c .before .before .before .before .before .before .before .before .before .before in
-    let r = c .before .before .change-brick in
+    let after-change-brick : tie.After-change-brick = search in let s : tie.After-slice-known2 = search in
+    let r = after-change-brick .change-brick in
     other s (λ z. omega arith) (one s (omega arith) (omega arith)) (r .result) _ (λ i. omega (arith, c .slice-known9 .given i)) (r .kept .0) (r .ensures)
 
 same-length-9 : tie.Need-same-length-9
@@ -154,8 +158,8 @@ same-length-9 c = search needs
 
 returns-8 : tie.Need-returns-8
 returns-8 c =
-    let s = c .before .before .before .before .before .before .before .before .before .before .before in
-    let r = c .before .before .change-view in
+    let after-change-view : tie.After-change-view = search in let s : tie.After-slice-known2 = search in
+    let r = after-change-view .change-view in
     other s (λ z. omega arith) (one s (omega arith) (omega arith)) (r .result) _ (λ i. omega (arith, c .slice-known10 .given i)) (r .kept .0) (r .ensures)
 
 same-length-10 : tie.Need-same-length-10
@@ -163,8 +167,8 @@ same-length-10 c = search needs
 
 returns-9 : tie.Need-returns-9
 returns-9 c =
-    let s = c .before .before .before .before .before .before .before .before .before .before .before .before in
-    let r = c .before .before .keep-up in
+    let after-keep-up : tie.After-keep-up = search in let s : tie.After-slice-known2 = search in
+    let r = after-keep-up .keep-up in
     other s (λ z. omega arith) (one s (omega arith) (omega arith)) (r .result) _ (λ i. omega (arith, c .slice-known11 .given i)) (r .kept .0) (r .ensures)
 
 returns-10 : tie.Need-returns-10

@@ -10,7 +10,9 @@ is-sound-requires : tie.Need-is-sound-requires
 is-sound-requires c κs = search needs
 
 settings-requires : tie.Need-settings-requires
-settings-requires c κs = store-sound _ (sym (c .before .before .is-sound .ensures) ∙ c .before .if1 .taken)
+settings-requires c κs =
+    let after-is-sound : tie.After-is-sound = search in
+    store-sound _ (sym (after-is-sound .is-sound .ensures) ∙ c .before .if1 .taken)
 
 perform-requires : tie.Need-perform-requires
 perform-requires c κs = search needs
@@ -29,7 +31,8 @@ same-length-3 c = search needs
 
 returns-2 : tie.Need-returns-2
 returns-2 c =
-    let s = c .before .before .before .before .before .before .before .args in
+    let start : tie.Start = search in
+    let s = start .args in
     unsound-steps (call-with (s .kind) (s .a) (s .b) (s .c) (s .«data» .now) (s .blank .now) (s .area .now)) (s .store .now)
     (sym (c .before .is-sound .ensures) ∙ c .if1 .left)
 

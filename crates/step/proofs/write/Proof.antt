@@ -21,9 +21,9 @@ same-length c = search needs
 returns : tie.Need-returns
 unfolding kinds-open
 returns c =
-    let s = c .before .before .before .before .before .before .before in
+    let after-put : tie.After-put = search in let s : tie.Start = search in
     at-kind {k = 1} (λ k. event-from k (s .args .a) (s .args .b) (s .args .c) (s .args .«data» .now))
-    (c .before .before .before .before .match .keys1) (c .before .before .put .ensures)
+    (c .before .before .before .before .match .keys1) (after-put .put .ensures)
 
 same-length-2 : tie.Need-same-length-2
 same-length-2 c = search needs
@@ -31,9 +31,9 @@ same-length-2 c = search needs
 returns-2 : tie.Need-returns-2
 unfolding kinds-open
 returns-2 c =
-    let s = c .before .before .before .before .before .before .before in
+    let after-copy : tie.After-copy = search in let s : tie.Start = search in
     at-kind {k = 2} (λ k. event-from k (s .args .a) (s .args .b) (s .args .c) (s .args .«data» .now))
-    (c .before .before .before .before .match .keys2) (c .before .before .copy .ensures)
+    (c .before .before .before .before .match .keys2) (after-copy .copy .ensures)
 
 same-length-3 : tie.Need-same-length-3
 same-length-3 c = search needs
@@ -41,9 +41,9 @@ same-length-3 c = search needs
 returns-3 : tie.Need-returns-3
 unfolding kinds-open
 returns-3 c =
-    let s = c .before .before .before .before .before .before .before in
+    let after-savelog : tie.After-savelog = search in let s : tie.Start = search in
     at-kind {k = 3} {kind = s .args .kind} (λ k. event-from k (s .args .a) (s .args .b) (s .args .c) (s .args .«data» .now))
-    (omega arith) (c .before .before .savelog .ensures)
+    (omega arith) (after-savelog .savelog .ensures)
 
 pub write-spec : {M : Type 1} → statement M
 write-spec =

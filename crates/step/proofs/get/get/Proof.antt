@@ -24,11 +24,11 @@ below c = below-of 256 _ (λ i. omega (arith, c .before .shared-slice-known .giv
 
 -- what was asked of the zero block, by the store's own size
 zero-block : (c : tie.After-is-zero-block)
-    → let b = c .before .before .before .before .before .before in
+    → let b : tie.Start = search in
     is-zero-block (decode-bytes (b .args .store .now) .settings .size) (b .args .blank .now) ≡ c .is-zero-block .result
 unfolding decode-bytes
 zero-block c =
-    let b = c .before .before .before .before .before .before in
+    let b : tie.Start = search in
     ap (λ (n : ℕ). is-zero-block n (b .args .blank .now)) (sym (size-is _ (b .args .store .now) (c .before .settings .ensures))) ∙ sym (c .is-zero-block .ensures)
 
 is-sound-requires : tie.Need-is-sound-requires
@@ -45,9 +45,9 @@ part-result-end c = search needs
 
 returns : tie.Need-returns
 returns c =
-    let b = c .before .before .before .before .before in
+    let after-is-sound : tie.After-is-sound = search in let b : tie.Start = search in
     unsound-part (b .args .store .now) (b .args .blank .now) (b .args .proxy) (b .args .block)
-    (sym (c .before .before .is-sound .ensures) ∙ not-true _ (c .before .if1 .taken))
+    (sym (after-is-sound .is-sound .ensures) ∙ not-true _ (c .before .if1 .taken))
 
 settings-requires : tie.Need-settings-requires
 settings-requires c κs = checked c
@@ -66,19 +66,24 @@ part-result-end-2 c = search needs
 
 returns-2 : tie.Need-returns-2
 returns-2 c =
-    let b = c .before .before .before .before .before .before .before .before in
-    unlent-part (b .args .store .now) (b .args .blank .now) (b .args .proxy) (b .args .block) (checked (c .before .before .before .before)) (below (c .before .before .before .before .before .before))
-    (zero-block (c .before .before) ∙ not-true _ (c .before .if2 .taken))
+    let else1 : tie.Else1 = search in let after-shared-slice-known2 : tie.After-shared-slice-known2 = search in
+    let after-is-zero-block : tie.After-is-zero-block = search in let b : tie.Start = search in
+    unlent-part (b .args .store .now) (b .args .blank .now) (b .args .proxy) (b .args .block) (checked else1) (below after-shared-slice-known2)
+    (zero-block after-is-zero-block ∙ not-true _ (c .before .if2 .taken))
 
 get-requires : tie.Need-get-requires
-get-requires c κs = (c .before .before .before .before .settings .ensures, zeros-are _ _ (sym (c .before .before .before .is-zero-block .ensures) ∙ not-false _ (c .before .before .if2 .left)))
+get-requires c κs =
+    let after-settings : tie.After-settings = search in let after-is-zero-block : tie.After-is-zero-block = search in
+    let else2 : tie.Else2 = search in
+    (after-settings .settings .ensures, zeros-are _ _ (sym (after-is-zero-block .is-zero-block .ensures) ∙ not-false _ (else2 .if2 .left)))
 
 returns-3 : tie.Need-returns-3
 unfolding decode-bytes
 returns-3 c =
-    let b = c .before .before .before .before .before .before .before .before .before .before in
-    got-part (b .args .store .now) (b .args .blank .now) (b .args .proxy) (b .args .block) (checked (c .before .before .before .before .before .before)) (below (c .before .before .before .before .before .before .before .before))
-    (zero-block (c .before .before .before .before) ∙ not-false _ (c .before .before .before .if2 .left)) _ _ _ (c .get .ensures)
+    let else1 : tie.Else1 = search in let after-shared-slice-known2 : tie.After-shared-slice-known2 = search in
+    let after-is-zero-block : tie.After-is-zero-block = search in let else2 : tie.Else2 = search in let b : tie.Start = search in
+    got-part (b .args .store .now) (b .args .blank .now) (b .args .proxy) (b .args .block) (checked else1) (below after-shared-slice-known2)
+    (zero-block after-is-zero-block ∙ not-false _ (else2 .if2 .left)) _ _ _ (c .get .ensures)
 
 pub get-spec : {M : Type 1} → statement M
 get-spec =
