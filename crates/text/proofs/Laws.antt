@@ -83,14 +83,14 @@ passed-at key k (suc n) i p h e =
     (λ _ q. passed-at key k n i (p .0) q e)
     (λ _ q. let j : i ≡ n = omega arith in p .1 (e ∙ ap (λ (m : ℕ). key (suc m)) j))
 
-past : (k n : ℕ) → 1 ≤ k → Passed (λ j. j) k n → suc n ≤ k
+past : (from k n : ℕ) → suc from ≤ k → Passed (λ j. from + j) k n → suc (from + n) ≤ k
 unfolding Passed
-past k zero h p = h
-past k (suc n) h p = let r = past k n h (p .0) in let ne = p .1 in omega arith
+past from k zero h p = omega arith
+past from k (suc n) h p = let r = past from k n h (p .0) in let ne = p .1 in omega arith
 
--- a kind that is none of the first n is the last
-pub last-kind : (k n : ℕ) → 1 ≤ k → k ≤ suc n → Passed (λ j. j) k n → k ≡ suc n
-last-kind k n h g p = let r = past k n h p in omega arith
+-- a kind above `from` that is none of the next n is the one after them
+pub last-kind : (from k n : ℕ) → suc from ≤ k → k ≤ suc (from + n) → Passed (λ j. from + j) k n → k ≡ suc (from + n)
+last-kind from k n h g p = let r = past from k n h p in omega arith
 
 pub kinds-count : length kinds ≡ kind-count
 unfolding kinds

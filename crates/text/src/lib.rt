@@ -82,7 +82,7 @@ fn pack(word: &[u8]) -> u64
     n
 }
 
-// The kind that a word stands for, or 0; the word comes packed.
+// The kind that a word stands for, or 0; the word comes packed. Few words to a function: what is to be proved grows with the square of their number.
 pub fn find_kind(word: u64) -> usize
     ensures { λ r. ⌜ (r ≡ kind-number (kind-of-packed word)) × (r ≤ kind-count) ⌝ }
 {
@@ -104,6 +104,13 @@ pub fn find_kind(word: u64) -> usize
     if word == pack(b"deliver") {
         return 6;
     }
+    find_from_7(word)
+}
+
+// The same among the kinds from 7 on.
+fn find_from_7(word: u64) -> usize
+    ensures { λ r. ⌜ (r ≡ kind-number (packed-from 7 (drop 6 kinds) word)) × (r ≤ kind-count) ⌝ }
+{
     if word == pack(b"drop") {
         return 7;
     }
@@ -119,11 +126,11 @@ pub fn find_kind(word: u64) -> usize
     if word == pack(b"abandon") {
         return 11;
     }
-    find_later(word)
+    find_from_12(word)
 }
 
 // The same among the kinds from 12 on.
-fn find_later(word: u64) -> usize
+fn find_from_12(word: u64) -> usize
     ensures { λ r. ⌜ (r ≡ kind-number (packed-from 12 (drop 11 kinds) word)) × (r ≤ kind-count) ⌝ }
 {
     if word == pack(b"learn") {
@@ -144,6 +151,13 @@ fn find_later(word: u64) -> usize
     if word == pack(b"join") {
         return 17;
     }
+    find_from_18(word)
+}
+
+// The same among the kinds from 18 on.
+fn find_from_18(word: u64) -> usize
+    ensures { λ r. ⌜ (r ≡ kind-number (packed-from 18 (drop 17 kinds) word)) × (r ≤ kind-count) ⌝ }
+{
     if word == pack(b"view") {
         return 18;
     }
@@ -175,9 +189,9 @@ fn put_front(word: &[u8], area: &mut [u8]) -> usize
     i
 }
 
-// The word of a kind, at the front of an area; the place after it.
-pub fn put_word(kind: usize, area: &mut [u8]) -> usize
-    requires { ⌜ (1 ≤ kind) × (kind ≤ kind-count) × (length (kind-at kind .word) ≤ length (now area)) ⌝ }
+// The word of a kind from 1 to 6, as `put_word` writes it.
+fn put_word_to_6(kind: usize, area: &mut [u8]) -> usize
+    requires { ⌜ (1 ≤ kind) × (kind ≤ 6) × (length (kind-at kind .word) ≤ length (now area)) ⌝ }
     ensures { λ r. ⌜ (r ≡ length (kind-at kind .word)) × (now (area .exit) ≡ onto 0 (kind-at kind .word) (now (area .entry))) ⌝ }
 {
     match kind {
@@ -186,24 +200,68 @@ pub fn put_word(kind: usize, area: &mut [u8]) -> usize
         3 => put_front(b"savelog", area),
         4 => put_front(b"map", area),
         5 => put_front(b"send", area),
-        6 => put_front(b"deliver", area),
+        _ => put_front(b"deliver", area),
+    }
+}
+
+// The word of a kind from 7 to 11, as `put_word` writes it.
+fn put_word_to_11(kind: usize, area: &mut [u8]) -> usize
+    requires { ⌜ (7 ≤ kind) × (kind ≤ 11) × (length (kind-at kind .word) ≤ length (now area)) ⌝ }
+    ensures { λ r. ⌜ (r ≡ length (kind-at kind .word)) × (now (area .exit) ≡ onto 0 (kind-at kind .word) (now (area .entry))) ⌝ }
+{
+    match kind {
         7 => put_front(b"drop", area),
         8 => put_front(b"savemap", area),
         9 => put_front(b"done", area),
         10 => put_front(b"get", area),
-        11 => put_front(b"abandon", area),
+        _ => put_front(b"abandon", area),
+    }
+}
+
+// The word of a kind from 12 to 17, as `put_word` writes it.
+fn put_word_to_17(kind: usize, area: &mut [u8]) -> usize
+    requires { ⌜ (12 ≤ kind) × (kind ≤ 17) × (length (kind-at kind .word) ≤ length (now area)) ⌝ }
+    ensures { λ r. ⌜ (r ≡ length (kind-at kind .word)) × (now (area .exit) ≡ onto 0 (kind-at kind .word) (now (area .entry))) ⌝ }
+{
+    match kind {
         12 => put_front(b"learn", area),
         13 => put_front(b"reset", area),
         14 => put_front(b"crash", area),
         15 => put_front(b"lose", area),
         16 => put_front(b"rise", area),
-        17 => put_front(b"join", area),
+        _ => put_front(b"join", area),
+    }
+}
+
+// The word of a kind from 18 to 22, as `put_word` writes it.
+fn put_word_to_22(kind: usize, area: &mut [u8]) -> usize
+    requires { ⌜ (18 ≤ kind) × (kind ≤ 22) × (length (kind-at kind .word) ≤ length (now area)) ⌝ }
+    ensures { λ r. ⌜ (r ≡ length (kind-at kind .word)) × (now (area .exit) ≡ onto 0 (kind-at kind .word) (now (area .entry))) ⌝ }
+{
+    match kind {
         18 => put_front(b"view", area),
         19 => put_front(b"fetch", area),
         20 => put_front(b"ready", area),
         21 => put_front(b"mend", area),
         _ => put_front(b"collect", area),
     }
+}
+
+// The word of a kind, at the front of an area; the place after it.
+pub fn put_word(kind: usize, area: &mut [u8]) -> usize
+    requires { ⌜ (1 ≤ kind) × (kind ≤ kind-count) × (length (kind-at kind .word) ≤ length (now area)) ⌝ }
+    ensures { λ r. ⌜ (r ≡ length (kind-at kind .word)) × (now (area .exit) ≡ onto 0 (kind-at kind .word) (now (area .entry))) ⌝ }
+{
+    if kind <= 6 {
+        return put_word_to_6(kind, area);
+    }
+    if kind <= 11 {
+        return put_word_to_11(kind, area);
+    }
+    if kind <= 17 {
+        return put_word_to_17(kind, area);
+    }
+    put_word_to_22(kind, area)
 }
 
 // Does a text end in a line feed, and is it no longer than a line may be?

@@ -77,114 +77,21 @@ unfolding ascii kinds packed-upto packed packed-from kind-of-packed kind-number
 returns-6 c =
     number-is 6 (c .before .before .before .before .before .before .before .before .before .before .before .before .before .before .before .before .before .before .args .word) 100316608009233778 kind-of-packed (c .if6 .taken ∙ c .before .pack6 .ensures) refl (omega arith)
 
-slice-aggregate-pack-7 : tie.Need-slice-aggregate-pack-7
-slice-aggregate-pack-7 c = search needs
-
-pack-requires-7 : tie.Need-pack-requires-7
-pack-requires-7 c κs = search needs
+find-from-7-requires : tie.Need-find-from-7-requires
+find-from-7-requires c κs = search needs
 
 returns-7 : tie.Need-returns-7
-unfolding ascii kinds packed-upto packed packed-from kind-of-packed kind-number
-returns-7 c =
-    number-is 7 (c .before .before .before .before .before .before .before .before .before .before .before .before .before .before .before .before .before .before .before .before .before .args .word) 5980188528 kind-of-packed (c .if7 .taken ∙ c .before .pack7 .ensures) refl (omega arith)
-
-slice-aggregate-pack-8 : tie.Need-slice-aggregate-pack-8
-slice-aggregate-pack-8 c = search needs
-
-pack-requires-8 : tie.Need-pack-requires-8
-pack-requires-8 c κs = search needs
-
-returns-8 : tie.Need-returns-8
-unfolding ascii kinds packed-upto packed packed-from kind-of-packed kind-number
-returns-8 c =
-    number-is 8 (c .before .before .before .before .before .before .before .before .before .before .before .before .before .before .before .before .before .before .before .before .before .before .before .before .args .word) 104534377495355760 kind-of-packed (c .if8 .taken ∙ c .before .pack8 .ensures) refl (omega arith)
-
-slice-aggregate-pack-9 : tie.Need-slice-aggregate-pack-9
-slice-aggregate-pack-9 c = search needs
-
-pack-requires-9 : tie.Need-pack-requires-9
-pack-requires-9 c κs = search needs
-
-returns-9 : tie.Need-returns-9
-unfolding ascii kinds packed-upto packed packed-from kind-of-packed kind-number
-returns-9 c =
-    number-is 9 (c .before .before .before .before .before .before .before .before .before .before .before .before .before .before .before .before .before .before .before .before .before .before .before .before .before .before .before .args .word) 5979991653 kind-of-packed (c .if9 .taken ∙ c .before .pack9 .ensures) refl (omega arith)
-
-slice-aggregate-pack-10 : tie.Need-slice-aggregate-pack-10
-slice-aggregate-pack-10 c = search needs
-
-pack-requires-10 : tie.Need-pack-requires-10
-pack-requires-10 c κs = search needs
-
-returns-10 : tie.Need-returns-10
-unfolding ascii kinds packed-upto packed packed-from kind-of-packed kind-number
-returns-10 c =
-    number-is 10 (c .before .before .before .before .before .before .before .before .before .before .before .before .before .before .before .before .before .before .before .before .before .before .before .before .before .before .before .before .before .before .args .word) 23553396 kind-of-packed (c .if10 .taken ∙ c .before .pack10 .ensures) refl (omega arith)
-
-slice-aggregate-pack-11 : tie.Need-slice-aggregate-pack-11
-slice-aggregate-pack-11 c = search needs
-
-pack-requires-11 : tie.Need-pack-requires-11
-pack-requires-11 c κs = search needs
-
-returns-11 : tie.Need-returns-11
-unfolding ascii kinds packed-upto packed packed-from kind-of-packed kind-number
-returns-11 c =
-    number-is 11 (c .before .before .before .before .before .before .before .before .before .before .before .before .before .before .before .before .before .before .before .before .before .before .before .before .before .before .before .before .before .before .before .before .before .args .word) 99468837382287214 kind-of-packed (c .if11 .taken ∙ c .before .pack11 .ensures) refl (omega arith)
-
-find-later-requires : tie.Need-find-later-requires
-find-later-requires c κs = search needs
-
-returns-12 : tie.Need-returns-12
 unfolding ascii kinds packed-upto packed kind-of-packed row-after Passed
-returns-12 c =
-    let c11 = c .before in
-    let c10 = c11 .before .before .before in
-    let c9 = c10 .before .before .before in
-    let c8 = c9 .before .before .before in
-    let c7 = c8 .before .before .before in
-    let c6 = c7 .before .before .before in
+returns-7 c =
+    let c6 = c .before in
     let c5 = c6 .before .before .before in
     let c4 = c5 .before .before .before in
     let c3 = c4 .before .before .before in
     let c2 = c3 .before .before .before in
     let c1 = c2 .before .before .before in
     let p = c1 .before .before .before .args .word in
-    let passed : Passed (λ j. packed (row-after 0 j .word)) p 11 = (
-      (
-        (
-          (
-            (
-              (
-                (
-                  (
-                    (
-                      (
-                        (
-                          tt,
-                          other (c1 .if1 .left) (c1 .before .pack .ensures),
-                        ),
-                        other (c2 .if2 .left) (c2 .before .pack2 .ensures),
-                      ),
-                      other (c3 .if3 .left) (c3 .before .pack3 .ensures),
-                    ),
-                    other (c4 .if4 .left) (c4 .before .pack4 .ensures),
-                  ),
-                  other (c5 .if5 .left) (c5 .before .pack5 .ensures),
-                ),
-                other (c6 .if6 .left) (c6 .before .pack6 .ensures),
-              ),
-              other (c7 .if7 .left) (c7 .before .pack7 .ensures),
-            ),
-            other (c8 .if8 .left) (c8 .before .pack8 .ensures),
-          ),
-          other (c9 .if9 .left) (c9 .before .pack9 .ensures),
-        ),
-        other (c10 .if10 .left) (c10 .before .pack10 .ensures),
-      ),
-      other (c11 .if11 .left) (c11 .before .pack11 .ensures),
-    ) in
-    (c .find-later .ensures .0 ∙ ap kind-number (sym (past-rows 0 1 11 p passed)), c .find-later .ensures .1)
+    let passed : Passed (λ j. packed (row-after 0 j .word)) p 6 = ((((((tt, other (c1 .if1 .left) (c1 .before .pack .ensures)), other (c2 .if2 .left) (c2 .before .pack2 .ensures)), other (c3 .if3 .left) (c3 .before .pack3 .ensures)), other (c4 .if4 .left) (c4 .before .pack4 .ensures)), other (c5 .if5 .left) (c5 .before .pack5 .ensures)), other (c6 .if6 .left) (c6 .before .pack6 .ensures)) in
+    (c .find-from-7 .ensures .0 ∙ ap kind-number (sym (past-rows 0 1 6 p passed)), c .find-from-7 .ensures .1)
 
 pub find-kind-spec : {M : Type 1} → statement M
 find-kind-spec =
@@ -208,20 +115,5 @@ find-kind-spec =
     slice-aggregate-pack-6
     pack-requires-6
     returns-6
-    slice-aggregate-pack-7
-    pack-requires-7
-    returns-7
-    slice-aggregate-pack-8
-    pack-requires-8
-    returns-8
-    slice-aggregate-pack-9
-    pack-requires-9
-    returns-9
-    slice-aggregate-pack-10
-    pack-requires-10
-    returns-10
-    slice-aggregate-pack-11
-    pack-requires-11
-    returns-11
-    find-later-requires
-    returns-12)
+    find-from-7-requires
+    returns-7)

@@ -161,7 +161,7 @@ returns-22 : tie.Need-returns-22
 unfolding ascii kinds kind-at shape-of Passed
 returns-22 c =
     row-is 22 (c .before .before .args .kind) (c .row22 .result)
-    (last-kind _ 21 (c .before .before .pre .0) (c .before .before .pre .1) (c .before .match .rest)) (c .row22 .ensures)
+    (last-kind 0 _ 21 (c .before .before .pre .0) (c .before .before .pre .1) (c .before .match .rest)) (c .row22 .ensures)
 
 pub shape-of-spec : {M : Type 1} → statement M
 shape-of-spec =
