@@ -1,3 +1,2 @@
-pub mod ProxySteps
 pub mod Saving
 pub mod Mapping

@@ -1,5 +1,4 @@
-// The way of a mapping from an item into the primary's copy, and to disk: map, savemap, done, abandon; and a proxy's view: learn, reset.
+// The way of a mapping from an item into the primary's copy, and to disk: map, savemap, done.
 pub mod done;
 pub mod map;
-pub mod proxies;
 pub mod savemap;

@@ -52,8 +52,8 @@ fn follow(store: &mut [u8], settings: Settings, kind: u64, proxy: u64) -> Answer
     ensures { λ r. ⌜ Performs (event-from kind proxy 0 0 []) (words (now (store .entry))) r (words (now (store .exit))) ⌝ }
 {
     match kind {
-        12 => maps::proxies::learn(store, settings, proxy),
-        _ => maps::proxies::reset(store, settings, proxy),
+        12 => proxies::learn(store, settings, proxy),
+        _ => proxies::reset(store, settings, proxy),
     }
 }
 
@@ -114,7 +114,7 @@ pub fn perform(
         4..=8 => map(store, settings, kind, a, b),
         9 => maps::done::done(store, settings, a, b),
         10 => reads::get_into(store, blank, area, settings, a, b),
-        11 => maps::proxies::abandon(store, settings, a, b),
+        11 => proxies::abandon(store, settings, a, b),
         12..=13 => follow(store, settings, kind, a),
         14..=17 => change_brick(store, settings, kind, a),
         18..=20 => change_view(store, settings, kind, a),

@@ -1,9 +1,9 @@
 use Prim.Native.Nat.{_+_, _*_}
 use native.Mathlib.Omega.{arith}
-use Rattle.maps.proofs.ProxySteps.{cleared}
+use Rattle.proxies.proofs.Steps.{cleared}
 use borrow.Author.Needs.{needs}
-use Rattle.maps.proofs.proxies.clear_proxy.Statement.{statement}
-use Rattle.maps.proofs.proxies.clear_proxy.Tie as tie
+use Rattle.proxies.proofs.clear_proxy.Statement.{statement}
+use Rattle.proxies.proofs.clear_proxy.Tie as tie
 
 proxy-at-requires : tie.Need-proxy-at-requires
 proxy-at-requires c κs = search needs

@@ -8,8 +8,8 @@ use Rattle.rules.specs.Step.{rule}
 use Rattle.rules.proofs.Questions.{first-yes, first-stop, none-asked}
 use Rattle.lent.proofs.Performs.{refuses, accepted}
 use borrow.Author.Needs.{needs}
-use Rattle.maps.proofs.proxies.reset.Statement.{statement}
-use Rattle.maps.proofs.proxies.reset.Tie as tie
+use Rattle.proxies.proofs.reset.Statement.{statement}
+use Rattle.proxies.proofs.reset.Tie as tie
 
 returns : tie.Need-returns
 unfolding rule

@@ -1,9 +1,9 @@
 use Prim.Native.Nat.{_+_, _*_}
 use native.Mathlib.Omega.{arith}
-use Rattle.maps.proofs.ProxySteps.{learned}
+use Rattle.proxies.proofs.Steps.{learned}
 use borrow.Author.Needs.{needs}
-use Rattle.maps.proofs.proxies.take_view.Statement.{statement}
-use Rattle.maps.proofs.proxies.take_view.Tie as tie
+use Rattle.proxies.proofs.take_view.Statement.{statement}
+use Rattle.proxies.proofs.take_view.Tie as tie
 
 view-requires : tie.Need-view-requires
 view-requires c κs = search needs

@@ -8,8 +8,8 @@ use Rattle.rules.specs.Step.{rule}
 use Rattle.rules.proofs.Questions.{first-yes, first-stop, none-asked}
 use Rattle.lent.proofs.Performs.{refuses, accepted}
 use borrow.Author.Needs.{needs}
-use Rattle.maps.proofs.proxies.learn.Statement.{statement}
-use Rattle.maps.proofs.proxies.learn.Tie as tie
+use Rattle.proxies.proofs.learn.Statement.{statement}
+use Rattle.proxies.proofs.learn.Tie as tie
 
 returns : tie.Need-returns
 unfolding rule

@@ -4,8 +4,8 @@ use Rattle.rules.proofs.Questions.{first-yes, first-stop, none-asked, stops-the
 use Rattle.lent.specs.Asks.{block-asks}
 use Rattle.lent.proofs.Proxies.{block-yes}
 use borrow.Author.Needs.{needs}
-use Rattle.maps.proofs.proxies.asks.Statement.{statement}
-use Rattle.maps.proofs.proxies.asks.Tie as tie
+use Rattle.proxies.proofs.asks.Statement.{statement}
+use Rattle.proxies.proofs.asks.Tie as tie
 
 block-asks-requires : tie.Need-block-asks-requires
 block-asks-requires c κs = search needs

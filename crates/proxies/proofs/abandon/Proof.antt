@@ -7,8 +7,8 @@ use Rattle.rules.specs.Event.{Event}
 use Rattle.rules.specs.Step.{rule}
 use Rattle.lent.proofs.Performs.{refused, accepted}
 use borrow.Author.Needs.{needs}
-use Rattle.maps.proofs.proxies.abandon.Statement.{statement}
-use Rattle.maps.proofs.proxies.abandon.Tie as tie
+use Rattle.proxies.proofs.abandon.Statement.{statement}
+use Rattle.proxies.proofs.abandon.Tie as tie
 
 asks-requires : tie.Need-asks-requires
 asks-requires c κs = search needs
