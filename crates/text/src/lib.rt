@@ -82,7 +82,7 @@ fn pack(word: &[u8]) -> u64
     n
 }
 
-// The kind that a word stands for, or 0; the word comes packed. Few words to a function: what is to be proved grows with the square of their number.
+// The kind that a word stands for, or 0; the word comes packed. Few words to a function: many in one take longer to prove.
 pub fn find_kind(word: u64) -> usize
     ensures { λ r. ⌜ (r ≡ kind-number (kind-of-packed word)) × (r ≤ kind-count) ⌝ }
 {
