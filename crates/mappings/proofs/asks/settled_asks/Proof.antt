@@ -16,11 +16,13 @@ waits-requires c κs = search needs
 
 returns-2 : tie.Need-returns-2
 returns-2 c =
-    sym (first-yes 8 _ (ap not (sym (c .before .before .before .pending .ensures) ∙ c .before .before .if1 .left)) ∙ first-stop 8 _ (ap not (sym (c .before .waits .ensures) ∙ c .if2 .taken)))
+    let after-pending : tie.After-pending = search in let else1 : tie.Else1 = search in
+    sym (first-yes 8 _ (ap not (sym (after-pending .pending .ensures) ∙ else1 .if1 .left)) ∙ first-stop 8 _ (ap not (sym (c .before .waits .ensures) ∙ c .if2 .taken)))
 
 returns-3 : tie.Need-returns-3
 returns-3 c =
-    sym (first-yes 8 _ (ap not (sym (c .before .before .before .pending .ensures) ∙ c .before .before .if1 .left)) ∙ first-yes 8 _ (ap not (sym (c .before .waits .ensures) ∙ c .if2 .left))
+    let after-pending : tie.After-pending = search in let else1 : tie.Else1 = search in
+    sym (first-yes 8 _ (ap not (sym (after-pending .pending .ensures) ∙ else1 .if1 .left)) ∙ first-yes 8 _ (ap not (sym (c .before .waits .ensures) ∙ c .if2 .left))
     ∙ none-asked)
 
 pub settled-asks-spec : {M : Type 1} → statement M

@@ -15,7 +15,7 @@ agreed-requires c κs = search needs
 
 returns : tie.Need-returns
 returns c =
-    let b = c .before .before .before in
+    let b : tie.Start = search in
     let n = c .before .number in
     c .agreed .ensures
     ∙ ap (λ (g : ℕ). agreed-in (decode (words (b .args .store .now)) .bucket g))

@@ -20,13 +20,13 @@ in-memory-requires c κs = search needs
 
 returns : tie.Need-returns
 returns c =
-    let s = c .before .before .before .before in
+    let after-number : tie.After-number = search in let s : tie.Start = search in
     let state = decode (words (s .args .store .now)) in
     let b = s .args .block .0 in
-    let n = c .before .before .number .result in
+    let n = after-number .number .result in
     c .in-memory .ensures ∙ ap (λ (a : Agreed). look (state .bucket n .memory (a .primary)) b) (c .before .agreed .ensures)
     ∙ ap (λ (g : ℕ). look (state .bucket g .memory (state .bucket g .primary)) b)
-    (c .before .before .number .ensures .0 ∙ number-is (s .args .settings) (s .args .store .now) (s .pre) b)
+    (after-number .number .ensures .0 ∙ number-is (s .args .settings) (s .args .store .now) (s .pre) b)
 
 pub mapped-spec : {M : Type 1} → statement M
 mapped-spec = tie.close (tie.spec number-requires agreed-requires in-memory-requires returns)

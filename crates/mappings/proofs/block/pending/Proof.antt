@@ -15,7 +15,7 @@ of-block : (c : tie.After-number)
     → pending (decode (words (c .before .before .args .store .now)) .bucket (c .number .result)) (c .before .before .args .block .0)
     ≡ pending (bucket-at (decode (words (c .before .before .args .store .now))) (c .before .before .args .block .0)) (c .before .before .args .block .0)
 of-block c =
-    let b = c .before .before in
+    let b : tie.Start = search in
     ap (λ (g : ℕ). pending (decode (words (b .args .store .now)) .bucket g) (b .args .block .0))
     (c .number .ensures .0 ∙ number-is (b .args .settings) (b .args .store .now) (b .pre) (b .args .block .0))
 
@@ -30,15 +30,15 @@ agree-requires c κs = search needs
 
 returns : tie.Need-returns
 returns c =
-    let b = c .before .before .before .before .before in
-    let k = decode (words (b .args .store .now)) .bucket (c .before .before .before .number .result) in
-    ap not (c .agree .ensures) ∙ ready-pending k _ (c .before .before .agreed .ensures) (b .args .block .0) (c .before .if1 .taken) ∙ of-block (c .before .before .before)
+    let after-number : tie.After-number = search in let after-agreed : tie.After-agreed = search in let b : tie.Start = search in
+    let k = decode (words (b .args .store .now)) .bucket (after-number .number .result) in
+    ap not (c .agree .ensures) ∙ ready-pending k _ (after-agreed .agreed .ensures) (b .args .block .0) (c .before .if1 .taken) ∙ of-block after-number
 
 returns-2 : tie.Need-returns-2
 returns-2 c =
-    let b = c .before .before .before .before in
-    let k = decode (words (b .args .store .now)) .bucket (c .before .before .number .result) in
-    sym (unready k _ (c .before .agreed .ensures) (b .args .block .0) (c .if1 .left)) ∙ of-block (c .before .before)
+    let after-number : tie.After-number = search in let b : tie.Start = search in
+    let k = decode (words (b .args .store .now)) .bucket (after-number .number .result) in
+    sym (unready k _ (c .before .agreed .ensures) (b .args .block .0) (c .if1 .left)) ∙ of-block after-number
 
 pub pending-spec : {M : Type 1} → statement M
 pending-spec =

@@ -15,7 +15,8 @@ up-member-requires c κs = search needs
 
 returns : tie.Need-returns
 returns c =
-    c .up-member .ensures ∙ ap (λ (a : Agreed). up-member (decode (words (c .before .before .before .args .store .now))) (a .primary)) (c .before .agreed .ensures)
+    let start : tie.Start = search in
+    c .up-member .ensures ∙ ap (λ (a : Agreed). up-member (decode (words (start .args .store .now))) (a .primary)) (c .before .agreed .ensures)
 
 pub primary-up-spec : {M : Type 1} → statement M
 primary-up-spec = tie.close (tie.spec agreed-requires up-member-requires returns)

@@ -15,7 +15,7 @@ has-requires c κs = search needs
 
 returns : tie.Need-returns
 returns c =
-    let b = c .before .before .before in
+    let b : tie.Start = search in
     c .has .ensures
     ∙ ap (λ (a : Agreed). has (decode (words (b .args .store .now)) .bricks .buffer (a .primary)) (b .args .block .0)) (c .before .agreed .ensures)
 

@@ -33,7 +33,7 @@ part-append-end c = search needs
 
 append-requires : tie.Need-append-requires
 append-requires c κs =
-    let b = c .before .before .before in
+    let b : tie.Start = search in
     let p = b .pre in
     let o = 8 * (c .before .place-at .result + 6) in
     let e = o + 520 in (
@@ -52,9 +52,9 @@ same-length c = search needs
 
 returns : tie.Need-returns
 returns c =
-    let b = c .before .before .before .before .before .before in
-    let place-at = c .before .before .before .before .place-at in
-    let append = c .before .before .append in
+    let after-place-at : tie.After-place-at = search in let after-append : tie.After-append = search in let b : tie.Start = search in
+    let place-at = after-place-at .place-at in
+    let append = after-append .append in
     let p = b .pre in
     let o = 8 * (place-at .result + 6) in
     waited (b .args .settings) (b .args .store .now) (p .0) (b .args .place) (p .1) (p .2) o (o + 520) (omega (arith, place-at .ensures .0)) (omega arith)

@@ -21,8 +21,9 @@ enum-known-place c = search needs
 
 buffer-requires : tie.Need-buffer-requires
 buffer-requires c κs =
-    let place-of = c .before .before .before .place-of in
-    let s = c .before .before .before .before .before in
+    let after-place-of : tie.After-place-of = search in
+    let place-of = after-place-of .place-of in
+    let s : tie.Start = search in
     let h : Stands (s .args .settings) (decode (words (s .args .store .now))) (s .args .id) (c .before .place .given .0 .0) =
     rw (c .before .place .given .1) at (place-of .ensures) in
     (s .pre, h .inside, omega (arith, h .some, h .here))
@@ -35,9 +36,10 @@ enum-told c = search needs
 
 returns : tie.Need-returns
 returns c =
-    let place-of = c .before .before .before .before .before .place-of in
-    let place = c .before .before .before .place in
-    let s = c .before .before .before .before .before .before .before in
+    let after-place-of : tie.After-place-of = search in let after-place : tie.After-place = search in
+    let place-of = after-place-of .place-of in
+    let place = after-place .place in
+    let s : tie.Start = search in
     let state = decode (words (s .args .store .now)) in
     let h : Stands (s .args .settings) state (s .args .id) (place .given .0 .0) = rw (place .given .1) at (place-of .ensures) in
     ap (λ (n : ℕ). ltb n max-waiting) (c .read .ensures ∙ sym (count-is entry-row max-waiting _) ∙ ap length (c .before .buffer .ensures .same)
@@ -45,8 +47,9 @@ returns c =
 
 returns-2 : tie.Need-returns-2
 returns-2 c =
-    let place-of = c .before .before .place-of in
-    let s = c .before .before .before .before in
+    let after-place-of : tie.After-place-of = search in
+    let place-of = after-place-of .place-of in
+    let s : tie.Start = search in
     let h : brick-in (decode (words (s .args .store .now))) (s .args .id) ≡ blank-brick = rw (c .enum-told .given .1) at (place-of .ensures) in
     sym (ap (λ (b : Brick). ltb (length (b .buffer)) max-waiting) h)
 

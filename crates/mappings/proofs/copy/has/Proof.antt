@@ -20,8 +20,9 @@ enum-known-place c = search needs
 
 memory-requires : tie.Need-memory-requires
 memory-requires c κs =
-    let place-of = c .before .before .before .place-of in
-    let s = c .before .before .before .before .before in
+    let after-place-of : tie.After-place-of = search in
+    let place-of = after-place-of .place-of in
+    let s : tie.Start = search in
     let h : Stands (s .args .settings) (decode (words (s .args .store .now))) (s .args .id) (c .before .place .given .0 .0) =
     rw (c .before .place .given .1) at (place-of .ensures) in
     (s .pre .0, h .inside, omega (arith, h .some, h .here), s .pre .1)
@@ -34,9 +35,10 @@ enum-told c = search needs
 
 returns : tie.Need-returns
 returns c =
-    let place-of = c .before .before .before .before .before .place-of in
-    let place = c .before .before .before .place in
-    let s = c .before .before .before .before .before .before .before in
+    let after-place-of : tie.After-place-of = search in let after-place : tie.After-place = search in
+    let place-of = after-place-of .place-of in
+    let place = after-place .place in
+    let s : tie.Start = search in
     let state = decode (words (s .args .store .now)) in
     let h : Stands (s .args .settings) state (s .args .id) (place .given .0 .0) = rw (place .given .1) at (place-of .ensures) in
     c .has .ensures ∙ ap (λ (l : List Entry). has l (s .args .block .0)) (c .before .memory .ensures .same)
@@ -45,8 +47,9 @@ returns c =
 returns-2 : tie.Need-returns-2
 unfolding has some
 returns-2 c =
-    let place-of = c .before .before .place-of in
-    let s = c .before .before .before .before in
+    let after-place-of : tie.After-place-of = search in
+    let place-of = after-place-of .place-of in
+    let s : tie.Start = search in
     let h : brick-in (decode (words (s .args .store .now))) (s .args .id) ≡ blank-brick = rw (c .enum-told .given .1) at (place-of .ensures) in
     sym (ap (λ (b : Brick). has (b .copies (s .args .bucket) .memory) (s .args .block .0)) h)
 

@@ -14,9 +14,9 @@ enum-known-place c = search needs
 
 memory-requires : tie.Need-memory-requires
 memory-requires c κs =
-    let s = c .before .before .before .before .before in
+    let after-place-of : tie.After-place-of = search in let s : tie.Start = search in
     let h : Stands (s .args .settings) (decode (words (s .args .store .now))) (s .args .id) (c .before .place .given .0 .0) =
-    rw (c .before .place .given .1) at (c .before .before .before .place-of .ensures) in
+    rw (c .before .place .given .1) at (after-place-of .place-of .ensures) in
     (s .pre .0, h .inside, omega (arith, h .some, h .here), s .pre .1)
 
 index-of-requires : tie.Need-index-of-requires

@@ -35,13 +35,13 @@ part-insert-end c = search needs
 
 insert-requires : tie.Need-insert-requires
 insert-requires c κs =
-    let b = c .before .before .before .before in
+    let after-memory-at : tie.After-memory-at = search in let b : tie.Start = search in
     let s = b .args .store .now in
     let t = b .args .settings in
     let p = b .pre in
-    let o = 8 * c .before .before .memory-at .result in
+    let o = 8 * after-memory-at .memory-at .result in
     let e = o + 8 * c .before .copy-words .result in
-    let k = memory-lent t s (p .0) (b .args .place) (p .1) (p .3) (b .args .bucket) (p .2) o e (omega (arith, c .before .before .memory-at .ensures .0))
+    let k = memory-lent t s (p .0) (b .args .place) (p .1) (p .3) (b .args .bucket) (p .2) o e (omega (arith, after-memory-at .memory-at .ensures .0))
     (omega (arith, c .before .copy-words .ensures)) (run-length o (e - o) s (omega arith) ∙ omega arith) in
     (k .sorted, ap (λ (l : List Entry). takes (t .entries) l (b .args .block .0)) (k .same) ∙ p .4)
 
@@ -50,10 +50,11 @@ same-length c = search needs
 
 returns : tie.Need-returns
 returns c =
-    let b = c .before .before .before .before .before .before .before in
-    let at = c .before .before .before .before .before .memory-at in
-    let size = c .before .before .before .before .copy-words in
-    let insert = c .before .before .insert in
+    let after-memory-at : tie.After-memory-at = search in let after-copy-words : tie.After-copy-words = search in
+    let after-insert : tie.After-insert = search in let b : tie.Start = search in
+    let at = after-memory-at .memory-at in
+    let size = after-copy-words .copy-words in
+    let insert = after-insert .insert in
     let p = b .pre in
     let o = 8 * at .result in
     entered (b .args .settings) (b .args .store .now) (p .0) (b .args .place) (p .1) (p .3) (b .args .bucket) (p .2) o (o + 8 * size .result)
