@@ -27,7 +27,7 @@ read-requires c κs = search needs
 
 loop-holds : tie.Need-loop-holds Inv-loop μ-loop
 loop-holds c =
-    let s = c .before .before .before in (
+    let s : tie.Start Inv-loop μ-loop = search in (
       search needs,
       search needs,
       search needs,
@@ -47,8 +47,8 @@ add-drain-at-2 c = search needs
 
 drain-at-requires : tie.Need-drain-at-requires Inv-loop μ-loop
 drain-at-requires c κs =
-    let s = c .before .before .before .before .before .before in
-    let l = c .before .before .loop in (
+    let at-loop : tie.At-loop Inv-loop μ-loop = search in let s : tie.Start Inv-loop μ-loop = search in
+    let l = at-loop .loop in (
       (omega arith, omega arith),
       still-sorted (buckets (s .args .settings)) (s .args .g) (s .args .buffer) (s .args .waiting) (s .args .copy)
           (s .args .most) (words (s .args .s .now)) (length (s .args .s .now)) (s .pre)
@@ -63,10 +63,10 @@ loop-less c = search needs
 
 loop-again : tie.Need-loop-again Inv-loop μ-loop
 loop-again c =
-    let after-loop = c .before .before .before .before .before in
-    let s = after-loop .before .before .before .before in
+    let after-drain-at : tie.After-drain-at Inv-loop μ-loop = search in let after-loop : tie.At-loop Inv-loop μ-loop = search in
+    let s : tie.Start Inv-loop μ-loop = search in
     let l = after-loop .loop in
-    let r = c .before .before .drain-at in (
+    let r = after-drain-at .drain-at in (
       search needs,
       search needs,
       search needs,
@@ -80,7 +80,7 @@ same-length c = search needs
 
 returns : tie.Need-returns Inv-loop μ-loop
 returns c =
-    let s = c .before .before .before .before .before in
+    let s : tie.Start Inv-loop μ-loop = search in
     let l = c .before .loop in
     l .inv .3 ∙ drain-end (buckets (s .args .settings)) (s .args .g) (s .args .buffer) (s .args .waiting) (s .args .copy) (s .args .most)
     (words (s .args .s .now)) (length (s .args .s .now)) (s .pre) (room (s .args .s .now) (s .args .copy + (1 + s .args .most * 2)) (s .pre .room)) (l .i)

@@ -50,7 +50,7 @@ part-insert-or-drop-end c = search needs
 
 insert-or-drop-requires : tie.Need-insert-or-drop-requires
 insert-or-drop-requires c κs =
-    let s = c .before .before .before .before .before .before .before .before in
+    let s : tie.Start = search in
     let v = s .args .s .now in
     let o = 8 * s .args .copy in
     let k = o + (8 * (1 + s .args .most * 2)) - o in
@@ -65,22 +65,23 @@ same-length c = search needs
 returns : tie.Need-returns
 unfolding drained-at
 returns c =
-    let s = c .before .before .before .before .before .before .before .before .before .before .before in
+    let after-read : tie.After-read = search in let after-read2 : tie.After-read2 = search in let after-of-bucket : tie.After-of-bucket = search in
+    let then1 : tie.Then1 = search in let after-insert-or-drop : tie.After-insert-or-drop = search in let s : tie.Start = search in
     let v = s .args .s .now in
     let o = 8 * s .args .copy in
     let k = o + (8 * (1 + s .args .most * 2)) - o in
-    let x = entry (c .before .before .before .before .before .before .before .before .read .result)
-    (c .before .before .before .before .before .before .read2 .result) in
-    let q = sym (rw (c .before .before .before .before .before .before .before .before .read .ensures) at
-    (c .before .before .before .before .before .of-bucket .ensures)) ∙ c .before .before .before .before .if1 .taken in
+    let x = entry (after-read .read .result)
+    (after-read2 .read2 .result) in
+    let q = sym (rw (after-read .read .ensures) at
+    (after-of-bucket .of-bucket .ensures)) ∙ then1 .if1 .taken in
     rw (
       q,
-      ← c .before .before .before .before .before .before .before .before .read .ensures,
-      ← c .before .before .before .before .before .before .read2
+      ← after-read .read .ensures,
+      ← after-read2 .read2
           .ensures,
-    ) (lent-run v (c .before .before .insert-or-drop .last .0) o k (s .args .copy) (1 + s .args .most * 2)
+    ) (lent-run v (after-insert-or-drop .insert-or-drop .last .0) o k (s .args .copy) (1 + s .args .most * 2)
     (change (entries-codec (s .args .most)) (λ l. take-in (s .args .most) l x)) refl (omega arith) (omega arith) (omega arith)
-    (c .before .before .insert-or-drop .ensures))
+    (after-insert-or-drop .insert-or-drop .ensures))
 
 same-length-2 : tie.Need-same-length-2
 same-length-2 c = search needs
@@ -88,7 +89,8 @@ same-length-2 c = search needs
 returns-2 : tie.Need-returns-2
 unfolding drained-at
 returns-2 c =
-    let q = sym (rw (c .before .before .before .before .read .ensures) at (c .before .of-bucket .ensures)) ∙ c .if1 .left in
+    let after-read : tie.After-read = search in
+    let q = sym (rw (after-read .read .ensures) at (c .before .of-bucket .ensures)) ∙ c .if1 .left in
     rw q
 
 pub drain-at-spec : {M : Type 1} → statement M

@@ -28,7 +28,7 @@ read-requires c κs = search needs
 
 loop-holds : tie.Need-loop-holds Inv-loop μ-loop
 loop-holds c =
-    let s = c .before .before .before in
+    let s : tie.Start Inv-loop μ-loop = search in
     let k = stays (buckets (s .args .settings)) (s .args .g) in (
       search needs,
       search needs,
@@ -39,8 +39,8 @@ loop-holds c =
 
 sift-at-requires : tie.Need-sift-at-requires Inv-loop μ-loop
 sift-at-requires c κs =
-    let s = c .before .before .before .before .before .before in
-    let l = c .before .before .loop in (
+    let at-loop : tie.At-loop Inv-loop μ-loop = search in let s : tie.Start Inv-loop μ-loop = search in
+    let l = at-loop .loop in (
       buffer-low (s .args .most) (words (s .args .t .now)) (length-words (s .args .t .now) ∙ omega arith) (s .pre .few) (buckets (s .args .settings))
           (s .args .g) (l .i) (l .o) (words (l .t)) (omega arith) (l .inv .4) (l .inv .3),
       omega arith,
@@ -55,10 +55,10 @@ loop-less c = search needs
 
 loop-again : tie.Need-loop-again Inv-loop μ-loop
 loop-again c =
-    let after-loop = c .before .before .before .before .before in
-    let s = after-loop .before .before .before .before in
+    let after-sift-at : tie.After-sift-at Inv-loop μ-loop = search in let after-loop : tie.At-loop Inv-loop μ-loop = search in
+    let s : tie.Start Inv-loop μ-loop = search in
     let l = after-loop .loop in
-    let r = c .before .before .sift-at in
+    let r = after-sift-at .sift-at in
     let h : l .i < getD (words (s .args .t .now)) 0 0 = omega arith in (
       search needs,
       search needs,
@@ -77,10 +77,10 @@ same-length c = search needs
 
 returns : tie.Need-returns Inv-loop μ-loop
 returns c =
-    let after-loop = c .before .before .before .before .before in
-    let s = after-loop .before .before .before .before in
+    let after-write : tie.After-write Inv-loop μ-loop = search in let after-loop : tie.At-loop Inv-loop μ-loop = search in
+    let s : tie.Start Inv-loop μ-loop = search in
     let l = after-loop .loop in
-    c .before .before .write .ensures ∙ ap (λ (v : List ℕ). set v 0 (l .o)) (l .inv .4) ∙ buffer-end (s .args .most) (words (s .args .t .now))
+    after-write .write .ensures ∙ ap (λ (v : List ℕ). set v 0 (l .o)) (l .inv .4) ∙ buffer-end (s .args .most) (words (s .args .t .now))
     (length-words (s .args .t .now) ∙ omega arith) (s .pre .few) (buckets (s .args .settings)) (s .args .g) (l .i) (l .o) (omega arith) (l .inv .3)
 
 pub drop-bucket-spec : {M : Type 1} → statement M

@@ -23,7 +23,8 @@ same-length c = search needs
 returns : tie.Need-returns
 unfolding sifted
 returns c =
-    let q = sym (rw (c .before .before .read .ensures) at (c .before .of-bucket .ensures)) ∙ c .if1 .taken in
+    let after-read : tie.After-read = search in
+    let q = sym (rw (after-read .read .ensures) at (c .before .of-bucket .ensures)) ∙ c .if1 .taken in
     record { words = rw q; next = rw q }
 
 mul-move-down : tie.Need-mul-move-down
@@ -50,11 +51,11 @@ same-length-2 c = search needs
 returns-2 : tie.Need-returns-2
 unfolding sifted
 returns-2 c =
-    let after-if1 = c .before .before .before .before in
+    let after-move-down : tie.After-move-down = search in let after-if1 : tie.Else1 = search in
     let after-of-bucket = after-if1 .before in
     let after-read = after-of-bucket .before in
     let q = sym (rw (after-read .read .ensures) at (after-of-bucket .of-bucket .ensures)) ∙ after-if1 .if1 .left in
-    record { words = rw q (c .before .before .move-down .ensures); next = rw q }
+    record { words = rw q (after-move-down .move-down .ensures); next = rw q }
 
 pub sift-at-spec : {M : Type 1} → statement M
 sift-at-spec =

@@ -16,7 +16,8 @@ find-requires c κs = looser (omega arith) (c .before .log .ensures .log)
 
 returns : tie.Need-returns
 returns c =
-    subst (λ (l : List Chunk). FoundIn l (c .before .before .before .before .args .key .0) (c .find .result)) (c .before .before .log .ensures .same) (c .find .ensures)
+    let start : tie.Start = search in let after-log : tie.After-log = search in
+    subst (λ (l : List Chunk). FoundIn l (start .args .key .0) (c .find .result)) (after-log .log .ensures .same) (c .find .ensures)
 
 pub find-at-spec : {M : Type 1} → statement M
 find-at-spec = tie.close (tie.spec log-requires find-requires returns)

@@ -26,23 +26,23 @@ seek-requires-2 c κs = search needs
 
 returns : tie.Need-returns
 returns c =
-    let s = c .before .before .before .before .before .before in
+    let after-home : tie.After-home = search in let after-seek : tie.After-seek = search in let s : tie.Start = search in
     let state = decode (words (s .args .store .now)) in
-    let home = c .before .before .before .before .home .result in
+    let home = after-home .home .result in
     let at = c .before .place .given in
     let h : LiesAt (s .args .settings) state (seek (state .bricks) (s .args .key .0) (between state home ids)) (s .args .key .0) (at .0 .0) (at .0 .1 .0) =
-    rw (at .1) at (c .before .before .before .seek .ensures) in
-    holder-above _ (s .args .store .now) (s .pre) (s .args .key .0) home (c .before .before .before .before .home .ensures) _ _ h
+    rw (at .1) at (after-seek .seek .ensures) in
+    holder-above _ (s .args .store .now) (s .pre) (s .args .key .0) home (after-home .home .ensures) _ _ h
 
 returns-2 : tie.Need-returns-2
 returns-2 c =
-    let s = c .before .before .before .before .before .before in
+    let after-home : tie.After-home = search in let after-seek : tie.After-seek = search in let s : tie.Start = search in
     let state = decode (words (s .args .store .now)) in
-    let home = c .before .before .before .before .home .result in
+    let home = after-home .home .result in
     let z : seek (state .bricks) (s .args .key .0) (between state home ids) ≡ 0 =
-    rw (c .before .enum-told .given .1) at (c .before .before .before .seek .ensures) in
+    rw (c .before .enum-told .given .1) at (after-seek .seek .ensures) in
     subst (λ (i : ℕ). LiesWith (s .args .settings) state i (s .args .key .0) (c .seek2 .result))
-    (holder-below _ (s .args .store .now) (s .pre) (s .args .key .0) home (c .before .before .before .before .home .ensures) z) (c .seek2 .ensures)
+    (holder-below _ (s .args .store .now) (s .pre) (s .args .key .0) home (after-home .home .ensures) z) (c .seek2 .ensures)
 
 pub holder-spec : {M : Type 1} → statement M
 holder-spec =
