@@ -28,25 +28,29 @@ shared-slice-read-if1 c = search needs
 
 returns : tie.Need-returns Inv-loop μ-loop
 returns c =
-    let s = c .before .before .before .before .before .args .body .now in
-    let l = c .before .before .before .loop in
-    word-read s (l .i) (l .inv .0) (l .packed) (λ i _. c .before .before .before .before .shared-slice-known .given i .fits) (l .inv .3)
+    let start : tie.Start Inv-loop μ-loop = search in let at-loop : tie.At-loop Inv-loop μ-loop = search in
+    let after-shared-slice-known : tie.After-shared-slice-known Inv-loop μ-loop = search in
+    let s = start .args .body .now in
+    let l = at-loop .loop in
+    word-read s (l .i) (l .inv .0) (l .packed) (λ i _. after-shared-slice-known .shared-slice-known .given i .fits) (l .inv .3)
     (end-comma s (l .i) (l .inv .2) (omega arith) (c .if1 .taken))
 
 returns-2 : tie.Need-returns-2 Inv-loop μ-loop
 returns-2 c =
-    let s = c .before .before .before .before .before .before .args .body .now in
-    let l = c .before .before .before .before .loop in
+    let start : tie.Start Inv-loop μ-loop = search in let at-loop : tie.At-loop Inv-loop μ-loop = search in
+    let s = start .args .body .now in
+    let l = at-loop .loop in
     word-long s (l .i) (l .inv .2) (omega arith) (c .before .if1 .left) (omega arith)
 
 mul-packed : tie.Need-mul-packed Inv-loop μ-loop
 mul-packed c =
-    let at-shared-slice-known = c .before .before .before .before .before in
-    let l = c .before .before .before .before .loop in
+    let at-loop : tie.At-loop Inv-loop μ-loop = search in let start : tie.Start Inv-loop μ-loop = search in
+    let at-shared-slice-known : tie.After-shared-slice-known Inv-loop μ-loop = search in
+    let l = at-loop .loop in
     omega (
       arith,
       l .inv .3,
-      packed-fits (c .before .before .before .before .before .before .args .body .now)
+      packed-fits (start .args .body .now)
           (λ i. at-shared-slice-known .shared-slice-known .given i .fits) (l .i) (omega arith),
     )
 
@@ -58,14 +62,14 @@ wide-requires c κs = search needs
 
 add-packed : tie.Need-add-packed Inv-loop μ-loop
 add-packed c =
-    let at-loop = c .before .before .before .before .before .before in
+    let start : tie.Start Inv-loop μ-loop = search in let at-loop : tie.At-loop Inv-loop μ-loop = search in
     let at-shared-slice-known = at-loop .before in
     let l = at-loop .loop in
     omega (
       arith,
       l .inv .3,
       c .wide .ensures .1,
-      packed-fits (c .before .before .before .before .before .before .before .before .args .body .now)
+      packed-fits (start .args .body .now)
           (λ i. at-shared-slice-known .shared-slice-known .given i .fits) (l .i) (omega arith),
     )
 
@@ -77,21 +81,23 @@ loop-less c = search needs
 
 loop-again : tie.Need-loop-again Inv-loop μ-loop
 loop-again c =
-    let at-loop = c .before .before .before .before .before .before in
-    let s = c .before .before .before .before .before .before .before .before .args .body .now in
+    let start : tie.Start Inv-loop μ-loop = search in let else1 : tie.Else1 Inv-loop μ-loop = search in
+    let at-loop : tie.At-loop Inv-loop μ-loop = search in
+    let s = start .args .body .now in
     let l = at-loop .loop in (
       omega arith,
       omega arith,
-      end-turn s (l .i) (l .inv .2) (omega arith) (c .before .before .before .if1 .left),
+      end-turn s (l .i) (l .inv .2) (omega arith) (else1 .if1 .left),
       omega
           (arith, packed-turn s (l .i), l .inv .3, c .wide .ensures .0),
     )
 
 returns-3 : tie.Need-returns-3 Inv-loop μ-loop
 returns-3 c =
-    let s = c .before .before .before .args .body .now in
+    let start : tie.Start Inv-loop μ-loop = search in let after-shared-slice-known : tie.After-shared-slice-known Inv-loop μ-loop = search in
+    let s = start .args .body .now in
     let l = c .before .loop in
-    word-read s (l .i) (l .inv .0) (l .packed) (λ i _. c .before .before .shared-slice-known .given i .fits) (l .inv .3)
+    word-read s (l .i) (l .inv .0) (l .packed) (λ i _. after-shared-slice-known .shared-slice-known .given i .fits) (l .inv .3)
     (end-text s (l .i) (l .inv .2) (omega arith))
 
 pub first-word-spec : {M : Type 1} → statement M

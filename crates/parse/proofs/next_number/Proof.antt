@@ -20,12 +20,14 @@ abbrev μ-loop : tie.MeasureT-loop
 
 returns : tie.Need-returns Inv-loop μ-loop
 returns c =
-    let a = c .before .before .args in
+    let start : tie.Start Inv-loop μ-loop = search in
+    let a = start .args in
     first-of-none (fields-from (a .body .now) (a .at)) (from-past (a .body .now) (a .at) (c .if1 .taken))
 
 loop-holds : tie.Need-loop-holds Inv-loop μ-loop
 loop-holds c =
-    let a = c .before .before .args in
+    let start : tie.Start Inv-loop μ-loop = search in
+    let a = start .args in
     (omega arith, omega arith, spelling-from (drop (a .at) (a .body .now)) (a .at))
 
 shared-slice-read-if2 : tie.Need-shared-slice-read-if2 Inv-loop μ-loop
@@ -33,8 +35,9 @@ shared-slice-read-if2 c = search needs
 
 closed-requires : tie.Need-closed-requires Inv-loop μ-loop
 closed-requires c κs =
-    let a = c .before .before .before .before .before .before .args in
-    let l = c .before .before .before .loop in
+    let start : tie.Start Inv-loop μ-loop = search in let at-loop : tie.At-loop Inv-loop μ-loop = search in
+    let a = start .args in
+    let l = at-loop .loop in
     closed-comma (a .body .now) (a .at) (l .i) (l .number) (l .inv .0) (l .inv .1) (l .inv .2) (omega arith) (c .if2 .taken)
 
 returns-2 : tie.Need-returns-2 Inv-loop μ-loop
@@ -54,12 +57,14 @@ enum-told c = search needs
 
 returns-3 : tie.Need-returns-3 Inv-loop μ-loop
 returns-3 c =
-    let a = c .before .before .before .before .before .before .before .before .before .before .args in
+    let start : tie.Start Inv-loop μ-loop = search in let at-loop : tie.At-loop Inv-loop μ-loop = search in
+    let after-push-digit : tie.After-push-digit Inv-loop μ-loop = search in let else2 : tie.Else2 Inv-loop μ-loop = search in
+    let a = start .args in
     let s = a .body .now in
-    let l = c .before .before .before .before .before .before .before .loop in
+    let l = at-loop .loop in
     let e : push (l .number) (getD s (l .i) 0) ≡ none =
-    answer-malformed (push (l .number) (getD s (l .i) 0)) (sym (c .before .before .push-digit .ensures) ∙ c .enum-told .given .1) in
-    number-stop s (a .at) (l .i) (l .number) (l .inv .0) (l .inv .1) (l .inv .2) (omega arith) (c .before .before .before .before .if2 .left) e
+    answer-malformed (push (l .number) (getD s (l .i) 0)) (sym (after-push-digit .push-digit .ensures) ∙ c .enum-told .given .1) in
+    number-stop s (a .at) (l .i) (l .number) (l .inv .0) (l .inv .1) (l .inv .2) (omega arith) (else2 .if2 .left) e
 
 add-i : tie.Need-add-i Inv-loop μ-loop
 add-i c = search needs
@@ -69,19 +74,20 @@ loop-less c = search needs
 
 loop-again : tie.Need-loop-again Inv-loop μ-loop
 loop-again c =
-    let at-if2 = c .before .before .before .before .before in
-    let at-loop = at-if2 .before .before .before in
-    let a = c .before .before .before .before .before .before .before .before .before .before .before .args in
+    let start : tie.Start Inv-loop μ-loop = search in let after-push-digit : tie.After-push-digit Inv-loop μ-loop = search in
+    let at-if2 : tie.Else2 Inv-loop μ-loop = search in let at-loop : tie.At-loop Inv-loop μ-loop = search in
+    let a = start .args in
     let s = a .body .now in
     let l = at-loop .loop in
     let w = c .before .next .given .0 .0 in
     let e : push (l .number) (getD s (l .i) 0) ≡ some w =
-    answer-value (push (l .number) (getD s (l .i) 0)) w (sym (c .before .before .before .push-digit .ensures) ∙ c .before .next .given .1) in
+    answer-value (push (l .number) (getD s (l .i) 0)) w (sym (after-push-digit .push-digit .ensures) ∙ c .before .next .given .1) in
     (omega arith, omega arith, number-turn s (a .at) (l .i) (l .number) (l .inv .0) (l .inv .1) (l .inv .2) (omega arith) (at-if2 .if2 .left) w e)
 
 closed-requires-2 : tie.Need-closed-requires-2 Inv-loop μ-loop
 closed-requires-2 c κs =
-    let a = c .before .before .before .before .args in
+    let start : tie.Start Inv-loop μ-loop = search in
+    let a = start .args in
     let l = c .before .loop in
     closed-end (a .body .now) (a .at) (l .i) (l .number) (l .inv .0) (l .inv .1) (l .inv .2) (omega arith)
 
