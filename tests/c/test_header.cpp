@@ -20,7 +20,7 @@ static void store_calls()
     std::vector<uint8_t> store(disk_length(3, 8, 2, 4));
     const uint8_t data[8] = {1, 2, 3, 4, 5, 6, 7, 8}, zero[8] = {0};
     uint8_t answer[8];
-    expect(store.size() == 11712, "length");
+    expect(store.size() == 11720, "length");
     expect(disk_format(store.data(), store.size(), 3, 8, 2, 4) == DISK_OK, "format");
     expect(disk_check(store.data(), store.size()) == DISK_OK, "check");
     const disk_step_answer learnt = disk_step(store.data(), store.size(), DISK_LEARN, 0, 0, 0, data, 0, zero, 0, answer, 0);

@@ -55,7 +55,7 @@ static void format_refused(position position)
 /* The primary and the backup of a bucket, as docs/LAYOUT.md places them. */
 static bool pair_is(const lent *lent, size_t bucket, uint64_t primary, uint64_t backup)
 {
-    size_t at = 7 + 8 * bucket;
+    size_t at = HEADER_WORDS + 8 * bucket;
     return word(&lent->store, at) == primary && word(&lent->store, at + 1) == backup;
 }
 
@@ -89,7 +89,7 @@ static void likeness(position position)
     accept(&other, DISK_RISE, 2, 0);
     accept(&other, DISK_VIEW, 0, 0);
     EXPECT(alike(&one.store, &other.store) == 1);
-    set_word(&wider.store, 0, 9);
+    set_word(&wider.store, 1, 9);
     EXPECT(alike(&one.store, &wider.store) == 2 && alike(&wider.store, &one.store) == 2);
     EXPECT(disk_alike(one.store.bytes, one.store.length, other.store.bytes, 0) == 2);
     end(&one);
