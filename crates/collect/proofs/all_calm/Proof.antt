@@ -31,7 +31,8 @@ calm-requires c κs = search needs
 
 returns : tie.Need-returns Inv-loop μ-loop
 returns c =
-    sym (all-false _ _ (c .before .before .before .loop .bucket) (omega arith) (sym (c .before .calm .ensures) ∙ not-true _ (c .if1 .taken)))
+    let at-loop : tie.At-loop Inv-loop μ-loop = search in
+    sym (all-false _ _ (at-loop .loop .bucket) (omega arith) (sym (c .before .calm .ensures) ∙ not-true _ (c .if1 .taken)))
 
 add-bucket : tie.Need-add-bucket Inv-loop μ-loop
 add-bucket c = search needs
@@ -40,12 +41,13 @@ loop-less : tie.Need-loop-less Inv-loop μ-loop
 loop-less c = search needs
 
 loop-again : tie.Need-loop-again Inv-loop μ-loop
-loop-again c = (
-  search needs,
-  search needs,
-  below-more _ (c .before .before .before .loop .bucket) (c .before .before .before .loop .inv .2)
-      (sym (c .before .calm .ensures) ∙ not-false _ (c .if1 .left)),
-)
+loop-again c =
+    let at-loop : tie.At-loop Inv-loop μ-loop = search in (
+      search needs,
+      search needs,
+      below-more _ (at-loop .loop .bucket) (at-loop .loop .inv .2)
+          (sym (c .before .calm .ensures) ∙ not-false _ (c .if1 .left)),
+    )
 
 returns-2 : tie.Need-returns-2 Inv-loop μ-loop
 returns-2 c = sym (all-true _ _ (λ k h. c .before .loop .inv .2 k (omega arith)))

@@ -29,7 +29,8 @@ empty-or-up-requires c κs = search needs
 
 returns : tie.Need-returns Inv-loop μ-loop
 returns c =
-    sym (all-false _ _ (c .before .before .before .before .loop .place) (omega arith) (sym (c .before .empty-or-up .ensures) ∙ not-true _ (c .if2 .taken)))
+    let at-loop : tie.At-loop Inv-loop μ-loop = search in
+    sym (all-false _ _ (at-loop .loop .place) (omega arith) (sym (c .before .empty-or-up .ensures) ∙ not-true _ (c .if2 .taken)))
 
 add-place : tie.Need-add-place Inv-loop μ-loop
 add-place c = search needs
@@ -38,14 +39,17 @@ loop-less : tie.Need-loop-less Inv-loop μ-loop
 loop-less c = search needs
 
 loop-again : tie.Need-loop-again Inv-loop μ-loop
-loop-again c = (
-  search needs,
-  below-more _ (c .before .before .before .before .loop .place) (c .before .before .before .before .loop .inv .1)
-      (sym (c .before .empty-or-up .ensures) ∙ not-false _ (c .if2 .left)),
-)
+loop-again c =
+    let at-loop : tie.At-loop Inv-loop μ-loop = search in (
+      search needs,
+      below-more _ (at-loop .loop .place) (at-loop .loop .inv .1)
+          (sym (c .before .empty-or-up .ensures) ∙ not-false _ (c .if2 .left)),
+    )
 
 returns-2 : tie.Need-returns-2 Inv-loop μ-loop
-returns-2 c = sym (all-true _ _ (λ k h. c .before .before .loop .inv .1 k (omega arith)))
+returns-2 c =
+    let at-loop : tie.At-loop Inv-loop μ-loop = search in
+    sym (all-true _ _ (λ k h. at-loop .loop .inv .1 k (omega arith)))
 
 pub all-up-spec : {M : Type 1} → statement M
 all-up-spec =

@@ -13,7 +13,7 @@ asks-requires c κs = search needs
 
 returns : tie.Need-returns
 returns c =
-    let b = c .before .before .before in
+    let b : tie.Start = search in
     stops-there (place-asks (decode (words (b .args .store .now))) (b .args .place)) _ (c .before .asks .ensures) (c .if1 .taken)
 
 idle-asks-requires : tie.Need-idle-asks-requires
@@ -22,8 +22,8 @@ idle-asks-requires c κs = search needs
 returns-2 : tie.Need-returns-2
 unfolding _and_
 returns-2 c =
-    let b = c .before .before .before .before in
-    goes-on (place-asks (decode (words (b .args .store .now))) (b .args .place)) _ refl (c .before .before .asks .ensures) (c .before .if1 .left)
+    let after-asks : tie.After-asks = search in let b : tie.Start = search in
+    goes-on (place-asks (decode (words (b .args .store .now))) (b .args .place)) _ refl (after-asks .asks .ensures) (c .before .if1 .left)
     (c .idle-asks .ensures)
 
 pub asks-spec : {M : Type 1} → statement M

@@ -26,17 +26,17 @@ same-length c = search needs
 returns : tie.Need-returns
 unfolding rule
 returns c =
-    let b = c .before .before .before .before in
+    let b : tie.Start = search in
     refused (Event.collect (b .args .place)) (words (b .args .store .now)) (b .pre .sound) _ (c .before .asks .ensures) (c .if1 .taken)
 
 collect-log-requires : tie.Need-collect-log-requires
 unfolding _and_
 collect-log-requires c κs =
-    let b = c .before .before .before .before .before in
+    let after-asks : tie.After-asks = search in let b : tie.Start = search in
     let k = b .args .settings in
     let bs = b .args .store .now in
     let s = decode (words bs) in
-    let none = sym (c .before .before .asks .ensures) ∙ c .before .if1 .left in
+    let none = sym (after-asks .asks .ensures) ∙ c .before .if1 .left in
     let y = place-yes k bs (b .pre) (b .args .place) (front-none (place-asks s (b .args .place)) _ none) in
     record {
       store = b .pre;
@@ -52,9 +52,8 @@ same-length-2 c = search needs
 returns-2 : tie.Need-returns-2
 unfolding rule
 returns-2 c =
-    let asked = c .before .before .before .before in
-    let b = asked .before .before .before .before in
-    let done = c .before .before .collect-log in
+    let after-collect-log : tie.After-collect-log = search in let asked : tie.Else1 = search in let b : tie.Start = search in
+    let done = after-collect-log .collect-log in
     accepted (Event.collect (b .args .place)) (words (b .args .store .now)) (words (done .last .0)) (sym (asked .before .asks .ensures) ∙ asked .if1 .left)
     (done .ensures)
 

@@ -13,8 +13,7 @@ lies : (c : tie.After-log-at)
     let a = n .before .before .before .before .before .args in
     Lies (a .settings) (a .store .now) (a .place) (n .all-named .last .1 .1 .0) (c .before .place-at .result + c .log-at .result)
 lies c =
-    let n = c .before .before .before .before in
-    let s = n .before .before .before .before .before in
+    let n : tie.After-all-named = search in let s : tie.Start = search in
     record {
       there = s .pre .0;
       known = n .all-named .ensures;
@@ -31,15 +30,19 @@ log-at-requires : tie.Need-log-at-requires
 log-at-requires c κs = search needs
 
 add-at : tie.Need-add-at
-add-at c = omega (arith, store-small _ (c .before .before .before .before .before .before .before .before .before .pre .0 .store .limits))
+add-at c =
+    let start : tie.Start = search in
+    omega (arith, store-small _ (start .pre .0 .store .limits))
 
 mark-tables-requires : tie.Need-mark-tables-requires
-mark-tables-requires c κs = let o = lies (c .before .before) in (log-in _ _ _ _ _ o, tables-in _ _ _ _ _ o)
+mark-tables-requires c κs =
+    let after-log-at : tie.After-log-at = search in
+    let o = lies after-log-at in (log-in _ _ _ _ _ o, tables-in _ _ _ _ _ o)
 
 sweep-log-requires : tie.Need-sweep-log-requires
 sweep-log-requires c κs =
-    let m = c .before .before .before in
-    log-still _ _ _ _ _ (lies (m .before .before .before)) _ _ _ (m .mark-tables .ensures) (omega arith)
+    let after-log-at : tie.After-log-at = search in let m : tie.After-mark-tables = search in
+    log-still _ _ _ _ _ (lies after-log-at) _ _ _ (m .mark-tables .ensures) (omega arith)
 
 same-length : tie.Need-same-length
 same-length c = search needs
@@ -49,10 +52,9 @@ same-length-2 c = search needs
 
 returns : tie.Need-returns
 returns c =
-    let w = c .before .before in
-    let m = w .before .before .before .before in
-    let o = lies (m .before .before .before) in
-    let k = c .before .before .before .before .before .before .before .before .before .before .before .before .before .before .before .before .before in
+    let after-log-at : tie.After-log-at = search in let w : tie.After-sweep-log = search in let m : tie.After-mark-tables = search in
+    let o = lies after-log-at in
+    let k : tie.After-slice-known = search in
     collected _ _ _ _ _ o (below-of 256 _ (λ i. k .slice-known .given i .fits)) _ _ (m .mark-tables .ensures) (w .sweep-log .ensures)
 
 pub collect-in-spec : {M : Type 1} → statement M

@@ -14,7 +14,9 @@ part-tables-start : tie.Need-part-tables-start
 part-tables-start c = search needs
 
 part-tables-end : tie.Need-part-tables-end
-part-tables-end c = omega (arith, few-buckets (c .before .before .before .args .settings), c .before .buckets .ensures)
+part-tables-end c =
+    let start : tie.Start = search in
+    omega (arith, few-buckets (start .args .settings), c .before .buckets .ensures)
 
 collect-in-requires : tie.Need-collect-in-requires
 collect-in-requires c κs = search needs

@@ -17,7 +17,8 @@ up-member-requires c κs = search needs
 
 returns-2 : tie.Need-returns-2
 returns-2 c =
-    c .up-member .ensures ∙ sym (or-no _ _ (ne-eqb _ 0 (λ z. c .before .if1 .left (c .before .before .id .ensures ∙ z))))
+    let after-id : tie.After-id = search in
+    c .up-member .ensures ∙ sym (or-no _ _ (ne-eqb _ 0 (λ z. c .before .if1 .left (after-id .id .ensures ∙ z))))
 
 pub empty-or-up-spec : {M : Type 1} → statement M
 empty-or-up-spec = tie.close (tie.spec id-requires returns up-member-requires returns-2)

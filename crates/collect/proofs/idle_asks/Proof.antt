@@ -17,7 +17,7 @@ use Rattle.collect.proofs.idle_asks.Tie as tie
 ups : (c : tie.After-all-up) {x : Bool} → c .all-up .result ≡ x
     → let s = decode (words (c .before .before .args .store .now)) in all-below (s .settings .places) (λ p. is-empty s p or up-member s (s .ids p)) ≡ x
 ups c q =
-    let b = c .before .before in
+    let b : tie.Start = search in
     let s = decode (words (b .args .store .now)) in
     ap (λ (d : Settings). all-below (d .places) (λ p. is-empty s p or up-member s (s .ids p))) (settings-are (b .args .settings) (b .args .store .now) (b .pre))
     ∙ sym (c .all-up .ensures) ∙ q
@@ -25,7 +25,7 @@ ups c q =
 calms : (c : tie.After-all-calm) {x : Bool} → c .all-calm .result ≡ x
     → let s = decode (words (c .before .before .before .before .args .store .now)) in all-below (buckets (s .settings)) (λ g. calm (s .bucket g)) ≡ x
 calms c q =
-    let b = c .before .before .before .before in
+    let b : tie.Start = search in
     let s = decode (words (b .args .store .now)) in
     ap (λ (d : Settings). all-below (buckets d) (λ g. calm (s .bucket g))) (settings-are (b .args .settings) (b .args .store .now) (b .pre))
     ∙ sym (c .all-calm .ensures) ∙ q
@@ -41,7 +41,7 @@ all-calm-requires c κs = search needs
 
 returns-2 : tie.Need-returns-2
 returns-2 c =
-    let up = c .before .before in
+    let up : tie.Else1 = search in
     sym (first-yes 13 _ (ups (up .before) (not-false _ (up .if1 .left))) ∙ first-stop 13 _ (calms (c .before) (not-true _ (c .if2 .taken))))
 
 no-items-requires : tie.Need-no-items-requires
@@ -49,15 +49,13 @@ no-items-requires c κs = search needs
 
 returns-3 : tie.Need-returns-3
 returns-3 c =
-    let calm = c .before .before in
-    let up = calm .before .before in
+    let calm : tie.Else2 = search in let up : tie.Else1 = search in
     sym (first-yes 13 _ (ups (up .before) (not-false _ (up .if1 .left))) ∙ first-yes 13 _ (calms (calm .before) (not-false _ (calm .if2 .left)))
     ∙ first-yes 13 _ (sym (c .before .no-items .ensures) ∙ c .if3 .taken) ∙ none-asked)
 
 returns-4 : tie.Need-returns-4
 returns-4 c =
-    let calm = c .before .before in
-    let up = calm .before .before in
+    let calm : tie.Else2 = search in let up : tie.Else1 = search in
     sym (first-yes 13 _ (ups (up .before) (not-false _ (up .if1 .left))) ∙ first-yes 13 _ (calms (calm .before) (not-false _ (calm .if2 .left)))
     ∙ first-stop 13 _ (sym (c .before .no-items .ensures) ∙ c .if3 .left))
 

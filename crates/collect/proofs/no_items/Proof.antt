@@ -26,7 +26,9 @@ proxies-at-requires : tie.Need-proxies-at-requires Inv-loop μ-loop
 proxies-at-requires c κs = search needs
 
 add-at : tie.Need-add-at Inv-loop μ-loop
-add-at c = omega (arith, few-buckets (c .before .before .args .settings), c .proxies-at .ensures)
+add-at c =
+    let start : tie.Start Inv-loop μ-loop = search in
+    omega (arith, few-buckets (start .args .settings), c .proxies-at .ensures)
 
 loop-holds : tie.Need-loop-holds Inv-loop μ-loop
 loop-holds c = (search needs, below-none _)
@@ -42,8 +44,7 @@ read-requires c κs = search needs
 
 returns : tie.Need-returns Inv-loop μ-loop
 returns c =
-    let l = c .before .before .before in
-    let s = l .before .before .before in
+    let l : tie.At-loop Inv-loop μ-loop = search in let s : tie.Start Inv-loop μ-loop = search in
     let e = items-count (s .args .settings) (s .args .store .now) (s .pre) (l .loop .proxy) (omega arith)
     (l .before .proxies-at .result + 1) (omega (arith, l .before .proxies-at .ensures)) in
     sym (all-false _ _ (l .loop .proxy) (omega arith) (ne-eqb _ 0 (λ z. c .if1 .taken (c .before .read .ensures ∙ sym e ∙ z))))
@@ -56,8 +57,7 @@ loop-less c = search needs
 
 loop-again : tie.Need-loop-again Inv-loop μ-loop
 loop-again c =
-    let l = c .before .before .before in
-    let s = l .before .before .before in
+    let l : tie.At-loop Inv-loop μ-loop = search in let s : tie.Start Inv-loop μ-loop = search in
     let e = items-count (s .args .settings) (s .args .store .now) (s .pre) (l .loop .proxy) (omega arith)
     (l .before .proxies-at .result + 1) (omega (arith, l .before .proxies-at .ensures)) in (
       search needs,

@@ -43,8 +43,7 @@ loop-less c = search needs
 
 loop-again : tie.Need-loop-again Inv-loop μ-loop
 loop-again c =
-    let l = c .before .before in
-    let s = l .before .before .before .before in
+    let l : tie.At-loop Inv-loop μ-loop = search in let s : tie.Start Inv-loop μ-loop = search in
     let a = s .args in (
       search needs,
       search needs,
@@ -59,7 +58,7 @@ same-length c = search needs
 returns : tie.Need-returns Inv-loop μ-loop
 returns c =
     let l = c .before in
-    let s = l .before .before .before .before in
+    let s : tie.Start Inv-loop μ-loop = search in
     record { store = s .pre .0; many = l .loop .inv .2 ∙ s .pre .1; lie = λ g p. l .loop .inv .3 g (omega arith) }
 
 pub all-named-spec : {M : Type 1} → statement M

@@ -18,35 +18,36 @@ enum-known-place c = search needs
 
 place-at-requires : tie.Need-place-at-requires
 place-at-requires c κs =
-    let s = c .before .before .before .before .before in
+    let after-place-of : tie.After-place-of = search in let s : tie.Start = search in
     let h : Stands (s .args .settings) (decode (words (s .args .store .now))) (s .args .id) (c .before .place .given .0 .0) =
-    rw (c .before .place .given .1) at (c .before .before .before .place-of .ensures) in
+    rw (c .before .place .given .1) at (after-place-of .place-of .ensures) in
     (s .pre .0 .limits, h .inside)
 
 memory-at-requires : tie.Need-memory-at-requires
 memory-at-requires c κs = search needs
 
 add-result : tie.Need-add-result
-add-result c = omega (arith, store-small _ (c .before .before .before .before .before .before .before .pre .0 .limits))
+add-result c =
+    let start : tie.Start = search in
+    omega (arith, store-small _ (start .pre .0 .limits))
 
 enum-told : tie.Need-enum-told
 enum-told c = search needs
 
 returns : tie.Need-returns
 returns c =
-    let m = c .before .before .before in
-    let s = m .before .before .before .before in
+    let after-place-of : tie.After-place-of = search in let m : tie.After-place = search in let s : tie.Start = search in
     let a = s .args in
     let h : Stands (a .settings) (decode (words (a .store .now))) (a .id) (m .place .given .0 .0) = rw (m .place .given .1) at
-    (m .before .before .place-of .ensures) in
+    (after-place-of .place-of .ensures) in
     memory-lies (a .settings) (a .store .now) (s .pre .0) (a .bucket) (s .pre .1) (a .id) (m .place .given .0 .0) _ h
     (omega (arith, c .before .place-at .ensures .0, c .memory-at .ensures .0))
 
 returns-2 : tie.Need-returns-2
 returns-2 c =
-    let s = c .before .before .before .before in
+    let after-place-of : tie.After-place-of = search in let s : tie.Start = search in
     let a = s .args in
-    let h : brick-in (decode (words (a .store .now))) (a .id) ≡ blank-brick = rw (c .enum-told .given .1) at (c .before .before .place-of .ensures) in
+    let h : brick-in (decode (words (a .store .now))) (a .id) ≡ blank-brick = rw (c .enum-told .given .1) at (after-place-of .place-of .ensures) in
     memory-none (a .settings) (a .store .now) (s .pre .0) (a .bucket) (s .pre .1) (a .id) h
 
 pub memory-at-spec : {M : Type 1} → statement M

@@ -13,15 +13,15 @@ memory-at-requires c κs = search needs
 
 returns : tie.Need-returns
 returns c =
-    let s = c .before .before .before .before in
+    let after-agreed : tie.After-agreed = search in let s : tie.Start = search in
     let a = s .args in
-    let r = c .before .before .agreed .ensures in
+    let r = after-agreed .agreed .ensures in
     named-ready (a .settings) (a .store .now) (s .pre .0) (a .bucket) (s .pre .1) _ _ (sym (ap (λ (x : Agreed). x .ready) r) ∙ c .before .if1 .taken)
     (sym (ap (λ (x : Agreed). x .primary) r)) (c .memory-at .ensures)
 
 returns-2 : tie.Need-returns-2
 returns-2 c =
-    let s = c .before .before .before in
+    let s : tie.Start = search in
     let a = s .args in
     named-none (a .settings) (a .store .now) (s .pre .0) (a .bucket) (s .pre .1)
     (sym (ap (λ (x : Agreed). x .ready) (c .before .agreed .ensures)) ∙ c .if1 .left)

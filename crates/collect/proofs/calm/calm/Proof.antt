@@ -14,11 +14,11 @@ agreed-requires c κs = search needs
 
 returns : tie.Need-returns
 returns c =
-    let s = c .before .before .before .before in
+    let after-agreed : tie.After-agreed = search in let s : tie.Start = search in
     let a = s .args in
     let k = decode (words (a .store .now)) .bucket (a .bucket) in
     let t = bucket-tables (a .settings) (a .store .now) (s .pre .0) (a .bucket) (s .pre .1) in
-    let r = c .before .before .agreed .ensures in
+    let r = after-agreed .agreed .ensures in
     sym (not-ready k t (sym (ap (λ (x : Agreed). x .ready) r) ∙ not-true _ (c .if1 .taken)))
 
 settled-requires : tie.Need-settled-requires
@@ -26,11 +26,11 @@ settled-requires c κs = search needs
 
 returns-2 : tie.Need-returns-2
 returns-2 c =
-    let s = c .before .before .before .before .before .before in
+    let after-agreed : tie.After-agreed = search in let s : tie.Start = search in
     let a = s .args in
     let k = decode (words (a .store .now)) .bucket (a .bucket) in
     let t = bucket-tables (a .settings) (a .store .now) (s .pre .0) (a .bucket) (s .pre .1) in
-    let r = c .before .before .before .before .agreed .ensures in
+    let r = after-agreed .agreed .ensures in
     sym (not-settled-primary k t _ (sym (ap (λ (x : Agreed). x .primary) r)) (sym (c .before .settled .ensures) ∙ not-true _ (c .if2 .taken)))
 
 settled-requires-2 : tie.Need-settled-requires-2
@@ -38,11 +38,11 @@ settled-requires-2 c κs = search needs
 
 returns-3 : tie.Need-returns-3
 returns-3 c =
-    let s = c .before .before .before .before .before .before .before .before in
+    let after-agreed : tie.After-agreed = search in let s : tie.Start = search in
     let a = s .args in
     let k = decode (words (a .store .now)) .bucket (a .bucket) in
     let t = bucket-tables (a .settings) (a .store .now) (s .pre .0) (a .bucket) (s .pre .1) in
-    let r = c .before .before .before .before .before .before .agreed .ensures in
+    let r = after-agreed .agreed .ensures in
     sym (not-settled-backup k t _ (sym (ap (λ (x : Agreed). x .backup) r)) (sym (c .before .settled2 .ensures) ∙ not-true _ (c .if3 .taken)))
 
 same-memory-requires : tie.Need-same-memory-requires
@@ -50,13 +50,12 @@ same-memory-requires c κs = search needs
 
 returns-4 : tie.Need-returns-4
 returns-4 c =
-    let s = c .before .before .before .before .before .before .before .before .before in
+    let after-agreed : tie.After-agreed = search in let s : tie.Start = search in
     let a = s .args in
     let k = decode (words (a .store .now)) .bucket (a .bucket) in
     let t = bucket-tables (a .settings) (a .store .now) (s .pre .0) (a .bucket) (s .pre .1) in
-    let two = c .before .before in
-    let one = two .before .before in
-    let r = one .before .before .before .agreed .ensures in
+    let two : tie.After-settled2 = search in let one : tie.After-settled = search in
+    let r = after-agreed .agreed .ensures in
     c .same-memory .ensures
     ∙ sym (calm-last k t _ _ (sym (ap (λ (x : Agreed). x .primary) r)) (sym (ap (λ (x : Agreed). x .backup) r))
     (sym (ap (λ (x : Agreed). x .ready) r) ∙ not-false _ (one .before .if1 .left)) (sym (one .settled .ensures) ∙ not-false _ (two .before .if2 .left))

@@ -23,10 +23,10 @@ enum-known-place c = search needs
 
 memory-requires : tie.Need-memory-requires
 memory-requires c κs =
-    let s = c .before .before .before .before .before in
+    let after-place-of : tie.After-place-of = search in let s : tie.Start = search in
     let a = s .args in
     let h : Stands (a .settings) (decode (words (a .store .now))) (a .id) (c .before .place .given .0 .0) =
-    rw (c .before .place .given .1) at (c .before .before .before .place-of .ensures) in
+    rw (c .before .place .given .1) at (after-place-of .place-of .ensures) in
     (s .pre .0, h .inside, subst (λ (n : ℕ). 0 < n) (sym (h .here)) (h .some), s .pre .1)
 
 read-requires : tie.Need-read-requires
@@ -37,19 +37,19 @@ enum-told c = search needs
 
 returns : tie.Need-returns
 returns c =
-    let s = c .before .before .before .before .before .before .before in
+    let after-place : tie.After-place = search in let after-place-of : tie.After-place-of = search in let s : tie.Start = search in
     let a = s .args in
-    let h : Stands (a .settings) (decode (words (a .store .now))) (a .id) (c .before .before .before .place .given .0 .0) =
-    rw (c .before .before .before .place .given .1) at (c .before .before .before .before .before .place-of .ensures) in
+    let h : Stands (a .settings) (decode (words (a .store .now))) (a .id) (after-place .place .given .0 .0) =
+    rw (after-place .place .given .1) at (after-place-of .place-of .ensures) in
     let k = decode (words (a .store .now)) .bucket (a .bucket) in
     let e = c .before .memory .ensures .same ∙ ap (k .memory) (h .here) in
     ap (λ (n : ℕ). eqb n 0) (c .read .ensures ∙ sym (count-is (a .settings .entries) _) ∙ ap length e) ∙ none-same (k .memory (a .id))
 
 returns-2 : tie.Need-returns-2
 returns-2 c =
-    let s = c .before .before .before .before in
+    let after-place-of : tie.After-place-of = search in let s : tie.Start = search in
     let a = s .args in
-    let h : brick-in (decode (words (a .store .now))) (a .id) ≡ blank-brick = rw (c .enum-told .given .1) at (c .before .before .place-of .ensures) in
+    let h : brick-in (decode (words (a .store .now))) (a .id) ≡ blank-brick = rw (c .enum-told .given .1) at (after-place-of .place-of .ensures) in
     sym (ap (λ (b : Brick). same-entries [] (b .copies (a .bucket) .memory)) h ∙ same-self [])
 
 pub clear-spec : {M : Type 1} → statement M

@@ -24,10 +24,10 @@ clear-requires c κs = search needs
 
 returns : tie.Need-returns
 returns c =
-    let s = c .before .before .before .before .before in
+    let after-place-of : tie.After-place-of = search in let s : tie.Start = search in
     let a = s .args in
     let h : brick-in (decode (words (a .store .now))) (a .one) ≡ blank-brick =
-    rw (c .before .enum-told .given .1) at (c .before .before .before .place-of .ensures) in
+    rw (c .before .enum-told .given .1) at (after-place-of .place-of .ensures) in
     let k = decode (words (a .store .now)) .bucket (a .bucket) in
     c .clear .ensures ∙ sym (ap (λ (b : Brick). same-entries (b .copies (a .bucket) .memory) (k .memory (a .two))) h)
 
@@ -45,34 +45,35 @@ clear-requires-2 c κs = search needs
 
 returns-2 : tie.Need-returns-2
 returns-2 c =
+    let after-place-of2 : tie.After-place-of2 = search in
     let m = c .before in
-    let s = m .before .before .before .before .before .before .before .before in
+    let s : tie.Start = search in
     let a = s .args in
     let h : brick-in (decode (words (a .store .now))) (a .two) ≡ blank-brick =
-    rw (m .enum-told2 .given .1) at (m .before .before .place-of2 .ensures) in
+    rw (m .enum-told2 .given .1) at (after-place-of2 .place-of2 .ensures) in
     let k = decode (words (a .store .now)) .bucket (a .bucket) in
     c .clear2 .ensures ∙ sym (ap (λ (b : Brick). same-entries (k .memory (a .one)) (b .copies (a .bucket) .memory)) h ∙ same-none (k .memory (a .one)))
 
 memory-requires : tie.Need-memory-requires
 memory-requires c κs =
-    let s = c .before .before .before .before .before .before .before .before .before in
+    let after-first : tie.After-first = search in let after-place-of : tie.After-place-of = search in
+    let after-place-of2 : tie.After-place-of2 = search in let s : tie.Start = search in
     let a = s .args in
-    let f : Stands (a .settings) (decode (words (a .store .now))) (a .one) (c .before .before .before .before .before .first .given .0 .0) =
-    rw (c .before .before .before .before .before .first .given .1) at (c .before .before .before .before .before .before .before .place-of .ensures) in
+    let f : Stands (a .settings) (decode (words (a .store .now))) (a .one) (after-first .first .given .0 .0) =
+    rw (after-first .first .given .1) at (after-place-of .place-of .ensures) in
     let h : Stands (a .settings) (decode (words (a .store .now))) (a .two) (c .before .second .given .0 .0) =
-    rw (c .before .second .given .1) at (c .before .before .before .place-of2 .ensures) in
+    rw (c .before .second .given .1) at (after-place-of2 .place-of2 .ensures) in
     (s .pre .0, f .inside, subst (λ (n : ℕ). 0 < n) (sym (f .here)) (f .some), s .pre .1)
 
 memory-requires-2 : tie.Need-memory-requires-2
 memory-requires-2 c κs =
-    let at-first = c .before .before .before .before .before .before in
-    let at-place-of = at-first .before .before in
-    let s = at-place-of .before .before in
+    let after-second : tie.After-second = search in let after-place-of2 : tie.After-place-of2 = search in let at-first : tie.After-first = search in
+    let at-place-of : tie.After-place-of = search in let s : tie.Start = search in
     let a = s .args in
     let f : Stands (a .settings) (decode (words (a .store .now))) (a .one) (at-first .first .given .0 .0) =
     rw (at-first .first .given .1) at (at-place-of .place-of .ensures) in
-    let h : Stands (a .settings) (decode (words (a .store .now))) (a .two) (c .before .before .second .given .0 .0) =
-    rw (c .before .before .second .given .1) at (c .before .before .before .before .place-of2 .ensures) in
+    let h : Stands (a .settings) (decode (words (a .store .now))) (a .two) (after-second .second .given .0 .0) =
+    rw (after-second .second .given .1) at (after-place-of2 .place-of2 .ensures) in
     (s .pre .0, h .inside, subst (λ (n : ℕ). 0 < n) (sym (h .here)) (h .some), s .pre .1)
 
 same-requires : tie.Need-same-requires
@@ -80,17 +81,15 @@ same-requires c κs = search needs
 
 returns-3 : tie.Need-returns-3
 returns-3 c =
-    let at-place-of2 = c .before .before .before .before .before .before in
-    let at-first = at-place-of2 .before .before in
-    let at-place-of = at-first .before .before in
-    let s = at-place-of .before .before in
+    let after-second : tie.After-second = search in let after-memory : tie.After-memory = search in let at-place-of2 : tie.After-place-of2 = search in
+    let at-first : tie.After-first = search in let at-place-of : tie.After-place-of = search in let s : tie.Start = search in
     let a = s .args in
     let f : Stands (a .settings) (decode (words (a .store .now))) (a .one) (at-first .first .given .0 .0) =
     rw (at-first .first .given .1) at (at-place-of .place-of .ensures) in
-    let h : Stands (a .settings) (decode (words (a .store .now))) (a .two) (c .before .before .before .before .second .given .0 .0) =
-    rw (c .before .before .before .before .second .given .1) at (at-place-of2 .place-of2 .ensures) in
+    let h : Stands (a .settings) (decode (words (a .store .now))) (a .two) (after-second .second .given .0 .0) =
+    rw (after-second .second .given .1) at (at-place-of2 .place-of2 .ensures) in
     let k = decode (words (a .store .now)) .bucket (a .bucket) in
-    lent-same _ _ _ (k .memory (a .one)) (k .memory (a .two)) (c .same .ensures) (c .before .before .memory .ensures .same ∙ ap (k .memory) (f .here))
+    lent-same _ _ _ (k .memory (a .one)) (k .memory (a .two)) (c .same .ensures) (after-memory .memory .ensures .same ∙ ap (k .memory) (f .here))
     (c .before .memory2 .ensures .same ∙ ap (k .memory) (h .here))
 
 pub same-memory-spec : {M : Type 1} → statement M

@@ -30,19 +30,18 @@ part-mark-key-end c = search needs
 
 mark-key-requires : tie.Need-mark-key-requires
 mark-key-requires c κs =
-    let s = c .before .before .before .before in
+    let after-log-words : tie.After-log-words = search in let s : tie.Start = search in
     let a = 8 * s .args .at in
-    lent-log (s .args .settings) (s .args .at) (s .args .store .now) (s .pre) a (a + 8 * c .before .before .log-words .result) refl (omega arith)
+    lent-log (s .args .settings) (s .args .at) (s .args .store .now) (s .pre) a (a + 8 * after-log-words .log-words .result) refl (omega arith)
 
 same-length : tie.Need-same-length
 same-length c = search needs
 
 returns : tie.Need-returns
 returns c =
-    let m = c .before .before in
-    let s = m .before .before .before .before .before in
+    let after-log-words : tie.After-log-words = search in let m : tie.After-mark-key = search in let s : tie.Start = search in
     let a = 8 * s .args .at in
-    lent-marks (s .args .settings) (s .args .at) (s .args .store .now) (s .pre) a (a + 8 * m .before .before .before .log-words .result) refl (omega arith)
+    lent-marks (s .args .settings) (s .args .at) (s .args .store .now) (s .pre) a (a + 8 * after-log-words .log-words .result) refl (omega arith)
     (m .mark-key .last .0) (eqb (s .args .key)) (omega arith) (m .mark-key .ensures)
 
 pub mark-key-spec : {M : Type 1} → statement M

@@ -23,7 +23,7 @@ read-requires c κs = search needs
 
 loop-holds : tie.Need-loop-holds Inv-loop μ-loop
 loop-holds c =
-    let s = c .before .before .before in (
+    let s : tie.Start Inv-loop μ-loop = search in (
       search needs,
       refl,
       rows-start (s .args .settings) (s .args .at) (words (s .args .store .now)) (length (s .args .store .now)) (room _ _ (s .pre .0 .inside)) (s .pre .0)
@@ -44,8 +44,7 @@ read-requires-2 c κs = search needs
 
 mark-key-requires : tie.Need-mark-key-requires Inv-loop μ-loop
 mark-key-requires c κs =
-    let l = c .before .before .before .before in
-    let s = l .before .before .before .before in
+    let l : tie.At-loop Inv-loop μ-loop = search in let s : tie.Start Inv-loop μ-loop = search in
     rw (l .loop .inv .1, l .loop .inv .2)
     (marks-log (s .args .settings) (s .args .at) (words (s .args .store .now)) (length (s .args .store .now)) (room _ _ (s .pre .0 .inside)) (s .pre .0) _)
 
@@ -57,10 +56,9 @@ loop-less c = search needs
 
 loop-again : tie.Need-loop-again Inv-loop μ-loop
 loop-again c =
-    let m = c .before .before in
-    let r = m .before .before in
-    let l = r .before .before .before in
-    let s = l .before .before .before .before in (
+    let m : tie.After-mark-key Inv-loop μ-loop = search in let r : tie.After-read2 Inv-loop μ-loop = search in
+    let l : tie.At-loop Inv-loop μ-loop = search in
+    let s : tie.Start Inv-loop μ-loop = search in (
       search needs,
       search needs,
       rows-turn (s .args .settings) (s .args .at) (words (s .args .store .now)) (length (s .args .store .now)) (room _ _ (s .pre .0 .inside)) (s .pre .0)
@@ -74,7 +72,7 @@ same-length c = search needs
 returns : tie.Need-returns Inv-loop μ-loop
 returns c =
     let l = c .before in
-    let s = l .before .before .before .before in
+    let s : tie.Start Inv-loop μ-loop = search in
     let ws = words (s .args .store .now) in
     let e : l .loop .i ≡ getD ws (s .args .from) 0 = omega (arith, l .before .read .ensures) in
     l .loop .inv .2 ∙ ap (λ (n : ℕ). marks (s .args .settings) (s .args .at) (names-first ws (s .args .from) n) ws) e

@@ -24,7 +24,7 @@ buckets-requires c κs = search needs
 
 loop-holds : tie.Need-loop-holds Inv-loop μ-loop
 loop-holds c =
-    let s = c .before .before .before in
+    let s : tie.Start Inv-loop μ-loop = search in
     let a = s .args in (
       search needs,
       search needs,
@@ -41,8 +41,7 @@ shared-slice-read-mark-named c = search needs
 
 mark-named-requires : tie.Need-mark-named-requires Inv-loop μ-loop
 mark-named-requires c κs =
-    let l = c .before .before .before in
-    let s = l .before .before .before .before in
+    let l : tie.At-loop Inv-loop μ-loop = search in let s : tie.Start Inv-loop μ-loop = search in
     let a = s .args in
     let ws = words (a .store .now) in
     let h = room _ _ (s .pre .0 .inside) in
@@ -60,9 +59,8 @@ loop-less c = search needs
 
 loop-again : tie.Need-loop-again Inv-loop μ-loop
 loop-again c =
-    let m = c .before .before in
-    let l = m .before .before .before .before in
-    let s = l .before .before .before .before in
+    let m : tie.After-mark-named Inv-loop μ-loop = search in let l : tie.At-loop Inv-loop μ-loop = search in
+    let s : tie.Start Inv-loop μ-loop = search in
     let a = s .args in (
       search needs,
       search needs,
@@ -76,8 +74,9 @@ same-length c = search needs
 
 returns : tie.Need-returns Inv-loop μ-loop
 returns c =
+    let start : tie.Start Inv-loop μ-loop = search in
     let l = c .before in
-    let a = l .before .before .before .before .args in
+    let a = start .args in
     let ws = words (a .store .now) in
     let e : l .loop .bucket ≡ buckets (a .settings) = omega arith in
     l .loop .inv .3 ∙ ap (λ (n : ℕ). marks (a .settings) (a .at) (named-first ws (a .tables .now) n) ws) e

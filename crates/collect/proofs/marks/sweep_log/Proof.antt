@@ -29,19 +29,18 @@ part-keep-marked-end c = search needs
 
 keep-marked-requires : tie.Need-keep-marked-requires
 keep-marked-requires c κs =
-    let s = c .before .before .before .before in
+    let after-log-words : tie.After-log-words = search in let s : tie.Start = search in
     let a = 8 * s .args .at in
-    lent-log (s .args .settings) (s .args .at) (s .args .store .now) (s .pre) a (a + 8 * c .before .before .log-words .result) refl (omega arith)
+    lent-log (s .args .settings) (s .args .at) (s .args .store .now) (s .pre) a (a + 8 * after-log-words .log-words .result) refl (omega arith)
 
 same-length : tie.Need-same-length
 same-length c = search needs
 
 returns : tie.Need-returns
 returns c =
-    let m = c .before .before in
-    let s = m .before .before .before .before .before in
+    let after-log-words : tie.After-log-words = search in let m : tie.After-keep-marked = search in let s : tie.Start = search in
     let a = 8 * s .args .at in
-    lent-sweeps (s .args .settings) (s .args .at) (s .args .store .now) (s .pre) a (a + 8 * m .before .before .before .log-words .result) refl (omega arith)
+    lent-sweeps (s .args .settings) (s .args .at) (s .args .store .now) (s .pre) a (a + 8 * after-log-words .log-words .result) refl (omega arith)
     (m .keep-marked .last .0) (omega arith) (m .keep-marked .ensures)
 
 pub sweep-log-spec : {M : Type 1} → statement M

@@ -17,7 +17,7 @@ abbrev μ-loop : tie.MeasureT-loop
 
 returns : tie.Need-returns Inv-loop μ-loop
 returns c =
-    let s = c .before .before in
+    let s : tie.Start Inv-loop μ-loop = search in
     nowhere _ (s .args .store .now) (s .pre) (s .args .id) (λ p l e o. omega (arith, c .if1 .taken))
 
 loop-holds : tie.Need-loop-holds Inv-loop μ-loop
@@ -43,15 +43,15 @@ loop-less c = search needs
 
 loop-again : tie.Need-loop-again Inv-loop μ-loop
 loop-again c =
-    let old = c .before .before .before .before in (
+    let old : tie.At-loop Inv-loop μ-loop = search in (
       search needs,
       below-more _ (old .loop .p) (old .loop .inv .1) (λ e. c .if3 .left (c .before .id .ensures ∙ e)),
     )
 
 returns-3 : tie.Need-returns-3 Inv-loop μ-loop
 returns-3 c =
-    let s = c .before .before .before .before .before in
-    nowhere _ (s .args .store .now) (s .pre) (s .args .id) (λ p l e o. c .before .before .loop .inv .1 p (omega arith) e)
+    let at-loop : tie.At-loop Inv-loop μ-loop = search in let s : tie.Start Inv-loop μ-loop = search in
+    nowhere _ (s .args .store .now) (s .pre) (s .args .id) (λ p l e o. at-loop .loop .inv .1 p (omega arith) e)
 
 pub place-of-spec : {M : Type 1} → statement M
 place-of-spec =

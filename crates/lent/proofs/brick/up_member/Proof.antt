@@ -17,9 +17,9 @@ enum-known-place c = search needs
 
 up-member-requires : tie.Need-up-member-requires
 up-member-requires c κs =
-    let s = c .before .before .before .before .before in
+    let after-place-of : tie.After-place-of = search in let s : tie.Start = search in
     let h : Stands (s .args .settings) (decode (words (s .args .store .now))) (s .args .id) (c .before .place .given .0 .0) =
-    rw (c .before .place .given .1) at (c .before .before .before .place-of .ensures) in
+    rw (c .before .place .given .1) at (after-place-of .place-of .ensures) in
     (s .pre, h .inside)
 
 enum-told : tie.Need-enum-told
@@ -27,17 +27,17 @@ enum-told c = search needs
 
 returns : tie.Need-returns
 returns c =
-    let s = c .before .before .before .before .before .before in
-    let h : Stands (s .args .settings) (decode (words (s .args .store .now))) (s .args .id) (c .before .before .place .given .0 .0) =
-    rw (c .before .before .place .given .1) at (c .before .before .before .before .place-of .ensures) in
+    let after-place : tie.After-place = search in let after-place-of : tie.After-place-of = search in let s : tie.Start = search in
+    let h : Stands (s .args .settings) (decode (words (s .args .store .now))) (s .args .id) (after-place .place .given .0 .0) =
+    rw (after-place .place .given .1) at (after-place-of .place-of .ensures) in
     c .up-member .ensures ∙ ap (up-member (decode (words (s .args .store .now)))) (h .here)
 
 returns-2 : tie.Need-returns-2
 unfolding _and_
 returns-2 c =
-    let s = c .before .before .before .before in
+    let after-place-of : tie.After-place-of = search in let s : tie.Start = search in
     let h : brick-in (decode (words (s .args .store .now))) (s .args .id) ≡ blank-brick =
-    rw (c .enum-told .given .1) at (c .before .before .place-of .ensures) in
+    rw (c .enum-told .given .1) at (after-place-of .place-of .ensures) in
     sym (ap (λ (b : Brick). b .status .up and b .status .member) h)
 
 pub up-member-spec : {M : Type 1} → statement M

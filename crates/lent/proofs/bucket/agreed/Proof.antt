@@ -34,8 +34,8 @@ read-requires c κs = search needs
 
 returns : tie.Need-returns
 returns c =
-    let b = c .before .before .before .before in
-    let at = 8 * c .before .before .agreed-at .result in
+    let after-agreed-at : tie.After-agreed-at = search in let b : tie.Start = search in
+    let at = 8 * after-agreed-at .agreed-at .result in
     c .read .ensures
     ∙ ap (agreed-codec .dec) (lent (b .args .store .now) at (at + 64) (agreed-at (b .args .bucket)) agreed-words (omega arith) (omega arith) (omega arith))
     ∙ sym (agreed-is (b .args .settings) (b .args .store .now) (b .pre .0) (b .args .bucket) (b .pre .1))

@@ -36,10 +36,10 @@ same-length c = search needs
 
 returns : tie.Need-returns
 returns c =
-    let b = c .before .before .before .before .before .before in
-    let at = 8 * c .before .before .before .before .agreed-at .result in
-    lent-run (b .args .store .now) (c .before .before .write .last .0) at (at + 64 - at) (agreed-at (b .args .bucket)) agreed-words
-    (agreed-codec .enc (agreed-of (b .args .agreed))) (omega arith) (omega arith) (omega arith) (omega arith) (c .before .before .write .ensures)
+    let after-agreed-at : tie.After-agreed-at = search in let after-write : tie.After-write = search in let b : tie.Start = search in
+    let at = 8 * after-agreed-at .agreed-at .result in
+    lent-run (b .args .store .now) (after-write .write .last .0) at (at + 64 - at) (agreed-at (b .args .bucket)) agreed-words
+    (agreed-codec .enc (agreed-of (b .args .agreed))) (omega arith) (omega arith) (omega arith) (omega arith) (after-write .write .ensures)
 
 pub write-spec : {M : Type 1} → statement M
 write-spec =

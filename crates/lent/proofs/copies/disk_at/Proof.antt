@@ -12,7 +12,8 @@ disk-at-requires c κs = search needs
 
 add-result : tie.Need-add-result
 add-result c =
-    omega (arith, store-small (c .before .before .args .settings) (c .before .before .pre .0))
+    let start : tie.Start = search in
+    omega (arith, store-small (start .args .settings) (start .pre .0))
 
 returns : tie.Need-returns
 returns c = search needs

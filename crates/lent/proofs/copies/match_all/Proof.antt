@@ -28,7 +28,7 @@ copies-words-requires c κs = search needs
 
 loop-holds : tie.Need-loop-holds Inv-loop μ-loop
 loop-holds c =
-    let b = c .before .before .before in
+    let b : tie.Start Inv-loop μ-loop = search in
     let s = b .args .copies .now in
     let t = b .args .settings in (
       search needs,
@@ -60,11 +60,12 @@ part-match-two-end c = search needs
 
 match-two-requires : tie.Need-match-two-requires Inv-loop μ-loop
 match-two-requires c κs =
-    let b = c .before .before .before .before .before .before .before in
-    let size = c .before .before .before .before .copies-words in
+    let after-copies-words : tie.After-copies-words Inv-loop μ-loop = search in let at-loop : tie.At-loop Inv-loop μ-loop = search in
+    let b : tie.Start Inv-loop μ-loop = search in
+    let size = after-copies-words .copies-words in
     let s = b .args .copies .now in
     let t = b .args .settings in
-    let l = c .before .before .before .loop in
+    let l = at-loop .loop in
     let o = 8 * c .before .offset .result in
     let product = ap (λ (k : ℕ). l .bucket * k) (size .ensures) in
     match-fit (b .args .saving) t (words s) (length-words s ∙ omega (arith, b .pre .size)) (l .bucket) (omega arith) (l .copies) (l .inv .3)
@@ -78,13 +79,14 @@ loop-less c = search needs
 
 loop-again : tie.Need-loop-again Inv-loop μ-loop
 loop-again c =
-    let b = c .before .before .before .before .before .before .before .before .before .before in
-    let size = c .before .before .before .before .before .before .before .copies-words in
+    let after-copies-words : tie.After-copies-words Inv-loop μ-loop = search in let at-loop : tie.At-loop Inv-loop μ-loop = search in
+    let after-offset : tie.After-offset Inv-loop μ-loop = search in let b : tie.Start Inv-loop μ-loop = search in
+    let size = after-copies-words .copies-words in
     let made = c .before .before .match-two in
     let s = b .args .copies .now in
     let t = b .args .settings in
-    let l = c .before .before .before .before .before .before .loop in
-    let o = 8 * c .before .before .before .before .offset .result in
+    let l = at-loop .loop in
+    let o = 8 * after-offset .offset .result in
     let n : ℕ = o + 8 * size .result - o in
     let product = ap (λ (k : ℕ). l .bucket * k) (size .ensures) in
     let turn = match-turn (b .args .saving) t (words s) (length-words s ∙ omega (arith, b .pre .size)) (l .bucket) (omega arith) (l .copies) (l .inv .3)
@@ -96,7 +98,7 @@ same-length c = search needs
 
 returns : tie.Need-returns Inv-loop μ-loop
 returns c =
-    let b = c .before .before .before .before .before in
+    let b : tie.Start Inv-loop μ-loop = search in
     let s = b .args .copies .now in
     let t = b .args .settings in
     let e : c .before .loop .bucket ≡ buckets t = omega arith in

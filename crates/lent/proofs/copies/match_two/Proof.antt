@@ -24,20 +24,21 @@ same-length c = search needs
 
 returns : tie.Need-returns
 returns c =
-    let b = c .before .before .before .before .before .before .before in
+    let after-copy : tie.After-copy = search in let after-copy-words : tie.After-copy-words = search in let then1 : tie.Then1 = search in
+    let b : tie.Start = search in
     let w = words (b .args .copies .now) in
     let k = b .args .settings in
-    c .before .before .copy .ensures ∙ ap (λ (n : ℕ). copied-entries (k .entries) 0 n w) (c .before .before .before .before .before .copy-words .ensures)
+    after-copy .copy .ensures ∙ ap (λ (n : ℕ). copied-entries (k .entries) 0 n w) (after-copy-words .copy-words .ensures)
     ∙ copy-saved k w (length-words (b .args .copies .now) ∙ omega (arith, b .pre .size))
-    ∙ ap (λ (t : Bool). change (copies-codec k) (matched t) w) (sym (c .before .before .before .before .if1 .taken))
+    ∙ ap (λ (t : Bool). change (copies-codec k) (matched t) w) (sym (then1 .if1 .taken))
 
 copy-requires-2 : tie.Need-copy-requires-2
 copy-requires-2 c κs =
-    let b = c .before .before .before .before in
+    let after-copy-words : tie.After-copy-words = search in let b : tie.Start = search in
     record {
       first-in = omega (arith, b .pre .size);
       second-in = omega (arith, b .pre .size);
-      few = rw (c .before .before .copy-words .ensures) (b .pre .disk);
+      few = rw (after-copy-words .copy-words .ensures) (b .pre .disk);
     }
 
 same-length-2 : tie.Need-same-length-2
@@ -45,12 +46,13 @@ same-length-2 c = search needs
 
 returns-2 : tie.Need-returns-2
 returns-2 c =
-    let b = c .before .before .before .before .before .before .before in
+    let after-copy2 : tie.After-copy2 = search in let after-copy-words : tie.After-copy-words = search in let else1 : tie.Else1 = search in
+    let b : tie.Start = search in
     let w = words (b .args .copies .now) in
     let k = b .args .settings in
-    c .before .before .copy2 .ensures ∙ ap (λ (n : ℕ). copied-entries (k .entries) n 0 w) (c .before .before .before .before .before .copy-words .ensures)
+    after-copy2 .copy2 .ensures ∙ ap (λ (n : ℕ). copied-entries (k .entries) n 0 w) (after-copy-words .copy-words .ensures)
     ∙ copy-restored k w (length-words (b .args .copies .now) ∙ omega (arith, b .pre .size))
-    ∙ ap (λ (t : Bool). change (copies-codec k) (matched t) w) (sym (c .before .before .before .before .if1 .left))
+    ∙ ap (λ (t : Bool). change (copies-codec k) (matched t) w) (sym (else1 .if1 .left))
 
 pub match-two-spec : {M : Type 1} → statement M
 match-two-spec =

@@ -7,20 +7,22 @@ use Rattle.lent.proofs.place.asks.Tie as tie
 
 returns : tie.Need-returns
 returns c =
-    let b = c .before .before in sym (first-stop 3 _ (no-place (b .args .settings) (b .args .store .now) (b .pre) (b .args .place) (c .if1 .taken)))
+    let b : tie.Start = search in sym (first-stop 3 _ (no-place (b .args .settings) (b .args .store .now) (b .pre) (b .args .place) (c .if1 .taken)))
 
 up-member-requires : tie.Need-up-member-requires
-up-member-requires c κs = (c .before .before .pre, omega arith)
+up-member-requires c κs =
+    let start : tie.Start = search in
+    (start .pre, omega arith)
 
 returns-2 : tie.Need-returns-2
 returns-2 c =
-    let b = c .before .before .before .before in
+    let b : tie.Start = search in
     sym (first-yes 3 _ (is-place-yes (b .args .settings) (b .args .store .now) (b .pre) (b .args .place) (omega arith))
     ∙ first-yes 6 _ (sym (c .before .up-member .ensures) ∙ c .if2 .taken) ∙ none-asked)
 
 returns-3 : tie.Need-returns-3
 returns-3 c =
-    let b = c .before .before .before .before in
+    let b : tie.Start = search in
     sym (first-yes 3 _ (is-place-yes (b .args .settings) (b .args .store .now) (b .pre) (b .args .place) (omega arith))
     ∙ first-stop 6 _ (sym (c .before .up-member .ensures) ∙ c .if2 .left))
 

@@ -30,7 +30,7 @@ part-result-end c = search needs
 
 returns : tie.Need-returns
 returns c =
-    let s = c .before .before .before in
+    let s : tie.Start = search in
     let whole = c .before .part .result .now in
     buffer-part (s .args .settings) (s .args .store .now) whole (s .pre .0) (s .args .place) (s .pre .1) (c .before .part .ensures) (s .pre .2) _ (search needs)
     (lent whole 48 568 buffer-at (buffer-codec .size) refl refl (omega arith))

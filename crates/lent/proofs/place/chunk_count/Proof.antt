@@ -17,7 +17,8 @@ read-requires c κs = search needs
 
 returns : tie.Need-returns
 returns c =
-    let t = c .before .before .before .args .settings in
+    let start : tie.Start = search in
+    let t = start .args .settings in
     let log = c .before .log .ensures in
     let bytes = c .before .log .result .now in
     c .read .ensures ∙ sym (dec-length (t .chunks) (t .size / 8) (words bytes) (length-words bytes ∙ omega (arith, log .log .size))) ∙ ap length (log .same)

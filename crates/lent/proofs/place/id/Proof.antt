@@ -12,7 +12,7 @@ id-requires c κs = search needs
 
 returns : tie.Need-returns
 returns c =
-    let s = c .before .before .before in
+    let s : tie.Start = search in
     c .id .ensures ∙ sym (id-is _ (s .args .store .now) _ (s .pre .0) (s .args .place) (s .pre .1) (c .before .part .ensures))
 
 pub id-spec : {M : Type 1} → statement M

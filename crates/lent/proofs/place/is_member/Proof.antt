@@ -10,7 +10,7 @@ id-requires c κs = search needs
 
 returns : tie.Need-returns
 returns c =
-    let s = c .before .before .before in
+    let s : tie.Start = search in
     ap (λ (b : Brick). b .status .member) (sym (zero-blank _ (s .args .store .now) (s .pre .0) _ (sym (c .before .id .ensures) ∙ c .if1 .taken)))
 
 status-requires : tie.Need-status-requires

@@ -36,12 +36,12 @@ part-result-end c = search needs
 
 returns : tie.Need-returns
 returns c =
-    let s = c .before .before .before .before .before in
+    let after-part : tie.After-part = search in let after-log-at : tie.After-log-at = search in let s : tie.Start = search in
     let n = s .args .settings in
-    let whole = c .before .before .before .part .result .now in
-    let at = c .before .before .log-at .result in
+    let whole = after-part .part .result .now in
+    let at = after-log-at .log-at .result in
     let size = c .before .log-words .result in
-    log-part n (s .args .store .now) whole (s .pre .0) (s .args .place) (s .pre .1) (c .before .before .before .part .ensures) (s .pre .2) _ (search needs)
+    log-part n (s .args .store .now) whole (s .pre .0) (s .args .place) (s .pre .1) (after-part .part .ensures) (s .pre .2) _ (search needs)
     (lent whole (8 * at) (8 * at + 8 * size) (log-at n) (log-words n) (omega arith) (omega arith) (omega arith))
 
 pub log-spec : {M : Type 1} → statement M

@@ -17,7 +17,7 @@ buckets-requires c κs = search needs
 -- the copies of all buckets are few words
 small : (c : tie.After-buckets) → c .buckets .result * c .before .copies-words .result < 2 ^ 27
 small c =
-    let b = c .before .before in rw (c .buckets .ensures, c .before .copies-words .ensures) (omega (arith, place-small (b .args .settings) (b .pre .0)))
+    let b : tie.Start = search in rw (c .buckets .ensures, c .before .copies-words .ensures) (omega (arith, place-small (b .args .settings) (b .pre .0)))
 
 offset-requires : tie.Need-offset-requires
 offset-requires c κs = (omega arith, omega (arith, small c))
@@ -27,8 +27,8 @@ add-result c = omega (arith, small (c .before))
 
 returns : tie.Need-returns
 returns c =
-    let b = c .before .before .before in
-    let size = c .before .before .copies-words in
+    let after-copies-words : tie.After-copies-words = search in let b : tie.Start = search in
+    let size = after-copies-words .copies-words in
     let e = c .offset .ensures .0 ∙ ap (λ (k : ℕ). b .args .bucket * k) (size .ensures) in
     (omega (arith, e), omega (arith, e, fits-in (copies-words (b .args .settings)) (b .pre .1)))
 

@@ -32,8 +32,8 @@ part-result-end c = search needs
 
 returns : tie.Need-returns
 returns c =
-    let s = c .before .before .before .before in
-    let at = c .before .before .place-at .result in
+    let after-place-at : tie.After-place-at = search in let s : tie.Start = search in
+    let at = after-place-at .place-at .result in
     let n = c .before .place-words .result in
     record {
       size = search needs;

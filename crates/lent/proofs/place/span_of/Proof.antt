@@ -15,12 +15,12 @@ place-words-requires c κs = search needs
 
 mul-t5 : tie.Need-mul-t5
 mul-t5 c =
-    let b = c .before .before in
+    let b : tie.Start = search in
     omega (arith, store-small (b .args .settings) (b .pre .0), c .before .place-at .ensures .1)
 
 add-t6 : tie.Need-add-t6
 add-t6 c =
-    let b = c .before .before in
+    let b : tie.Start = search in
     omega (arith, store-small (b .args .settings) (b .pre .0), c .before .place-at .ensures .1)
 
 returns : tie.Need-returns

@@ -10,12 +10,12 @@ part-requires c κs = search needs
 
 read-status-requires : tie.Need-read-status-requires
 read-status-requires c κs =
-    let s = c .before .before in
+    let s : tie.Start = search in
     (c .part .ensures .size, rw (id-is _ (s .args .store .now) _ (s .pre .0) (s .args .place) (s .pre .1) (c .part .ensures)) at (s .pre .2))
 
 returns : tie.Need-returns
 returns c =
-    let s = c .before .before .before in
+    let s : tie.Start = search in
     c .read-status .ensures
     ∙ ap (λ (x : Place). x .snd .status) (sym (place-is _ (s .args .store .now) _ (s .pre .0) (s .args .place) (s .pre .1) (c .before .part .ensures)))
 

@@ -9,7 +9,7 @@ is-member-requires c κs = search needs
 
 returns : tie.Need-returns
 returns c =
-    let s = c .before .before in
+    let s : tie.Start = search in
     c .is-member .ensures ∙ member-up _ (s .args .store .now) (s .pre .0) _
 
 pub up-member-spec : {M : Type 1} → statement M

@@ -12,7 +12,9 @@ has-requires : tie.Need-has-requires
 has-requires c κs = c .items .ensures .sorted
 
 returns : tie.Need-returns
-returns c = c .has .ensures ∙ ap (λ (l : List Entry). has l (c .before .before .before .args .block .0)) (c .before .items .ensures .same)
+returns c =
+    let start : tie.Start = search in
+    c .has .ensures ∙ ap (λ (l : List Entry). has l (start .args .block .0)) (c .before .items .ensures .same)
 
 pub has-item-spec : {M : Type 1} → statement M
 has-item-spec = tie.close (tie.spec items-requires has-requires returns)

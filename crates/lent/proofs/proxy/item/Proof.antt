@@ -12,7 +12,9 @@ look-requires : tie.Need-look-requires
 look-requires c κs = c .items .ensures .sorted
 
 returns : tie.Need-returns
-returns c = c .look .ensures ∙ ap (λ (l : List Entry). look l (c .before .before .before .args .block .0)) (c .before .items .ensures .same)
+returns c =
+    let start : tie.Start = search in
+    c .look .ensures ∙ ap (λ (l : List Entry). look l (start .args .block .0)) (c .before .items .ensures .same)
 
 pub item-spec : {M : Type 1} → statement M
 item-spec = tie.close (tie.spec items-requires look-requires returns)

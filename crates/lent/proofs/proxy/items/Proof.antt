@@ -28,7 +28,7 @@ part-result-end c = search needs
 
 returns : tie.Need-returns
 returns c =
-    let b = c .before .before .before in
+    let b : tie.Start = search in
     let at = 8 * c .before .items-at .result in
     items-part (b .args .settings) (b .args .store .now) (b .pre .0) (b .args .proxy) (b .pre .1) at (at + 520) (omega arith) (omega arith) (omega arith)
 

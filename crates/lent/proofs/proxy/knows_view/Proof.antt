@@ -23,10 +23,10 @@ read-requires-2 c κs = search needs
 
 returns : tie.Need-returns
 returns c =
-    let b = c .before .before .before .before in
+    let after-proxy-at : tie.After-proxy-at = search in let b : tie.Start = search in
     let known = known-read (b .args .settings) (b .args .store .now) (b .pre .0) (b .args .proxy) (b .pre .1) in
     let view = view-read (words (b .args .store .now)) (b .pre .0 .sound .size) in
-    let at : c .before .before .proxy-at .result + 0 ≡ proxy-at (b .args .settings) (b .args .proxy) = omega arith in
+    let at : after-proxy-at .proxy-at .result + 0 ≡ proxy-at (b .args .settings) (b .args .proxy) = omega arith in
     rw (known, view, c .before .read .ensures, c .read2 .ensures, at)
 
 pub knows-view-spec : {M : Type 1} → statement M

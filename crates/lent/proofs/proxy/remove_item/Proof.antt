@@ -28,7 +28,7 @@ part-remove-end c = search needs
 
 remove-requires : tie.Need-remove-requires
 remove-requires c κs =
-    let b = c .before .before .before in
+    let b : tie.Start = search in
     let at = 8 * c .before .items-at .result in
     items-part (b .args .settings) (b .args .store .now) (b .pre .0) (b .args .proxy) (b .pre .1) at (at + 520) (omega arith) (omega arith) (omega arith) .sorted
 
@@ -37,9 +37,9 @@ same-length c = search needs
 
 returns : tie.Need-returns
 returns c =
-    let b = c .before .before .before .before .before .before in
-    let at = 8 * c .before .before .before .before .items-at .result in
-    let remove = c .before .before .remove in
+    let after-items-at : tie.After-items-at = search in let after-remove : tie.After-remove = search in let b : tie.Start = search in
+    let at = 8 * after-items-at .items-at .result in
+    let remove = after-remove .remove in
     item-gone (b .args .settings) (b .args .store .now) (b .pre .0) (b .args .proxy) (b .pre .1) at (at + 520) (omega arith) (omega arith)
     (b .args .block .0) (remove .last .0) (omega arith) (remove .ensures)
 

@@ -10,7 +10,7 @@ read-requires c κs = search needs
 
 returns : tie.Need-returns
 returns c =
-    let s = c .before .before in
+    let s : tie.Start = search in
     c .read .ensures ∙ sym (given-read (words (s .args .store .now)) (s .pre .sound .size))
 
 pub given-spec : {M : Type 1} → statement M

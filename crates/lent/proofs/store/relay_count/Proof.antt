@@ -12,7 +12,7 @@ read-requires c κs = search needs
 
 returns : tie.Need-returns
 returns c =
-    let s = c .before .before .before in
+    let s : tie.Start = search in
     c .read .ensures ∙ sym (bag-count (s .args .settings) (s .args .store .now) (s .pre) (c .before .bag-at .result) (c .before .bag-at .ensures))
 
 pub relay-count-spec : {M : Type 1} → statement M

@@ -20,9 +20,9 @@ read-requires-4 c κs = search needs
 
 returns : tie.Need-returns
 returns c =
-    let s = c .before .before .before .before .before in
+    let after-read : tie.After-read = search in let after-read2 : tie.After-read2 = search in let s : tie.Start = search in
     let bs = s .args .store .now in
-    store-of bs (s .pre) _ (rw (c .before .before .before .read .ensures, c .before .before .read2 .ensures, c .before .read3 .ensures, c .read4 .ensures)
+    store-of bs (s .pre) _ (rw (after-read .read .ensures, after-read2 .read2 .ensures, c .before .read3 .ensures, c .read4 .ensures)
     (sym (settings-are (words bs))))
 
 pub settings-spec : {M : Type 1} → statement M

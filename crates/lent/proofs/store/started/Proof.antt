@@ -10,7 +10,7 @@ read-requires c κs = search needs
 
 returns : tie.Need-returns
 returns c =
-    let s = c .before .before in c .read .ensures ∙ sym (started-read (words (s .args .store .now)) (s .pre .sound .size))
+    let s : tie.Start = search in c .read .ensures ∙ sym (started-read (words (s .args .store .now)) (s .pre .sound .size))
 
 pub started-spec : {M : Type 1} → statement M
 started-spec = tie.close (tie.spec read-requires returns)
