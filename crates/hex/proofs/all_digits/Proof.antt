@@ -37,14 +37,16 @@ loop-less c = search needs
 
 loop-again : tie.Need-loop-again Inv-loop μ-loop
 loop-again c =
-    let s = c .before .before .before .before .before .before .args .digits .now in
-    let l = c .before .before .before .before .loop in
+    let start : tie.Start Inv-loop μ-loop = search in let at-loop : tie.At-loop Inv-loop μ-loop = search in
+    let s = start .args .digits .now in
+    let l = at-loop .loop in
     (omega arith, c .both .ensures ∙ rw (l .inv .1, c .before .is-digit .ensures) (sym (digits-turn s (l .i) (omega arith))))
 
 returns : tie.Need-returns Inv-loop μ-loop
 returns c =
+    let start : tie.Start Inv-loop μ-loop = search in
     let l = c .before .loop in
-    l .inv .1 ∙ ap only-digits (take-all (l .i) (c .before .before .before .args .digits .now) (omega arith))
+    l .inv .1 ∙ ap only-digits (take-all (l .i) (start .args .digits .now) (omega arith))
 
 pub all-digits-spec : {M : Type 1} → statement M
 all-digits-spec =

@@ -17,17 +17,21 @@ abbrev μ-loop : tie.MeasureT-loop
 μ-loop s area₀ i₀ area i = length area - i
 
 loop-holds : tie.Need-loop-holds Inv-loop μ-loop
-loop-holds c = (search needs, refl, paste-zero (c .before .before .args .area .now) 0 (unhex (c .before .before .args .digits .now)))
+loop-holds c =
+    let start : tie.Start Inv-loop μ-loop = search in
+    (search needs, refl, paste-zero (start .args .area .now) 0 (unhex (start .args .digits .now)))
 
 mul-pair : tie.Need-mul-pair Inv-loop μ-loop
 mul-pair c =
-    let b = is-bytes (length (c .before .before .before .before .args .area .now)) (c .before .before .before .before .args .digits .now)
-    (c .before .before .before .before .pre) in omega arith
+    let start : tie.Start Inv-loop μ-loop = search in
+    let b = is-bytes (length (start .args .area .now)) (start .args .digits .now)
+    (start .pre) in omega arith
 
 pair-requires : tie.Need-pair-requires Inv-loop μ-loop
 pair-requires c κs =
-    let b = is-bytes (length (c .before .before .before .before .args .area .now)) (c .before .before .before .before .args .digits .now)
-    (c .before .before .before .before .pre) in (omega arith, b .1)
+    let start : tie.Start Inv-loop μ-loop = search in
+    let b = is-bytes (length (start .args .area .now)) (start .args .digits .now)
+    (start .pre) in (omega arith, b .1)
 
 slice-write-area : tie.Need-slice-write-area Inv-loop μ-loop
 slice-write-area c = search needs
@@ -40,9 +44,10 @@ loop-less c = rw length-set (omega arith)
 
 loop-again : tie.Need-loop-again Inv-loop μ-loop
 loop-again c =
-    let a = c .before .before .before .before .before .args in
-    let l = c .before .before .loop in
-    let b = is-bytes (length (a .area .now)) (a .digits .now) (c .before .before .before .before .before .pre) in
+    let start : tie.Start Inv-loop μ-loop = search in let at-loop : tie.At-loop Inv-loop μ-loop = search in
+    let a = start .args in
+    let l = at-loop .loop in
+    let b = is-bytes (length (a .area .now)) (a .digits .now) (start .pre) in
     let u = unhex-length (length (a .area .now)) (a .digits .now) (b .0) in (
       rw length-set (omega arith),
       length-set (l .area) (l .i) (c .pair .result) ∙ l .inv .1,
@@ -55,9 +60,10 @@ same-length c = c .before .loop .inv .1
 
 returns : tie.Need-returns Inv-loop μ-loop
 returns c =
-    let a = c .before .before .before .before .args in
+    let start : tie.Start Inv-loop μ-loop = search in
+    let a = start .args in
     let l = c .before .loop in
-    let b = is-bytes (length (a .area .now)) (a .digits .now) (c .before .before .before .before .pre) in
+    let b = is-bytes (length (a .area .now)) (a .digits .now) (start .pre) in
     let u = unhex-length (length (a .area .now)) (a .digits .now) (b .0) in
     decode-done (unhex (a .digits .now)) (a .area .now) u (l .area) (l .i) (omega arith) (l .inv .2)
 

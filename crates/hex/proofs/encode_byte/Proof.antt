@@ -30,12 +30,14 @@ same-length c = search needs
 returns : tie.Need-returns
 unfolding hex
 returns c =
-    let a = c .before .before .before .before .before .before .before .before .before .before .before .args in
-    let p = c .before .before .before .before .before .before .before .put in
-    let q = c .before .before .put2 in
-    rw (← c .before .before .before .before .before .before .before .before .digit .ensures, ← c .before .before .before .digit2 .ensures)
-    (onto-then (a .at) (a .at + 1) (c .before .before .before .before .before .before .before .before .digit .result ∷ [])
-    (c .before .before .before .digit2 .result ∷ []) (a .area .now) (p .last .0) (q .last .0) (omega arith) refl (p .ensures) (q .ensures))
+    let start : tie.Start = search in let after-put : tie.After-put = search in let after-put2 : tie.After-put2 = search in
+    let after-digit : tie.After-digit = search in let after-digit2 : tie.After-digit2 = search in
+    let a = start .args in
+    let p = after-put .put in
+    let q = after-put2 .put2 in
+    rw (← after-digit .digit .ensures, ← after-digit2 .digit2 .ensures)
+    (onto-then (a .at) (a .at + 1) (after-digit .digit .result ∷ [])
+    (after-digit2 .digit2 .result ∷ []) (a .area .now) (p .last .0) (q .last .0) (omega arith) refl (p .ensures) (q .ensures))
 
 pub encode-byte-spec : {M : Type 1} → statement M
 encode-byte-spec =

@@ -7,17 +7,21 @@ use Rattle.hex.proofs.is_bytes.Statement.{statement}
 use Rattle.hex.proofs.is_bytes.Tie as tie
 
 returns : tie.Need-returns
-returns c = sym (wrong-length (c .before .before .args .n) (c .before .before .args .digits .now) (λ e. c .if1 .taken (omega arith)))
+returns c =
+    let start : tie.Start = search in
+    sym (wrong-length (start .args .n) (start .args .digits .now) (λ e. c .if1 .taken (omega arith)))
 
 returns-2 : tie.Need-returns-2
-returns-2 c = sym (wrong-length (c .before .before .before .args .n) (c .before .before .before .args .digits .now) (λ e. c .if2 .taken (omega arith)))
+returns-2 c =
+    let start : tie.Start = search in
+    sym (wrong-length (start .args .n) (start .args .digits .now) (λ e. c .if2 .taken (omega arith)))
 
 all-digits-requires : tie.Need-all-digits-requires
 all-digits-requires c κs = search needs
 
 returns-3 : tie.Need-returns-3
 returns-3 c =
-    let s = c .before .before .before .before in
+    let s : tie.Start = search in
     c .all-digits .ensures ∙ sym (right-length (s .args .n) (s .args .digits .now) (omega arith))
 
 pub is-bytes-spec : {M : Type 1} → statement M

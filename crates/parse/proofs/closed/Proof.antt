@@ -20,7 +20,9 @@ part-whole-end : tie.Need-part-whole-end
 part-whole-end c = search needs
 
 whole-requires : tie.Need-whole-requires
-whole-requires c κs = c .before .before .pre .value
+whole-requires c κs =
+    let start : tie.Start = search in
+    start .pre .value
 
 enum-known-whole : tie.Need-enum-known-whole
 enum-known-whole c = search needs
@@ -33,22 +35,22 @@ enum-told c = search needs
 
 returns : tie.Need-returns
 returns c =
-    let b = c .before .before .before .before .before .before in
+    let after-whole : tie.After-whole = search in let b : tie.Start = search in
     let a = b .args in
     let s = a .body .now in
     let text = take (a .end - a .at) (drop (a .at) s) in
     let f = b .pre .field in
-    let n = answer-value (number-of text) (c .before .whole2 .given .0 .0) (sym (c .before .before .before .whole .ensures) ∙ c .before .whole2 .given .1) in
+    let n = answer-value (number-of text) (c .before .whole2 .given .0 .0) (sym (after-whole .whole .ensures) ∙ c .before .whole2 .given .1) in
     (first-is (fields-from s (a .at)) (fields-from s (a .end + 1)) text f ∙ n, rest-is (fields-from s (a .at)) (fields-from s (a .end + 1)) text f)
 
 returns-2 : tie.Need-returns-2
 returns-2 c =
-    let b = c .before .before .before .before .before in
+    let after-whole : tie.After-whole = search in let b : tie.Start = search in
     let a = b .args in
     let s = a .body .now in
     let text = take (a .end - a .at) (drop (a .at) s) in
     first-is (fields-from s (a .at)) (fields-from s (a .end + 1)) text (b .pre .field)
-    ∙ answer-malformed (number-of text) (sym (c .before .before .whole .ensures) ∙ c .enum-told .given .1)
+    ∙ answer-malformed (number-of text) (sym (after-whole .whole .ensures) ∙ c .enum-told .given .1)
 
 pub closed-spec : {M : Type 1} → statement M
 closed-spec =

@@ -17,10 +17,14 @@ is-line-requires : tie.Need-is-line-requires
 is-line-requires c κs = search needs
 
 sub-end : tie.Need-sub-end
-sub-end c = line-not-empty (c .before .before .before .before .args .line .now) (sym (c .before .is-line .ensures) ∙ c .if1 .taken)
+sub-end c =
+    let start : tie.Start = search in
+    line-not-empty (start .args .line .now) (sym (c .before .is-line .ensures) ∙ c .if1 .taken)
 
 slice-aggregate-parse-body : tie.Need-slice-aggregate-parse-body
-slice-aggregate-parse-body c = let l = c .before .before .before .before .before .args .line .now in sym (length-take-le (length l - 1) l (omega arith))
+slice-aggregate-parse-body c =
+    let start : tie.Start = search in
+    let l = start .args .line .now in sym (length-take-le (length l - 1) l (omega arith))
 
 parse-body-requires : tie.Need-parse-body-requires
 parse-body-requires c κs = search needs
@@ -30,17 +34,20 @@ same-length c = search needs
 
 returns : tie.Need-returns
 returns c =
-    let a = c .before .before .before .before .before .before .before .before .before .args in
+    let start : tie.Start = search in let after-is-line : tie.After-is-line = search in let then1 : tie.Then1 = search in
+    let after-parse-body : tie.After-parse-body = search in
+    let a = start .args in
     let l = a .line .now in
     let d = a .«data» .now in
     let e : parsed (a .size) (length d) l ≡ with-room (a .size) (length d) (parts-of-fields (a .size) (fields (take (length l - 1) l))) =
     parsed-as (a .size) (length d) l _ (parts-line l (a .size) (take (length l - 1) l)
-    (sym (c .before .before .before .before .before .before .is-line .ensures) ∙ c .before .before .before .before .before .if1 .taken) refl) in
-    rw e (c .before .before .parse-body .ensures)
+    (sym (after-is-line .is-line .ensures) ∙ then1 .if1 .taken) refl) in
+    rw e (after-parse-body .parse-body .ensures)
 
 returns-2 : tie.Need-returns-2
 returns-2 c =
-    let a = c .before .before .before .before .args in
+    let start : tie.Start = search in
+    let a = start .args in
     let l = a .line .now in
     let d = a .«data» .now in
     refused (parsed (a .size) (length d) l) d

@@ -16,24 +16,30 @@ is-line-requires : tie.Need-is-line-requires
 is-line-requires c κs = search needs
 
 sub-end : tie.Need-sub-end
-sub-end c = line-not-empty (c .before .before .before .args .line .now) (sym (c .before .is-line .ensures) ∙ c .if1 .taken)
+sub-end c =
+    let start : tie.Start = search in
+    line-not-empty (start .args .line .now) (sym (c .before .is-line .ensures) ∙ c .if1 .taken)
 
 slice-aggregate-settings-body : tie.Need-slice-aggregate-settings-body
-slice-aggregate-settings-body c = let l = c .before .before .before .before .args .line .now in sym (length-take-le (length l - 1) l (omega arith))
+slice-aggregate-settings-body c =
+    let start : tie.Start = search in
+    let l = start .args .line .now in sym (length-take-le (length l - 1) l (omega arith))
 
 settings-body-requires : tie.Need-settings-body-requires
 settings-body-requires c κs = search needs
 
 returns : tie.Need-returns
 returns c =
-    let l = c .before .before .before .before .before .args .line .now in
+    let start : tie.Start = search in let after-is-line : tie.After-is-line = search in let then1 : tie.Then1 = search in
+    let l = start .args .line .now in
     c .settings-body .ensures
     ∙ ap settings-answer (sym (settings-line l (take (length l - 1) l)
-    (sym (c .before .before .before .is-line .ensures) ∙ c .before .before .if1 .taken) refl))
+    (sym (after-is-line .is-line .ensures) ∙ then1 .if1 .taken) refl))
 
 returns-2 : tie.Need-returns-2
 returns-2 c =
-    let l = c .before .before .before .args .line .now in
+    let start : tie.Start = search in
+    let l = start .args .line .now in
     answer-none (read-settings l) (settings-no-line l (sym (c .before .is-line .ensures) ∙ c .if1 .left))
 
 pub parse-settings-spec : {M : Type 1} → statement M

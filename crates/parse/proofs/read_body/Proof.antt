@@ -1,6 +1,5 @@
 -- `parse::read_body` meets its contract.
 use mathlib.Core.Path.{_≡_, sym, ap, _∙_}
-use mathlib.Core.Bool.{true, false}
 use mathlib.Core.List.{List}
 use Prim.Native.Nat.{ℕ, _+_, _≤_}
 use native.Mathlib.Omega.{arith}
@@ -16,38 +15,64 @@ use borrow.Author.Needs.{needs}
 use Rattle.parse.proofs.read_body.Statement.{statement}
 use Rattle.parse.proofs.read_body.Tie as tie
 
--- the text, the fields after its word, and what is known of them once the kind's row is at hand
+-- ---- contexts and what is known there, by name
+abbrev start : tie.After-word → tie.Start
+start c = search
+
+-- the word, and the fields after it
+split : (c : tie.After-word) → Named (start c .args .body .now) (c .word .given .0 .0) (c .word .given .0 .1 .0)
+split c =
+    let r : tie.After-first-word = search in
+    word-of (start c .args .body .now) _ _ (r .first-word .result) (r .first-word .ensures) (c .word .given .1)
+
+abbrev packed : tie.After-shape-of → tie.After-word
+packed c = search
+
+abbrev found : tie.After-shape-of → tie.After-find-kind
+found c = search
+
 abbrev text : tie.After-shape-of → List ℕ
-text c = c .before .before .before .before .before .before .before .before .args .body .now
+text c = start (packed c) .args .body .now
 
 abbrev size : tie.After-shape-of → ℕ
-size c = c .before .before .before .before .before .before .before .before .args .size
+size c = start (packed c) .args .size
 
 abbrev others : tie.After-shape-of → List (List ℕ)
-others c = fields-from (text c) (c .before .before .before .before .word .given .0 .1 .0 + 1)
+others c = fields-from (text c) (packed c .word .given .0 .1 .0 + 1)
 
-abbrev word : tie.After-shape-of → ℕ
-word c = c .before .before .before .before .word .given .0 .0
-
-abbrev end : tie.After-shape-of → ℕ
-end c = c .before .before .before .before .word .given .0 .1 .0
-
-named : (c : tie.After-shape-of) → Named (text c) (word c) (end c)
-named c =
-    let r = c .before .before .before .before .before .before .first-word in
-    word-of (text c) (word c) (end c) (r .result) (r .ensures) (c .before .before .before .before .word .given .1)
-
-row : (c : tie.After-shape-of)
-    → Row (text c) (others c) (c .before .before .find-kind .result) (c .shape-of .result .numbers) (c .shape-of .result .payload)
+-- the kind's row
+row : (c : tie.After-shape-of) → Row (text c) (others c) (found c .find-kind .result) (c .shape-of .result .numbers) (c .shape-of .result .payload)
 row c =
-    let k = c .before .before .find-kind in
+    let k = found c .find-kind in
+    let named = split (packed c) in
     record {
-      others = named c .others;
-      kind = k .ensures .0 ∙ ap kind-number (sym (named c .kind));
+      others = named .others;
+      kind = k .ensures .0 ∙ ap kind-number (sym (named .kind));
       least = omega arith;
       numbers = row-numbers (kind-at (k .result)) (c .shape-of .result) (c .shape-of .ensures);
       payload = row-payload (kind-at (k .result)) (c .shape-of .result) (c .shape-of .ensures);
     }
+
+-- the numbers, and the fields after them
+abbrev shaped : tie.After-numbers → tie.After-shape-of
+shaped d = search
+
+abbrev next : tie.After-numbers → ℕ
+next d = d .numbers .given .0 .1 .1 .1 .0
+
+numbers : (d : tie.After-numbers)
+    → Three (shaped d .shape-of .result .numbers) (others (shaped d)) (d .numbers .given .0 .0) (d .numbers .given .0 .1 .0) (d .numbers .given .0 .1 .1 .0)
+    (fields-from (text (shaped d)) (next d))
+numbers d = let r : tie.After-numbers-from = search in rw (d .numbers .given .1) at (r .numbers-from .ensures)
+
+-- whether the rest of the text is the data
+abbrev counted : tie.After-is-bytes → tie.After-numbers
+counted e = search
+
+spells : (e : tie.After-is-bytes) → let d = counted e in spells-bytes (size (shaped d)) (drop (next d) (text (shaped d))) ≡ e .is-bytes .result
+spells e =
+    let h = shaped (counted e) in
+    ap (spells-bytes (size h)) (sym (part-all (text h) (next (counted e)))) ∙ sym (e .is-bytes .ensures)
 
 first-word-requires : tie.Need-first-word-requires
 first-word-requires c κs = search needs
@@ -60,33 +85,30 @@ enum-told c = search needs
 
 returns : tie.Need-returns
 returns c =
-    let a = c .before .before .before .before .args in
-    unnamed (a .size) _ (no-word (a .body .now) (c .before .before .first-word .result) (c .before .before .first-word .ensures) (c .enum-told .given .1))
+    let s : tie.Start = search in let r : tie.After-first-word = search in
+    unnamed (s .args .size) _ (no-word (s .args .body .now) (r .first-word .result) (r .first-word .ensures) (c .enum-told .given .1))
 
 find-kind-requires : tie.Need-find-kind-requires
 find-kind-requires c κs = search needs
 
 returns-2 : tie.Need-returns-2
 returns-2 c =
-    let at-first-word = c .before .before .before .before .before in
-    let a = c .before .before .before .before .before .before .before .args in
-    let w = c .before .before .before .word .given in
-    let n = word-of (a .body .now) (w .0 .0) (w .0 .1 .0) (at-first-word .first-word .result) (at-first-word .first-word .ensures) (w .1) in
-    unknown (a .size) _ (ap kind-number (n .kind) ∙ sym (c .before .find-kind .ensures .0) ∙ c .if1 .taken)
+    let s : tie.Start = search in let w : tie.After-word = search in
+    unknown (s .args .size) _ (ap kind-number (split w .kind) ∙ sym (c .before .find-kind .ensures .0) ∙ c .if1 .taken)
 
 shape-of-requires : tie.Need-shape-of-requires
 shape-of-requires c κs = search needs
 
 add-numbers-from : tie.Need-add-numbers-from
 add-numbers-from c =
-    let w = named c .within in
+    let w = split (packed c) .within in
     omega arith
 
 numbers-from-requires : tie.Need-numbers-from-requires
 numbers-from-requires c κs =
-    let k = c .before .before .find-kind .result in
-    let n = row-numbers (kind-at k) (c .shape-of .result) (c .shape-of .ensures) in
-    let f : kind-at k .numbers ≤ 3 = form-ok k (row c .least) (c .before .before .find-kind .ensures .1) .few in
+    let k = found c .find-kind in
+    let n = row-numbers (kind-at (k .result)) (c .shape-of .result) (c .shape-of .ensures) in
+    let f : kind-at (k .result) .numbers ≤ 3 = form-ok (k .result) (row c .least) (k .ensures .1) .few in
     omega arith
 
 enum-known-numbers : tie.Need-enum-known-numbers
@@ -97,17 +119,14 @@ enum-told-2 c = search needs
 
 returns-3 : tie.Need-returns-3
 returns-3 c =
-    let h = c .before .before .before in
-    body-wrong (size h) (text h) (others h) _ _ _ (row h) (rw (c .enum-told2 .given .1) at (c .before .before .numbers-from .ensures))
+    let h : tie.After-shape-of = search in let r : tie.After-numbers-from = search in
+    body-wrong (size h) (text h) (others h) _ _ _ (row h) (rw (c .enum-told2 .given .1) at (r .numbers-from .ensures))
 
 returns-4 : tie.Need-returns-4
 returns-4 c =
-    let h = c .before .before .before .before .before .before in
-    let m = c .before .before .before .numbers .given in
-    let next = m .0 .1 .1 .1 .0 in
-    let t : Three (h .shape-of .result .numbers) (others h) (m .0 .0) (m .0 .1 .0) (m .0 .1 .1 .0) (fields-from (text h) next) =
-    rw (m .1) at (c .before .before .before .before .before .numbers-from .ensures) in
-    body-missing (size h) (text h) (others h) _ _ _ (row h) _ _ _ _ t (c .before .if2 .taken) (from-past (text h) next (c .if3 .taken))
+    let d : tie.After-numbers = search in
+    let h = shaped d in
+    body-missing (size h) (text h) (others h) _ _ _ (row h) _ _ _ _ (numbers d) (c .before .if2 .taken) (from-past (text h) (next d) (c .if3 .taken))
 
 sub-is-bytes : tie.Need-sub-is-bytes
 sub-is-bytes c = search needs
@@ -123,51 +142,39 @@ is-bytes-requires c κs = search needs
 
 returns-5 : tie.Need-returns-5
 returns-5 c =
-    let h = c .before .before .before .before .before .before .before .before .before in
-    let m = c .before .before .before .before .before .before .numbers .given in
-    let next = m .0 .1 .1 .1 .0 in
-    let S = size h in
+    let e : tie.After-is-bytes = search in let loaded : tie.Then2 = search in
+    let d = counted e in
+    let h = shaped d in
     let s = text h in
-    let t : Three (h .shape-of .result .numbers) (others h) (m .0 .0) (m .0 .1 .0) (m .0 .1 .1 .0) (fields-from s next) =
-    rw (m .1) at (c .before .before .before .before .before .before .before .before .numbers-from .ensures) in
-    let d : spells-bytes S (drop next s) ≡ true = ap (spells-bytes S) (sym (part-all s next)) ∙ sym (c .before .is-bytes .ensures) ∙ c .if4 .taken in
-    let g : next ≤ length s = omega arith in
+    let yes = spells e ∙ c .if4 .taken in
+    let within : next d ≤ length s = omega arith in
     record {
-      found = body-loaded S s (others h) _ _ _ (row h) _ _ _ _ t (drop next s) (from-within s next g) (c .before .before .before .before .if2 .taken) d;
-      within = g;
-      hexadecimal = d;
+      found = body-loaded (size h) s (others h) _ _ _ (row h) _ _ _ _ (numbers d) (drop (next d) s) (from-within s (next d) within) (loaded .if2 .taken) yes;
+      within = within;
+      hexadecimal = yes;
     }
 
 returns-6 : tie.Need-returns-6
 returns-6 c =
-    let h = c .before .before .before .before .before .before .before .before .before in
-    let m = c .before .before .before .before .before .before .numbers .given in
-    let next = m .0 .1 .1 .1 .0 in
-    let S = size h in
+    let e : tie.After-is-bytes = search in let loaded : tie.Then2 = search in
+    let d = counted e in
+    let h = shaped d in
     let s = text h in
-    let t : Three (h .shape-of .result .numbers) (others h) (m .0 .0) (m .0 .1 .0) (m .0 .1 .1 .0) (fields-from s next) =
-    rw (m .1) at (c .before .before .before .before .before .before .before .before .numbers-from .ensures) in
-    let d : spells-bytes S (drop next s) ≡ false = ap (spells-bytes S) (sym (part-all s next)) ∙ sym (c .before .is-bytes .ensures) ∙ c .if4 .left in
-    body-spoilt S s (others h) _ _ _ (row h) _ _ _ _ t (drop next s) (from-within s next (omega arith)) (c .before .before .before .before .if2 .taken) d
+    body-spoilt (size h) s (others h) _ _ _ (row h) _ _ _ _ (numbers d) (drop (next d) s) (from-within s (next d) (omega arith)) (loaded .if2 .taken)
+    (spells e ∙ c .if4 .left)
 
 returns-7 : tie.Need-returns-7
 returns-7 c =
-    let h = c .before .before .before .before .before .before in
-    let m = c .before .before .before .numbers .given in
-    let next = m .0 .1 .1 .1 .0 in
-    let t : Three (h .shape-of .result .numbers) (others h) (m .0 .0) (m .0 .1 .0) (m .0 .1 .1 .0) (fields-from (text h) next) =
-    rw (m .1) at (c .before .before .before .before .before .numbers-from .ensures) in
-    body-plain (size h) (text h) (others h) _ _ _ (row h) _ _ _ _ t (c .before .if2 .left) (from-past (text h) next (c .if5 .taken))
+    let d : tie.After-numbers = search in
+    let h = shaped d in
+    body-plain (size h) (text h) (others h) _ _ _ (row h) _ _ _ _ (numbers d) (c .before .if2 .left) (from-past (text h) (next d) (c .if5 .taken))
 
 returns-8 : tie.Need-returns-8
 returns-8 c =
-    let h = c .before .before .before .before .before .before in
-    let m = c .before .before .before .numbers .given in
-    let next = m .0 .1 .1 .1 .0 in
+    let d : tie.After-numbers = search in
+    let h = shaped d in
     let s = text h in
-    let t : Three (h .shape-of .result .numbers) (others h) (m .0 .0) (m .0 .1 .0) (m .0 .1 .1 .0) (fields-from s next) =
-    rw (m .1) at (c .before .before .before .before .before .numbers-from .ensures) in
-    body-extra (size h) s (others h) _ _ _ (row h) _ _ _ _ t (drop next s) (from-within s next (omega arith)) (c .before .if2 .left)
+    body-extra (size h) s (others h) _ _ _ (row h) _ _ _ _ (numbers d) (drop (next d) s) (from-within s (next d) (omega arith)) (c .before .if2 .left)
 
 pub read-body-spec : {M : Type 1} → statement M
 read-body-spec =

@@ -16,35 +16,33 @@ use Rattle.parse.proofs.settings_body.Tie as tie
 abbrev Reads : (s : List ℕ) (from to v : ℕ) → Type 0
 Reads s from to v = Next (fields-from s from) v (fields-from s to)
 
-abbrev text-one : tie.After-one → List ℕ
-text-one c = c .before .before .before .before .args .body .now
+abbrev text : tie.After-one → List ℕ
+text c = let s : tie.Start = search in s .args .body .now
 
-one : (c : tie.After-one) → Reads (text-one c) 0 (c .one .given .0 .1 .0) (c .one .given .0 .0)
-one c = let r = c .before .before .next-number in next-of (text-one c) 0 _ _ (r .result) (r .ensures) (c .one .given .1)
+one : (c : tie.After-one) → Reads (text c) 0 (c .one .given .0 .1 .0) (c .one .given .0 .0)
+one c = let r : tie.After-next-number = search in next-of (text c) 0 _ _ (r .next-number .result) (r .next-number .ensures) (c .one .given .1)
 
-abbrev text-two : tie.After-two → List ℕ
-text-two c = text-one (c .before .before .before .before)
+abbrev first : tie.After-two → tie.After-one
+first c = search
 
-two : (c : tie.After-two) → Reads (text-two c) (c .before .before .before .before .one .given .0 .1 .0) (c .two .given .0 .1 .0) (c .two .given .0 .0)
-two c =
-    let r = c .before .before .next-number2 in next-of (text-two c) (c .before .before .before .before .one .given .0 .1 .0) _ _ (r .result) (r .ensures)
-    (c .two .given .1)
+two : (c : tie.After-two) → Reads (text (first c)) (first c .one .given .0 .1 .0) (c .two .given .0 .1 .0) (c .two .given .0 .0)
+two c = let r : tie.After-next-number2 = search in next-of (text (first c)) _ _ _ (r .next-number2 .result) (r .next-number2 .ensures) (c .two .given .1)
 
-abbrev text-three : tie.After-three → List ℕ
-text-three c = text-two (c .before .before .before .before)
+abbrev second : tie.After-three → tie.After-two
+second c = search
 
-three : (c : tie.After-three) → Reads (text-three c) (c .before .before .before .before .two .given .0 .1 .0) (c .three .given .0 .1 .0) (c .three .given .0 .0)
+three : (c : tie.After-three) → Reads (text (first (second c))) (second c .two .given .0 .1 .0) (c .three .given .0 .1 .0) (c .three .given .0 .0)
 three c =
-    let r = c .before .before .next-number3 in next-of (text-three c) (c .before .before .before .before .two .given .0 .1 .0) _ _ (r .result) (r .ensures)
-    (c .three .given .1)
+    let r : tie.After-next-number3 = search in
+    next-of (text (first (second c))) _ _ _ (r .next-number3 .result) (r .next-number3 .ensures) (c .three .given .1)
 
-abbrev text-four : tie.After-four → List ℕ
-text-four c = text-three (c .before .before .before .before)
+abbrev third : tie.After-four → tie.After-three
+third c = search
 
-four : (c : tie.After-four) → Reads (text-four c) (c .before .before .before .before .three .given .0 .1 .0) (c .four .given .0 .1 .0) (c .four .given .0 .0)
+four : (c : tie.After-four) → Reads (text (first (second (third c)))) (third c .three .given .0 .1 .0) (c .four .given .0 .1 .0) (c .four .given .0 .0)
 four c =
-    let r = c .before .before .next-number4 in next-of (text-four c) (c .before .before .before .before .three .given .0 .1 .0) _ _ (r .result) (r .ensures)
-    (c .four .given .1)
+    let r : tie.After-next-number4 = search in
+    next-of (text (first (second (third c)))) _ _ _ (r .next-number4 .result) (r .next-number4 .ensures) (c .four .given .1)
 
 next-number-requires : tie.Need-next-number-requires
 next-number-requires c κs = search needs
@@ -57,9 +55,9 @@ enum-told c = search needs
 
 returns : tie.Need-returns
 returns c =
-    let s = c .before .before .before .before .args .body .now in
-    let r = c .before .before .next-number in
-    answer-none (settings-of-fields (fields s)) (first-wrong s (stop-of s 0 (r .result) (r .ensures) (c .enum-told .given .1)))
+    let s : tie.Start = search in let r : tie.After-next-number = search in
+    answer-none (settings-of-fields (fields (s .args .body .now)))
+    (first-wrong (s .args .body .now) (stop-of (s .args .body .now) 0 (r .next-number .result) (r .next-number .ensures) (c .enum-told .given .1)))
 
 next-number-requires-2 : tie.Need-next-number-requires-2
 next-number-requires-2 c κs = search needs
@@ -72,12 +70,12 @@ enum-told-2 c = search needs
 
 returns-2 : tie.Need-returns-2
 returns-2 c =
-    let s = c .before .before .before .before .before .before .before .before .args .body .now in
-    let r = c .before .before .next-number2 in
-    let at = c .before .before .before .before .one .given .0 .1 .0 in
+    let i : tie.After-one = search in let r : tie.After-next-number2 = search in
+    let s = text i in
+    let at = i .one .given .0 .1 .0 in
     answer-none (settings-of-fields (fields s))
-    (others-wrong s _ at (one (c .before .before .before .before)) (wrong-1 3 (fields-from s at) (omega arith) (stop-of s at (r .result) (r .ensures)
-    (c .enum-told2 .given .1))))
+    (others-wrong s _ at (one i)
+    (wrong-1 3 (fields-from s at) (omega arith) (stop-of s at (r .next-number2 .result) (r .next-number2 .ensures) (c .enum-told2 .given .1))))
 
 next-number-requires-3 : tie.Need-next-number-requires-3
 next-number-requires-3 c κs = search needs
@@ -90,14 +88,15 @@ enum-told-3 c = search needs
 
 returns-3 : tie.Need-returns-3
 returns-3 c =
-    let k = c .before .before .before .before in
-    let s = text-two k in
-    let r = c .before .before .next-number3 in
-    let at = k .before .before .before .before .one .given .0 .1 .0 in
-    let then = k .two .given .0 .1 .0 in
+    let j : tie.After-two = search in let r : tie.After-next-number3 = search in
+    let i = first j in
+    let s = text i in
+    let at = i .one .given .0 .1 .0 in
+    let then = j .two .given .0 .1 .0 in
     answer-none (settings-of-fields (fields s))
-    (others-wrong s _ at (one (k .before .before .before .before))
-    (wrong-2 3 _ (fields-from s at) (fields-from s then) (omega arith) (two k) (stop-of s then (r .result) (r .ensures) (c .enum-told3 .given .1))))
+    (others-wrong s _ at (one i)
+    (wrong-2 3 _ (fields-from s at) (fields-from s then) (omega arith) (two j)
+    (stop-of s then (r .next-number3 .result) (r .next-number3 .ensures) (c .enum-told3 .given .1))))
 
 next-number-requires-4 : tie.Need-next-number-requires-4
 next-number-requires-4 c κs = search needs
@@ -110,36 +109,34 @@ enum-told-4 c = search needs
 
 returns-4 : tie.Need-returns-4
 returns-4 c =
-    let k = c .before .before .before .before in
-    let j = k .before .before .before .before in
-    let s = text-three k in
-    let r = c .before .before .next-number4 in
-    let at = j .before .before .before .before .one .given .0 .1 .0 in
+    let k : tie.After-three = search in let r : tie.After-next-number4 = search in
+    let j = second k in
+    let i = first j in
+    let s = text i in
+    let at = i .one .given .0 .1 .0 in
     let then = j .two .given .0 .1 .0 in
     let last = k .three .given .0 .1 .0 in
     answer-none (settings-of-fields (fields s))
-    (others-wrong s _ at (one (j .before .before .before .before))
+    (others-wrong s _ at (one i)
     (wrong-3 3 _ _ (fields-from s at) (fields-from s then) (fields-from s last) (omega arith) (two j) (three k)
-    (stop-of s last (r .result) (r .ensures) (c .enum-told4 .given .1))))
+    (stop-of s last (r .next-number4 .result) (r .next-number4 .ensures) (c .enum-told4 .given .1))))
 
 returns-5 : tie.Need-returns-5
 returns-5 c =
-    let l = c .before .before in
-    let k = l .before .before .before .before in
-    let j = k .before .before .before .before in
-    let i = j .before .before .before .before in
-    let s = text-one i in
-    settings-found s _ _ (one i) _ _ _ _ (three-3 3 _ _ _ _ _ _ _ refl (two j) (three k) (four l)) (omega arith)
+    let l : tie.After-four = search in
+    let k = third l in
+    let j = second k in
+    let i = first j in
+    settings-found (text i) _ _ (one i) _ _ _ _ (three-3 3 _ _ _ _ _ _ _ refl (two j) (three k) (four l)) (omega arith)
 
 returns-6 : tie.Need-returns-6
 returns-6 c =
-    let l = c .before .before in
-    let k = l .before .before .before .before in
-    let j = k .before .before .before .before in
-    let i = j .before .before .before .before in
-    let s = text-one i in
-    answer-none (settings-of-fields (fields s))
-    (settings-more s _ _ (one i) _ _ _ _ (three-3 3 _ _ _ _ _ _ _ refl (two j) (three k) (four l)) (omega arith))
+    let l : tie.After-four = search in
+    let k = third l in
+    let j = second k in
+    let i = first j in
+    answer-none (settings-of-fields (fields (text i)))
+    (settings-more (text i) _ _ (one i) _ _ _ _ (three-3 3 _ _ _ _ _ _ _ refl (two j) (three k) (four l)) (omega arith))
 
 pub settings-body-spec : {M : Type 1} → statement M
 settings-body-spec =

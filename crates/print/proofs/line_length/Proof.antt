@@ -10,27 +10,33 @@ use borrow.Author.Needs.{needs}
 use Rattle.print.proofs.line_length.Statement.{statement}
 use Rattle.print.proofs.line_length.Tie as tie
 
+abbrev start : tie.After-numbers-length → tie.Start
+start c = search
+
+abbrev shaped : tie.After-numbers-length → tie.After-shape-of
+shaped c = search
+
 -- the kind's row, and the length of the line before its data
-facts : (c : tie.After-numbers-length)
-    → Known (c .before .before .before .before .before .before .args .kind) (c .before .before .before .before .before .before .args .a)
-    (c .before .before .before .before .before .before .args .b) (c .before .before .before .before .before .before .args .c)
-    (c .before .before .shape-of .result .len) (c .numbers-length .result) (c .before .before .shape-of .result .payload)
+facts : (c : tie.After-numbers-length) → let a = start c .args in
+    Known (a .kind) (a .a) (a .b) (a .c) (shaped c .shape-of .result .len) (c .numbers-length .result) (shaped c .shape-of .result .payload)
 facts c =
-    let a = c .before .before .before .before .before .before .args in
-    let r = c .before .before .shape-of in
+    let a = start c .args in
+    let r = shaped c .shape-of in
     known (a .kind) (a .a) (a .b) (a .c) (c .numbers-length .result) (r .result) (omega arith) (omega arith) (r .ensures) (c .numbers-length .ensures .0)
     (c .numbers-length .ensures .1)
 
 returns : tie.Need-returns
 returns c =
-    let a = c .before .before .args in
+    let start : tie.Start = search in
+    let a = start .args in
     let d = a .«data» .now in
     sym (unformed (a .size) (parts-from (a .kind) (a .a) (a .b) (a .c) d)
     (λ w. let k = kind-of (a .size) (a .kind) (a .a) (a .b) (a .c) d in let z : 1 ≤ a .kind = rw k at (w .least) in omega arith))
 
 returns-2 : tie.Need-returns-2
 returns-2 c =
-    let a = c .before .before .before .args in
+    let start : tie.Start = search in
+    let a = start .args in
     let d = a .«data» .now in
     sym (unformed (a .size) (parts-from (a .kind) (a .a) (a .b) (a .c) d)
     (λ w. let k = kind-of (a .size) (a .kind) (a .a) (a .b) (a .c) d in let z : a .kind ≤ kind-count = rw k at (w .most) in omega arith))
@@ -43,7 +49,8 @@ cast-word c = search needs
 
 numbers-length-requires : tie.Need-numbers-length-requires
 numbers-length-requires c κs =
-    few-numbers (c .before .before .before .before .before .args .kind) (c .before .shape-of .result) (omega arith) (omega arith) (c .before .shape-of .ensures)
+    let start : tie.Start = search in
+    few-numbers (start .args .kind) (c .before .shape-of .result) (omega arith) (omega arith) (c .before .shape-of .ensures)
 
 add-plain : tie.Need-add-plain
 add-plain c =
@@ -55,64 +62,72 @@ add-plain-2 c =
 
 returns-3 : tie.Need-returns-3
 returns-3 c =
-    let a = c .before .before .before .before .before .before .before .before .args in
+    let start : tie.Start = search in let after-numbers-length : tie.After-numbers-length = search in
+    let a = start .args in
     let d = a .«data» .now in
-    let q = facts (c .before .before) in
+    let q = facts after-numbers-length in
     let pay : kind-at (a .kind) .payload ≡ true = sym (q .payload) ∙ c .before .if3 .taken in
     let len = loaded-length (a .kind) (a .a) (a .b) (a .c) d pay in
     sym (unformed (a .size) (parts-from (a .kind) (a .a) (a .b) (a .c) d) (λ w. c .if4 .taken (loaded-size (a .size) (a .kind) (a .a) (a .b) (a .c) d pay w)))
 
 returns-4 : tie.Need-returns-4
 returns-4 c =
-    let a = c .before .before .before .before .before .before .before .before .before .args in
+    let start : tie.Start = search in let after-numbers-length : tie.After-numbers-length = search in let then3 : tie.Then3 = search in
+    let a = start .args in
     let d = a .«data» .now in
-    let q = facts (c .before .before .before) in
-    let pay : kind-at (a .kind) .payload ≡ true = sym (q .payload) ∙ c .before .before .if3 .taken in
+    let q = facts after-numbers-length in
+    let pay : kind-at (a .kind) .payload ≡ true = sym (q .payload) ∙ then3 .if3 .taken in
     let len = loaded-length (a .kind) (a .a) (a .b) (a .c) d pay in
     sym (unformed (a .size) (parts-from (a .kind) (a .a) (a .b) (a .c) d) (λ w. omega (arith, w .short)))
 
 add-loaded : tie.Need-add-loaded
 add-loaded c =
-    let q = facts (c .before .before .before) in omega arith
+    let after-numbers-length : tie.After-numbers-length = search in
+    let q = facts after-numbers-length in omega arith
 
 mul-loaded : tie.Need-mul-loaded
 mul-loaded c = search needs
 
 add-loaded-2 : tie.Need-add-loaded-2
 add-loaded-2 c =
-    let q = facts (c .before .before .before) in omega arith
+    let after-numbers-length : tie.After-numbers-length = search in
+    let q = facts after-numbers-length in omega arith
 
 returns-5 : tie.Need-returns-5
 returns-5 c =
-    let a = c .before .before .before .before .before .before .before .before .before .before .args in
+    let start : tie.Start = search in let after-numbers-length : tie.After-numbers-length = search in let then3 : tie.Then3 = search in
+    let a = start .args in
     let d = a .«data» .now in
-    let q = facts (c .before .before .before .before) in
-    let pay : kind-at (a .kind) .payload ≡ true = sym (q .payload) ∙ c .before .before .before .if3 .taken in
+    let q = facts after-numbers-length in
+    let pay : kind-at (a .kind) .payload ≡ true = sym (q .payload) ∙ then3 .if3 .taken in
     let len = loaded-length (a .kind) (a .a) (a .b) (a .c) d pay in
     sym (unformed (a .size) (parts-from (a .kind) (a .a) (a .b) (a .c) d) (λ w. omega (arith, w .short)))
 
 returns-6 : tie.Need-returns-6
 returns-6 c =
-    let a = c .before .before .before .before .before .before .before .before .before .before .args in
+    let start : tie.Start = search in let after-numbers-length : tie.After-numbers-length = search in let then3 : tie.Then3 = search in
+    let after-shared-slice-known : tie.After-shared-slice-known = search in let else4 : tie.Else4 = search in
+    let a = start .args in
     let d = a .«data» .now in
-    let q = facts (c .before .before .before .before) in
-    let pay : kind-at (a .kind) .payload ≡ true = sym (q .payload) ∙ c .before .before .before .if3 .taken in
+    let q = facts after-numbers-length in
+    let pay : kind-at (a .kind) .payload ≡ true = sym (q .payload) ∙ then3 .if3 .taken in
     let len = loaded-length (a .kind) (a .a) (a .b) (a .c) d pay in
-    let fits = c .before .before .before .before .before .before .before .before .before .before .fits in
-    let small = below-all 256 d (λ i. omega (arith, c .before .before .before .before .before .before .before .before .before .shared-slice-known .given i)) in
+    let fits = start .fits in
+    let small = below-all 256 d (λ i. omega (arith, after-shared-slice-known .shared-slice-known .given i)) in
     let whole = formed (a .size) (a .kind) (a .a) (a .b) (a .c) d (q .least) (q .most) (omega arith) (omega arith) (omega arith) small
-    (λ p. c .before .before .if4 .left) (omega arith) in
+    (λ p. else4 .if4 .left) (omega arith) in
     omega arith
 
 returns-7 : tie.Need-returns-7
 returns-7 c =
-    let a = c .before .before .before .before .before .before .before .args in
+    let start : tie.Start = search in let after-shared-slice-known : tie.After-shared-slice-known = search in
+    let a = start .args in
     let d = a .«data» .now in
     let q = facts (c .before) in
     let pay : kind-at (a .kind) .payload ≡ false = sym (q .payload) ∙ c .if3 .left in
     let len = plain-length (a .kind) (a .a) (a .b) (a .c) d pay in
-    let fits = c .before .before .before .before .before .before .before .fits in
-    let small = below-all 256 d (λ i. omega (arith, c .before .before .before .before .before .before .shared-slice-known .given i)) in
+    let fits = start .fits in
+    let small = below-all 256 d (λ i. omega (arith, after-shared-slice-known .shared-slice-known .given i)) in
     let whole = formed (a .size) (a .kind) (a .a) (a .b) (a .c) d (q .least) (q .most) (omega arith) (omega arith) (omega arith) small
     (λ p. absurd (false≢true (sym pay ∙ p))) (omega arith) in
     omega arith

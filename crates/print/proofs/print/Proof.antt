@@ -12,7 +12,8 @@ line-length-requires c κs = search needs
 
 returns : tie.Need-returns
 returns c =
-    let a = c .before .before .before .before .args in
+    let start : tie.Start = search in
+    let a = start .args in
     let e = parts-from (a .kind) (a .a) (a .b) (a .c) (a .«data» .now) in
     let l = a .line .now in
     let n = c .before .line-length in
@@ -20,20 +21,22 @@ returns c =
 
 returns-2 : tie.Need-returns-2
 returns-2 c =
-    let a = c .before .before .before .before .before .args in
+    let start : tie.Start = search in let after-line-length : tie.After-line-length = search in
+    let a = start .args in
     let e = parts-from (a .kind) (a .a) (a .b) (a .c) (a .«data» .now) in
     let l = a .line .now in
-    let n = c .before .before .line-length in
+    let n = after-line-length .line-length in
     let f = is-formed (a .size) e l (n .result) (n .ensures) (c .before .if1 .left) in
     not-printed (a .size) e l (no-room (a .size) e l (f .0) (omega (arith, f .1)))
 
 write-line-requires : tie.Need-write-line-requires
 write-line-requires c κs =
-    let a = c .before .before .before .before .before .before .args in
+    let start : tie.Start = search in let after-line-length : tie.After-line-length = search in let else1 : tie.Else1 = search in
+    let a = start .args in
     let e = parts-from (a .kind) (a .a) (a .b) (a .c) (a .«data» .now) in
     let l = a .line .now in
-    let n = c .before .before .before .line-length in
-    let f = is-formed (a .size) e l (n .result) (n .ensures) (c .before .before .if1 .left) in
+    let n = after-line-length .line-length in
+    let f = is-formed (a .size) e l (n .result) (n .ensures) (else1 .if1 .left) in
     let w = well-formed (a .size) e (f .0) in
     let k = kind-of (a .size) (a .kind) (a .a) (a .b) (a .c) (a .«data» .now) in
     (rw k at (w .least), rw k at (w .most), omega (arith, f .1))
@@ -43,12 +46,14 @@ same-length c = search needs
 
 returns-3 : tie.Need-returns-3
 returns-3 c =
-    let a = c .before .before .before .before .before .before .before .before .before .args in
+    let start : tie.Start = search in let after-line-length : tie.After-line-length = search in let else1 : tie.Else1 = search in
+    let after-write-line : tie.After-write-line = search in
+    let a = start .args in
     let e = parts-from (a .kind) (a .a) (a .b) (a .c) (a .«data» .now) in
     let l = a .line .now in
-    let n = c .before .before .before .before .before .before .line-length in
-    let f = is-formed (a .size) e l (n .result) (n .ensures) (c .before .before .before .before .before .if1 .left) in
-    let w = c .before .before .write-line in
+    let n = after-line-length .line-length in
+    let f = is-formed (a .size) e l (n .result) (n .ensures) (else1 .if1 .left) in
+    let w = after-write-line .write-line in
     is-printed (a .size) e l (n .result) (w .last .1 .1 .1 .1 .1 .0) (room-enough (a .size) e l (f .0) (omega (arith, f .1))) (f .1) (w .ensures)
 
 pub print-spec : {M : Type 1} → statement M

@@ -33,9 +33,10 @@ same-length c = search needs
 
 returns : tie.Need-returns
 returns c =
-    let a = c .before .before .before .before .before .before .before .before .before .before .args in
-    let p = c .before .before .before .before .before .before .put in
-    let w = c .before .before .encode in (
+    let start : tie.Start = search in let after-put : tie.After-put = search in let after-encode : tie.After-encode = search in
+    let a = start .args in
+    let p = after-put .put in
+    let w = after-encode .encode in (
       omega arith,
       onto-then (a .at) (a .at + 1) (comma ∷ []) (hex (a .«data» .now)) (a .line .now) (p .last .0) (w .last .1 .0) (omega arith) refl (p .ensures)
           (w .ensures),

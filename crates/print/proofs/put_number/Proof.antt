@@ -24,9 +24,10 @@ same-length c = search needs
 
 returns : tie.Need-returns
 returns c =
-    let a = c .before .before .before .before .before .before .before .before .before .args in
-    let p = c .before .before .before .before .before .before .put in
-    let w = c .before .before .write in (
+    let start : tie.Start = search in let after-put : tie.After-put = search in let after-write : tie.After-write = search in
+    let a = start .args in
+    let p = after-put .put in
+    let w = after-write .write in (
       omega arith,
       onto-then (a .at) (a .at + 1) (comma ∷ []) (decimal (a .number)) (a .line .now) (p .last .0) (w .last .1 .0) (omega arith) refl (p .ensures)
           (w .ensures .1),

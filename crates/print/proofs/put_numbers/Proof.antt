@@ -8,13 +8,15 @@ use Rattle.print.proofs.put_numbers.Tie as tie
 
 returns : tie.Need-returns
 returns c =
-    let a = c .before .before .args in
+    let start : tie.Start = search in
+    let a = start .args in
     let l = a .line .now in
     numbers-0 (a .n) (a .a) (a .b) (a .c) (a .at) l (c .if1 .taken)
 
 put-number-requires : tie.Need-put-number-requires
 put-number-requires c κs =
-    let a = c .before .before .before .args in
+    let start : tie.Start = search in
+    let a = start .args in
     let l = a .line .now in
     let r = room-1 (a .n) (a .a) (a .b) (a .c) (omega arith) (omega arith) in
     omega arith
@@ -24,16 +26,18 @@ same-length c = search needs
 
 returns-2 : tie.Need-returns-2
 returns-2 c =
-    let a = c .before .before .before .before .before .before .before .args in
+    let start : tie.Start = search in let after-put-number : tie.After-put-number = search in
+    let a = start .args in
     let l = a .line .now in
-    let p = c .before .before .before .put-number in
+    let p = after-put-number .put-number in
     numbers-1 (a .n) (a .a) (a .b) (a .c) (a .at) l (p .result) (p .last .1 .0) (p .ensures .0) (p .ensures .1) (c .if2 .taken)
 
 put-number-requires-2 : tie.Need-put-number-requires-2
 put-number-requires-2 c κs =
-    let a = c .before .before .before .before .before .before .before .before .args in
+    let start : tie.Start = search in let after-put-number : tie.After-put-number = search in
+    let a = start .args in
     let l = a .line .now in
-    let p = c .before .before .before .before .put-number in
+    let p = after-put-number .put-number in
     let k = p .kept .1 .0 in
     let e = p .ensures .0 in
     let r = room-2 (a .n) (a .a) (a .b) (a .c) (omega arith) (omega arith) in
@@ -44,12 +48,14 @@ same-length-2 c = search needs
 
 returns-3 : tie.Need-returns-3
 returns-3 c =
-    let a = c .before .before .before .before .before .before .before .before .before .before .before .before .args in
+    let start : tie.Start = search in let after-put-number : tie.After-put-number = search in
+    let after-put-number2 : tie.After-put-number2 = search in
+    let a = start .args in
     let l = a .line .now in
-    let p = c .before .before .before .before .before .before .before .before .put-number in
-    let q = c .before .before .before .put-number2 in
+    let p = after-put-number .put-number in
+    let q = after-put-number2 .put-number2 in
     numbers-2 (a .n) (a .a) (a .b) (a .c) (a .at) l (p .result) (p .last .1 .0) (p .ensures .0) (p .ensures .1) (q .result) (q .last .1 .0) (q .ensures .0)
-    (q .ensures .1) (c .before .before .before .before .before .before .before .before .before .before .before .before .pre .1) (c .if3 .taken)
+    (q .ensures .1) (start .pre .1) (c .if3 .taken)
 
 put-number-requires-3 : tie.Need-put-number-requires-3
 put-number-requires-3 c κs =
