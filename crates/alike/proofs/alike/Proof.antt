@@ -24,22 +24,27 @@ returns-2 c = rw (no-second _ _ (sym (c .before .is-sound2 .ensures) ∙ not-tru
 
 are-alike-requires : tie.Need-are-alike-requires
 are-alike-requires c κs =
-    let one = sym (c .before .before .before .is-sound .ensures) ∙ not-false _ (c .before .before .if1 .left) in
+    let after-is-sound : tie.After-is-sound = search in let else1 : tie.Else1 = search in
+    let one = sym (after-is-sound .is-sound .ensures) ∙ not-false _ (else1 .if1 .left) in
     let other = sym (c .before .is-sound2 .ensures) ∙ not-false _ (c .if2 .left) in
     (record { size = bytes-size _ one; sound = bytes-sound _ one }, record { size = bytes-size _ other; sound = bytes-sound _ other })
 
 returns-3 : tie.Need-returns-3
 unfolding alike-answer decode-bytes
 returns-3 c =
-    let one = sym (c .before .before .before .before .before .is-sound .ensures) ∙ not-false _ (c .before .before .before .before .if1 .left) in
-    let other = sym (c .before .before .before .is-sound2 .ensures) ∙ not-false _ (c .before .before .if2 .left) in
+    let after-is-sound : tie.After-is-sound = search in let else1 : tie.Else1 = search in let after-is-sound2 : tie.After-is-sound2 = search in
+    let else2 : tie.Else2 = search in
+    let one = sym (after-is-sound .is-sound .ensures) ∙ not-false _ (else1 .if1 .left) in
+    let other = sym (after-is-sound2 .is-sound2 .ensures) ∙ not-false _ (else2 .if2 .left) in
     rw (both _ _ one other, sym (c .before .are-alike .ensures) ∙ c .if3 .taken)
 
 returns-4 : tie.Need-returns-4
 unfolding alike-answer decode-bytes
 returns-4 c =
-    let one = sym (c .before .before .before .before .before .is-sound .ensures) ∙ not-false _ (c .before .before .before .before .if1 .left) in
-    let other = sym (c .before .before .before .is-sound2 .ensures) ∙ not-false _ (c .before .before .if2 .left) in
+    let after-is-sound : tie.After-is-sound = search in let else1 : tie.Else1 = search in let after-is-sound2 : tie.After-is-sound2 = search in
+    let else2 : tie.Else2 = search in
+    let one = sym (after-is-sound .is-sound .ensures) ∙ not-false _ (else1 .if1 .left) in
+    let other = sym (after-is-sound2 .is-sound2 .ensures) ∙ not-false _ (else2 .if2 .left) in
     rw (both _ _ one other, sym (c .before .are-alike .ensures) ∙ c .if3 .left)
 
 pub alike-spec : {M : Type 1} → statement M

@@ -17,7 +17,8 @@ same-settings-requires c κs = search needs
 
 same-parts-requires : tie.Need-same-parts-requires
 same-parts-requires c κs =
-    two-stores _ _ (c .before .before .before .settings .ensures) (c .before .before .settings2 .ensures) (sym (c .before .same-settings .ensures)
+    let after-settings : tie.After-settings = search in let after-settings2 : tie.After-settings2 = search in
+    two-stores _ _ (after-settings .settings .ensures) (after-settings2 .settings2 .ensures) (sym (c .before .same-settings .ensures)
     ∙ c .if1 .taken)
 
 returns : tie.Need-returns
@@ -25,8 +26,9 @@ returns c = c .same-parts .ensures
 
 returns-2 : tie.Need-returns-2
 returns-2 c =
-    sym (other-settings _ _ (ap₂ same-settings (settings-are _ _ (c .before .before .before .settings .ensures))
-    (settings-are _ _ (c .before .before .settings2 .ensures))
+    let after-settings : tie.After-settings = search in let after-settings2 : tie.After-settings2 = search in
+    sym (other-settings _ _ (ap₂ same-settings (settings-are _ _ (after-settings .settings .ensures))
+    (settings-are _ _ (after-settings2 .settings2 .ensures))
     ∙ sym (c .before .same-settings .ensures) ∙ c .if1 .left))
 
 pub are-alike-spec : {M : Type 1} → statement M

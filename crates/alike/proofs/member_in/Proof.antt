@@ -20,10 +20,10 @@ up-member-requires c κs = search needs
 
 returns : tie.Need-returns
 returns c =
-    let s = c .before .before .before .before .before .before in
+    let after-is-member : tie.After-is-member = search in let then1 : tie.Then1 = search in let s : tie.Start = search in
     c .up-member .ensures ∙ sym (member-up _ _ (s .pre .0 .second) _) ∙ ap (λ (i : ℕ). decode (words (s .args .other .now)) .bricks .member i)
     (c .before .id .ensures)
-    ∙ sym (or-no _ _ (ap not (sym (c .before .before .before .is-member .ensures) ∙ c .before .before .if1 .taken)))
+    ∙ sym (or-no _ _ (ap not (sym (after-is-member .is-member .ensures) ∙ then1 .if1 .taken)))
 
 returns-2 : tie.Need-returns-2
 returns-2 c = sym (or-l _ _ (ap not (sym (c .before .is-member .ensures) ∙ c .if1 .left)))

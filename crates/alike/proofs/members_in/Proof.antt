@@ -30,7 +30,9 @@ member-in-requires : tie.Need-member-in-requires Inv-loop μ-loop
 member-in-requires c κs = search needs
 
 returns : tie.Need-returns Inv-loop μ-loop
-returns c = sym (all-false _ _ (c .before .before .before .before .loop .p) (search needs) (sym (c .before .member-in .ensures) ∙ not-true _ (c .if2 .taken)))
+returns c =
+    let at-loop : tie.At-loop Inv-loop μ-loop = search in
+    sym (all-false _ _ (at-loop .loop .p) (search needs) (sym (c .before .member-in .ensures) ∙ not-true _ (c .if2 .taken)))
 
 add-p : tie.Need-add-p Inv-loop μ-loop
 add-p c = search needs
@@ -40,13 +42,15 @@ loop-less c = search needs
 
 loop-again : tie.Need-loop-again Inv-loop μ-loop
 loop-again c =
-    let at = c .before .before .before .before in (
+    let at : tie.At-loop Inv-loop μ-loop = search in (
       search needs,
       below-more _ (at .loop .p) (at .loop .inv .1) (sym (c .before .member-in .ensures) ∙ not-false _ (c .if2 .left)),
     )
 
 returns-2 : tie.Need-returns-2 Inv-loop μ-loop
-returns-2 c = sym (all-true _ _ (λ k l. c .before .before .loop .inv .1 k (omega arith)))
+returns-2 c =
+    let at-loop : tie.At-loop Inv-loop μ-loop = search in
+    sym (all-true _ _ (λ k l. at-loop .loop .inv .1 k (omega arith)))
 
 pub members-in-spec : {M : Type 1} → statement M
 members-in-spec = tie.close (tie.spec Inv-loop μ-loop loop-holds member-in-requires returns add-p loop-less loop-again returns-2)

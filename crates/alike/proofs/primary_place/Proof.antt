@@ -16,7 +16,8 @@ place-of-requires c κs = search needs
 
 returns : tie.Need-returns
 returns c =
-    subst (λ (i : ℕ). PlaceOf (c .before .before .before .args .settings) (decode (words (c .before .before .before .args .one .now))) i (c .place-of .result))
+    let start : tie.Start = search in
+    subst (λ (i : ℕ). PlaceOf (start .args .settings) (decode (words (start .args .one .now))) i (c .place-of .result))
     (ap (λ (a : Agreed). a .primary) (c .before .agreed .ensures)) (c .place-of .ensures)
 
 pub primary-place-spec : {M : Type 1} → statement M

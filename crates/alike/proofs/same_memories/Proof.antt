@@ -29,7 +29,9 @@ same-memory-requires : tie.Need-same-memory-requires Inv-loop μ-loop
 same-memory-requires c κs = search needs
 
 returns : tie.Need-returns Inv-loop μ-loop
-returns c = sym (all-false _ _ (c .before .before .before .loop .g) (search needs) (sym (c .before .same-memory .ensures) ∙ not-true _ (c .if1 .taken)))
+returns c =
+    let at-loop : tie.At-loop Inv-loop μ-loop = search in
+    sym (all-false _ _ (at-loop .loop .g) (search needs) (sym (c .before .same-memory .ensures) ∙ not-true _ (c .if1 .taken)))
 
 add-g : tie.Need-add-g Inv-loop μ-loop
 add-g c = search needs
@@ -39,7 +41,7 @@ loop-less c = search needs
 
 loop-again : tie.Need-loop-again Inv-loop μ-loop
 loop-again c =
-    let at = c .before .before .before in (
+    let at : tie.At-loop Inv-loop μ-loop = search in (
       search needs,
       search needs,
       below-more _ (at .loop .g) (at .loop .inv .2) (sym (c .before .same-memory .ensures) ∙ not-false _ (c .if1 .left)),

@@ -21,16 +21,16 @@ enum-known-second c = search needs
 
 memory-requires : tie.Need-memory-requires
 memory-requires c κs =
-    let at-first = c .before .before .before .before .before in
-    let at-primary-place = at-first .before .before in
+    let at-first : tie.After-first = search in let at-primary-place : tie.After-primary-place = search in
     let k = stands (at-first .first .given .1) (at-primary-place .primary-place .ensures) in
-    let s = at-primary-place .before .before .before in
+    let s : tie.Start = search in
     (s .pre .0 .first, k .inside, holds k, s .pre .1)
 
 memory-requires-2 : tie.Need-memory-requires-2
 memory-requires-2 c κs =
-    let k = stands (c .before .before .second .given .1) (c .before .before .before .before .primary-place2 .ensures) in
-    let s = c .before .before .before .before .before .before .before .before .before .before .before in
+    let after-second : tie.After-second = search in let after-primary-place2 : tie.After-primary-place2 = search in
+    let k = stands (after-second .second .given .1) (after-primary-place2 .primary-place2 .ensures) in
+    let s : tie.Start = search in
     (s .pre .0 .second, k .inside, holds k, s .pre .1)
 
 same-requires : tie.Need-same-requires
@@ -41,8 +41,9 @@ enum-told c = search needs
 
 none-there-requires : tie.Need-none-there-requires
 none-there-requires c κs =
-    let k = stands (c .before .before .before .before .first .given .1) (c .before .before .before .before .before .before .primary-place .ensures) in
-    let s = c .before .before .before .before .before .before .before .before .before in
+    let after-first : tie.After-first = search in let after-primary-place : tie.After-primary-place = search in
+    let k = stands (after-first .first .given .1) (after-primary-place .primary-place .ensures) in
+    let s : tie.Start = search in
     (s .pre .0 .first, k .inside, holds k, s .pre .1)
 
 enum-told-2 : tie.Need-enum-told-2
@@ -56,8 +57,9 @@ enum-known-second-2 c = search needs
 
 none-there-requires-2 : tie.Need-none-there-requires-2
 none-there-requires-2 c κs =
-    let k = stands (c .before .second2 .given .1) (c .before .before .before .primary-place3 .ensures) in
-    let s = c .before .before .before .before .before .before .before .before .before in
+    let after-primary-place3 : tie.After-primary-place3 = search in
+    let k = stands (c .before .second2 .given .1) (after-primary-place3 .primary-place3 .ensures) in
+    let s : tie.Start = search in
     (s .pre .0 .second, k .inside, holds k, s .pre .1)
 
 enum-told-3 : tie.Need-enum-told-3
@@ -65,52 +67,49 @@ enum-told-3 c = search needs
 
 returns : tie.Need-returns
 returns c =
-    let at-primary-place2 = c .before .before .before .before .before .before in
-    let at-first = at-primary-place2 .before .before in
-    let at-primary-place = at-first .before .before in
-    let b = at-primary-place .before .before .before in
+    let after-memory : tie.After-memory = search in let after-second : tie.After-second = search in
+    let at-primary-place2 : tie.After-primary-place2 = search in let at-first : tie.After-first = search in
+    let at-primary-place : tie.After-primary-place = search in let b : tie.Start = search in
     let one = decode (words (b .args .one .now)) in
     let other = decode (words (b .args .other .now)) in
-    c .same .ensures ∙ ap₂ same-entries (c .before .before .memory .ensures .same) (c .before .memory2 .ensures .same)
-    ∙ both-stand one other (b .args .bucket) (at-first .first .given .0 .0) (c .before .before .before .before .second .given .0 .0)
-    (stands (at-first .first .given .1) (at-primary-place .primary-place .ensures) .here) (stands (c .before .before .before .before .second .given .1)
+    c .same .ensures ∙ ap₂ same-entries (after-memory .memory .ensures .same) (c .before .memory2 .ensures .same)
+    ∙ both-stand one other (b .args .bucket) (at-first .first .given .0 .0) (after-second .second .given .0 .0)
+    (stands (at-first .first .given .1) (at-primary-place .primary-place .ensures) .here) (stands (after-second .second .given .1)
     (at-primary-place2 .primary-place2 .ensures) .here)
 
 returns-2 : tie.Need-returns-2
 returns-2 c =
-    let at-first = c .before .before .before .before .before in
-    let at-primary-place = at-first .before .before in
-    let b = at-primary-place .before .before .before in
+    let after-primary-place2 : tie.After-primary-place2 = search in let at-first : tie.After-first = search in
+    let at-primary-place : tie.After-primary-place = search in let b : tie.Start = search in
     let one = decode (words (b .args .one .now)) in
     let other = decode (words (b .args .other .now)) in
     let g = b .args .bucket in
     c .none-there .ensures
     ∙ first-stands one other g (at-first .first .given .0 .0) (stands (at-first .first .given .1) (at-primary-place .primary-place .ensures) .here)
-    (nowhere (b .args .settings) other (other .bucket g .primary) (c .before .enum-told .given .1) (c .before .before .before .primary-place2 .ensures))
+    (nowhere (b .args .settings) other (other .bucket g .primary) (c .before .enum-told .given .1) (after-primary-place2 .primary-place2 .ensures))
 
 returns-3 : tie.Need-returns-3
 returns-3 c =
-    let at-enum-told2 = c .before .before .before .before .before in
-    let at-primary-place = at-enum-told2 .before .before in
-    let b = at-primary-place .before .before .before in
+    let after-second2 : tie.After-second2 = search in let after-primary-place3 : tie.After-primary-place3 = search in
+    let at-enum-told2 : tie.After-enum-told2 = search in let at-primary-place : tie.After-primary-place = search in let b : tie.Start = search in
     let one = decode (words (b .args .one .now)) in
     let other = decode (words (b .args .other .now)) in
     let g = b .args .bucket in
     c .none-there2 .ensures
-    ∙ second-stands one other g (c .before .before .second2 .given .0 .0)
+    ∙ second-stands one other g (after-second2 .second2 .given .0 .0)
     (nowhere (b .args .settings) one (one .bucket g .primary) (at-enum-told2 .enum-told2 .given .1) (at-primary-place .primary-place .ensures))
-    (stands (c .before .before .second2 .given .1) (c .before .before .before .before .primary-place3 .ensures) .here)
+    (stands (after-second2 .second2 .given .1) (after-primary-place3 .primary-place3 .ensures) .here)
 
 returns-4 : tie.Need-returns-4
 returns-4 c =
-    let at-primary-place = c .before .before .before .before .before in
-    let b = at-primary-place .before .before .before in
+    let after-enum-told2 : tie.After-enum-told2 = search in let after-primary-place3 : tie.After-primary-place3 = search in
+    let at-primary-place : tie.After-primary-place = search in let b : tie.Start = search in
     let one = decode (words (b .args .one .now)) in
     let other = decode (words (b .args .other .now)) in
     let g = b .args .bucket in
-    none-stand one other g (nowhere (b .args .settings) one (one .bucket g .primary) (c .before .before .before .enum-told2 .given .1)
+    none-stand one other g (nowhere (b .args .settings) one (one .bucket g .primary) (after-enum-told2 .enum-told2 .given .1)
     (at-primary-place .primary-place .ensures))
-    (nowhere (b .args .settings) other (other .bucket g .primary) (c .enum-told3 .given .1) (c .before .before .primary-place3 .ensures))
+    (nowhere (b .args .settings) other (other .bucket g .primary) (c .enum-told3 .given .1) (after-primary-place3 .primary-place3 .ensures))
 
 pub same-memory-spec : {M : Type 1} → statement M
 same-memory-spec =
