@@ -1,7 +1,6 @@
 -- `text::find_kind` meets its contract.
 use mathlib.Core.Path.{refl, sym, ap, _∙_}
 use native.Mathlib.Omega.{arith}
-use lib.ListN.{drop}
 use Rattle.rules.specs.Event.{ascii, kinds}
 use Rattle.text.specs.Words.{packed-upto, packed, packed-from, kind-of-packed}
 use Rattle.text.specs.Table.{kind-number}
