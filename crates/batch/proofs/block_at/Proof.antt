@@ -13,7 +13,7 @@ reaches-requires c κs = search needs
 
 add-end : tie.Need-add-end
 add-end c =
-    let s = c .before .before .before in
+    let s : tie.Start = search in
     omega (arith, leb-true (s .args .at + s .args .size) (length (s .args .bytes .now)) (sym (c .before .reaches .ensures) ∙ c .if1 .taken))
 
 sub-result : tie.Need-sub-result
@@ -24,11 +24,13 @@ part-result-start c = search needs
 
 part-result-end : tie.Need-part-result-end
 part-result-end c =
-    let s = c .before .before .before in
+    let s : tie.Start = search in
     omega (arith, leb-true (s .args .at + s .args .size) (length (s .args .bytes .now)) (sym (c .before .reaches .ensures) ∙ c .if1 .taken))
 
 returns : tie.Need-returns
-returns c = block-there _ _ _ (sym (c .before .before .reaches .ensures) ∙ c .before .if1 .taken) _ refl
+returns c =
+    let after-reaches : tie.After-reaches = search in
+    block-there _ _ _ (sym (after-reaches .reaches .ensures) ∙ c .before .if1 .taken) _ refl
 
 sub-result-2 : tie.Need-sub-result-2
 sub-result-2 c = search needs
@@ -40,7 +42,9 @@ part-result-end-2 : tie.Need-part-result-end-2
 part-result-end-2 c = search needs
 
 returns-2 : tie.Need-returns-2
-returns-2 c = block-none _ _ _ (sym (c .before .before .reaches .ensures) ∙ c .before .if1 .left)
+returns-2 c =
+    let after-reaches : tie.After-reaches = search in
+    block-none _ _ _ (sym (after-reaches .reaches .ensures) ∙ c .before .if1 .left)
 
 pub block-at-spec : {M : Type 1} → statement M
 block-at-spec =

@@ -23,7 +23,8 @@ same-length c = search needs
 
 returns : tie.Need-returns
 returns c =
-    let s = c .before .before .before .before .before .before .before .before .args in
+    let start : tie.Start = search in
+    let s = start .args in
     sym (ran-unsound (batch-with (s .events .now) (s .«data» .now)) (lent (s .store .now) (s .area .now) (s .answers .now))
     (sym (c .before .is-sound .ensures) ∙ not-true _ (c .if1 .taken)))
 
@@ -35,7 +36,8 @@ same-length-2 c = search needs
 
 returns-2 : tie.Need-returns-2
 returns-2 c =
-    let s = c .before .before .before .before .before .before .before .before .before .args in
+    let start : tie.Start = search in
+    let s = start .args in
     odd-runs (batch-with (s .events .now) (s .«data» .now)) (lent (s .store .now) (s .area .now) (s .answers .now)) (passed (c .before)) (c .if2 .taken)
 
 mul-if3 : tie.Need-mul-if3
@@ -46,18 +48,21 @@ same-length-3 c = search needs
 
 returns-3 : tie.Need-returns-3
 returns-3 c =
-    let s = c .before .before .before .before .before .before .before .before .before .before .args in
-    short-runs (batch-with (s .events .now) (s .«data» .now)) (lent (s .store .now) (s .area .now) (s .answers .now)) (passed (c .before .before))
+    let start : tie.Start = search in let else1 : tie.Else1 = search in
+    let s = start .args in
+    short-runs (batch-with (s .events .now) (s .«data» .now)) (lent (s .store .now) (s .area .now) (s .answers .now)) (passed else1)
     (c .if3 .taken)
 
 settings-requires : tie.Need-settings-requires
-settings-requires c κs = store-sound _ (passed (c .before .before .before))
+settings-requires c κs =
+    let else1 : tie.Else1 = search in
+    store-sound _ (passed else1)
 
 run-all-requires : tie.Need-run-all-requires
 run-all-requires c κs =
-    let at-if3 = c .before .before .before .before .before in
+    let after-settings : tie.After-settings = search in let at-if3 : tie.Else3 = search in
     let at-if2 = at-if3 .before in
-    record { held = c .before .before .before .settings .ensures; events-in = omega (arith, at-if2 .if2 .left); answers-in = omega (arith, at-if3 .if3 .left) }
+    record { held = after-settings .settings .ensures; events-in = omega (arith, at-if2 .if2 .left); answers-in = omega (arith, at-if3 .if3 .left) }
 
 same-length-4 : tie.Need-same-length-4
 same-length-4 c = search needs
@@ -71,12 +76,11 @@ same-length-6 c = search needs
 returns-4 : tie.Need-returns-4
 unfolding decode-bytes
 returns-4 c =
-    let at-run-all = c .before .before .before .before .before .before in
-    let at-settings = at-run-all .before .before .before .before in
-    let at-if3 = at-settings .before .before in
+    let start : tie.Start = search in let at-run-all : tie.After-run-all = search in let at-settings : tie.After-settings = search in
+    let at-if3 : tie.Else3 = search in
     let at-if2 = at-if3 .before in
     let at-if1 = at-if2 .before in
-    let s = at-if1 .before .before .before .before .before .before .before .before .args in
+    let s = start .args in
     let settings = at-settings .settings in
     all-runs (batch-with (s .events .now) (s .«data» .now)) (lent (s .store .now) (s .area .now) (s .answers .now)) (passed at-if1) (settings .result .size)
     (size-is (settings .result) (s .store .now) (settings .ensures)) (at-if2 .if2 .left) (at-if3 .if3 .left) _ (at-run-all .run-all .ensures)

@@ -17,20 +17,23 @@ abbrev μ-loop : tie.MeasureT-loop
 
 loop-holds : tie.Need-loop-holds Inv-loop μ-loop
 unfolding turns
-loop-holds c = record {
-  within = omega arith;
-  store-length = refl;
-  area-length = refl;
-  answers-length = refl;
-  bytes = below-of 256 _ (λ j. omega (arith, c .before .before .before .before .slice-known .given j));
-  held = c .before .before .before .before .before .pre .held;
-  state = refl;
-}
+loop-holds c =
+    let after-slice-known : tie.After-slice-known Inv-loop μ-loop = search in let start : tie.Start Inv-loop μ-loop = search in
+    record {
+      within = omega arith;
+      store-length = refl;
+      area-length = refl;
+      answers-length = refl;
+      bytes = below-of 256 _ (λ j. omega (arith, after-slice-known .slice-known .given j));
+      held = start .pre .held;
+      state = refl;
+    }
 
 run-one-requires : tie.Need-run-one-requires Inv-loop μ-loop
 run-one-requires c κs =
-    let v = c .before .before .before .before .loop .inv in
-    let p = c .before .before .before .before .before .before .before .before .before .before .pre in
+    let at-loop : tie.At-loop Inv-loop μ-loop = search in let start : tie.Start Inv-loop μ-loop = search in
+    let v = at-loop .loop .inv in
+    let p = start .pre in
     record { held = v .held; events-in = omega (arith, p .events-in); answers-in = omega (arith, p .answers-in, v .answers-length) }
 
 add-i : tie.Need-add-i Inv-loop μ-loop
@@ -41,9 +44,11 @@ loop-less c = omega arith
 
 loop-again : tie.Need-loop-again Inv-loop μ-loop
 loop-again c =
-    let s = c .before .before .before .before .before .before .before .before .before .before .before .before .before .before .before .before .before .args in
-    let old = c .before .before .before .before .before .before .before .before .before .before .before .loop in
-    let one = c .before .before .before .before .before .before .run-one in
+    let start : tie.Start Inv-loop μ-loop = search in let at-loop : tie.At-loop Inv-loop μ-loop = search in
+    let after-run-one : tie.After-run-one Inv-loop μ-loop = search in let after-slice-known4 : tie.After-slice-known4 Inv-loop μ-loop = search in
+    let s = start .args in
+    let old = at-loop .loop in
+    let one = after-run-one .run-one in
     let batch : Batch = batch-with (s .events .now) (s .«data» .now) in
     let was : Lent = lent (old .store) (old .area) (old .answers) in
     let is : Lent = lent (one .last .0) (one .last .1 .1 .1 .1 .1 .0) (one .last .1 .1 .1 .1 .1 .1 .0) in
@@ -52,7 +57,7 @@ loop-again c =
       store-length = one .kept .0 ∙ old .inv .store-length;
       area-length = one .kept .1 .1 .1 .1 .1 .0 ∙ old .inv .area-length;
       answers-length = one .kept .1 .1 .1 .1 .1 .1 .0 ∙ old .inv .answers-length;
-      bytes = below-of 256 _ (λ j. omega (arith, c .before .before .before .before .slice-known4 .given j));
+      bytes = below-of 256 _ (λ j. omega (arith, after-slice-known4 .slice-known4 .given j));
       held = kept-of (old .inv .held) (turn-keeps (s .settings .size) batch (old .i) was is (one .ensures) (old .inv .bytes));
       state = turns-more (s .settings .size) batch (old .i) _ was is (one .ensures) (old .inv .state);
     }
@@ -68,7 +73,8 @@ same-length-3 c = c .before .loop .inv .answers-length
 
 returns : tie.Need-returns Inv-loop μ-loop
 returns c =
-    let s = c .before .before .before .before .before .before .before .args in
+    let start : tie.Start Inv-loop μ-loop = search in
+    let s = start .args in
     let v = c .before .loop in
     let e : v .i ≡ s .n = omega (arith, v .inv .within) in
     subst (λ (k : ℕ). lent (v .store) (v .area) (v .answers) ≡ turns (s .settings .size) (batch-with (s .events .now) (s .«data» .now)) k

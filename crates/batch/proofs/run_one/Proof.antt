@@ -69,11 +69,11 @@ same-length-3 c = search needs
 
 returns : tie.Need-returns
 returns c =
-    let at-step-at = c .before .before .before .before .before .before .before .before in
-    let s = c .before .before .before .before .before .before .before .before .before .before .before .before .before .before .before .before .before .before .before .before .before .args in
+    let start : tie.Start = search in let after-set-answer : tie.After-set-answer = search in let at-step-at : tie.After-step-at = search in
+    let s = start .args in
     turned (s .settings .size) (batch-with (s .events .now) (s .«data» .now)) (s .i) (lent (s .store .now) (s .area .now) (s .answers .now))
     (at-step-at .step-at .result) _ _
-    (at-step-at .step-at .ensures) _ (c .before .before .set-answer .ensures)
+    (at-step-at .step-at .ensures) _ (after-set-answer .set-answer .ensures)
 
 pub run-one-spec : {M : Type 1} → statement M
 run-one-spec =

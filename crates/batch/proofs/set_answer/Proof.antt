@@ -51,7 +51,8 @@ same-length c = search needs
 returns : tie.Need-returns
 unfolding outcome-of
 returns c =
-    let s = c .before .before .before .args in
+    let start : tie.Start = search in
+    let s = start .args in
     sym (ap (λ (x : Answer). set (set (s .answers .now) (s .to) (outcome-of x [] [] .code)) (s .to + 1) (outcome-of x [] [] .key))
     (c .before .answer .given .1))
 
@@ -61,7 +62,8 @@ same-length-2 c = search needs
 returns-2 : tie.Need-returns-2
 unfolding outcome-of
 returns-2 c =
-    let s = c .before .before .before .args in
+    let start : tie.Start = search in
+    let s = start .args in
     sym (ap (λ (x : Answer). set (set (s .answers .now) (s .to) (outcome-of x [] [] .code)) (s .to + 1) (outcome-of x [] [] .key))
     (c .before .answer2 .given .1))
 

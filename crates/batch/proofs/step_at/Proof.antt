@@ -16,7 +16,7 @@ reaches-requires c κs = search needs
 
 add-end : tie.Need-add-end
 add-end c =
-    let s = c .before .before .before .before .before .before in
+    let s : tie.Start = search in
     omega (arith, leb-true (s .args .at + s .args .settings .size) (length (s .args .area .now)) (sym (c .before .reaches .ensures) ∙ c .if2 .taken))
 
 sub-fill-block : tie.Need-sub-fill-block
@@ -27,10 +27,10 @@ part-fill-block-start c = search needs
 
 part-fill-block-end : tie.Need-part-fill-block-end
 part-fill-block-end c =
-    let s = c .before .before .before .before .before .before .before in
+    let after-reaches : tie.After-reaches = search in let s : tie.Start = search in
     omega (
       arith,
-      leb-true (s .args .at + s .args .settings .size) (length (s .args .area .now)) (sym (c .before .before .reaches .ensures)
+      leb-true (s .args .at + s .args .settings .size) (length (s .args .area .now)) (sym (after-reaches .reaches .ensures)
           ∙ c .before .if2 .taken),
     )
 
@@ -45,27 +45,27 @@ same-length-2 c = search needs
 
 returns : tie.Need-returns
 returns c =
-    let at-if2 = c .before .before .before .before .before in
+    let after-fill-block : tie.After-fill-block = search in let at-if2 : tie.Then2 = search in
     let at-reaches = at-if2 .before in
     let at-if1 = at-reaches .before in
-    let at-slice-known = at-if1 .before .before .before in
+    let at-slice-known : tie.After-slice-known = search in
     let s = at-slice-known .before in
     let a = s .args in
     let y = sym (at-reaches .reaches .ensures) ∙ at-if2 .if2 .taken in
     get-there (a .settings) (a .store .now) (s .pre) (a .kind) (a .a) (a .b) (a .c) (a .at) (block-at (a .settings .size) (a .at) (a .«data» .now))
     (a .area .now)
-    (below-of 256 _ (λ i. omega (arith, at-slice-known .slice-known .given i))) (at-if1 .if1 .taken) y (c .before .before .fill-block .result) _ _ _
-    (block-there (a .settings .size) (a .at) (a .area .now) y _ refl) (c .before .before .fill-block .ensures) (with-there (a .settings .size) (a .at)
+    (below-of 256 _ (λ i. omega (arith, at-slice-known .slice-known .given i))) (at-if1 .if1 .taken) y (after-fill-block .fill-block .result) _ _ _
+    (block-there (a .settings .size) (a .at) (a .area .now) y _ refl) (after-fill-block .fill-block .ensures) (with-there (a .settings .size) (a .at)
     (a .area .now) y _ refl _)
 
 returns-2 : tie.Need-returns-2
 returns-2 c =
-    let at-slice-known = c .before .before .before .before .before in
+    let then1 : tie.Then1 = search in let at-slice-known : tie.After-slice-known = search in
     let s = at-slice-known .before in
     let a = s .args in
     get-nowhere (a .settings) (a .store .now) (s .pre) (a .kind) (a .a) (a .b) (a .c) (a .at) (block-at (a .settings .size) (a .at) (a .«data» .now))
     (a .area .now)
-    (below-of 256 _ (λ i. omega (arith, at-slice-known .slice-known .given i))) (c .before .before .if1 .taken) (sym (c .before .reaches .ensures)
+    (below-of 256 _ (λ i. omega (arith, at-slice-known .slice-known .given i))) (then1 .if1 .taken) (sym (c .before .reaches .ensures)
     ∙ c .if2 .left)
 
 block-at-requires : tie.Need-block-at-requires
@@ -100,11 +100,11 @@ same-length-4 c = search needs
 
 returns-3 : tie.Need-returns-3
 returns-3 c =
-    let at-block-at = c .before .before .before .before .before .before .before .before in
+    let after-perform : tie.After-perform = search in let at-block-at : tie.After-block-at = search in
     let at-if1 = at-block-at .before in
-    let s = at-if1 .before .before .before .before in
+    let s : tie.Start = search in
     let a = s .args in
-    let r = c .before .before .before .before .perform in
+    let r = after-perform .perform in
     other-at (a .settings) (a .store .now) (s .pre) (a .kind) (a .a) (a .b) (a .c) (a .at) (block-at (a .settings .size) (a .at) (a .«data» .now))
     (a .area .now)
     (at-if1 .if1 .left) (r .result) _ _ _ (r .kept .1 .1 .1 .1 .1 .1 .1 .1 .0) (at-block-at .block-at .ensures) (r .ensures)

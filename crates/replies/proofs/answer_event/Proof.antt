@@ -15,7 +15,9 @@ use Rattle.replies.proofs.answer_event.Tie as tie
 
 -- a block's size is that of the settings, and fits the lent blocks
 small : (c : tie.After-zero-block2) → c .before .before .before .before .before .args .settings .size ≤ max-size
-small c = c .before .before .before .before .before .pre .0 .limits .size-to
+small c =
+    let start : tie.Start = search in
+    start .pre .0 .limits .size-to
 
 front-size : (c : tie.After-zero-block2) (block : List ℕ) → block ≡ zeros max-size
     → length (take (c .before .before .before .before .before .args .settings .size) block) ≡ c .before .before .before .before .before .args .settings .size
@@ -24,7 +26,8 @@ front-size c block e = length-take-le _ block (omega (arith, small c, ap length 
 blank-zero : (c : tie.After-zero-block2) → is-zero-block (c .before .before .before .before .before .args .settings .size)
     (take (c .before .before .before .before .before .args .settings .size) (c .before .zero-block .result)) ≡ true
 blank-zero c =
-    let size = c .before .before .before .before .before .args .settings .size in
+    let start : tie.Start = search in
+    let size = start .args .settings .size in
     ap (λ (x : List ℕ). is-zero-block size (take size x)) (c .before .zero-block .ensures) ∙ zeros-front max-size size (small c)
 
 -- ---- what the area shows, at the front of its block
@@ -39,8 +42,9 @@ rest c = drop (size c) (c .before .before .before .before .zero-block2 .result)
 
 shown-size : (c : tie.After-perform) → length (shown c) ≡ size c
 shown-size c =
-    c .perform .kept .1 .1 .1 .1 .1 .1 .1 .1 .0 ∙ front-size (c .before .before .before .before) (c .before .before .before .before .zero-block2 .result)
-    (c .before .before .before .before .zero-block2 .ensures)
+    let after-zero-block2 : tie.After-zero-block2 = search in
+    c .perform .kept .1 .1 .1 .1 .1 .1 .1 .1 .0 ∙ front-size after-zero-block2 (after-zero-block2 .zero-block2 .result)
+    (after-zero-block2 .zero-block2 .ensures)
 
 within : (c : tie.After-perform) (n : ℕ) → n ≤ size c → n ≤ length (shown c ++ rest c)
 within c n h = omega (arith, shown-size c, length-append (shown c) (rest c))
@@ -62,14 +66,16 @@ array-share-prefix-blank c = search needs
 
 slice-aggregate-perform : tie.Need-slice-aggregate-perform
 slice-aggregate-perform c =
-    sym (front-size (c .before .before) (c .before .before .before .zero-block .result) (c .before .before .before .zero-block .ensures))
+    let after-zero-block2 : tie.After-zero-block2 = search in let after-zero-block : tie.After-zero-block = search in
+    sym (front-size after-zero-block2 (after-zero-block .zero-block .result) (after-zero-block .zero-block .ensures))
 
 array-borrow-prefix-shown : tie.Need-array-borrow-prefix-shown
 array-borrow-prefix-shown c = search needs
 
 slice-aggregate-perform-2 : tie.Need-slice-aggregate-perform-2
 slice-aggregate-perform-2 c =
-    sym (front-size (c .before .before .before) (c .before .before .before .zero-block2 .result) (c .before .before .before .zero-block2 .ensures))
+    let after-zero-block2 : tie.After-zero-block2 = search in
+    sym (front-size after-zero-block2 (after-zero-block2 .zero-block2 .result) (after-zero-block2 .zero-block2 .ensures))
 
 perform-requires : tie.Need-perform-requires
 perform-requires c κs = search needs
@@ -81,17 +87,22 @@ shown-length-requires : tie.Need-shown-length-requires
 shown-length-requires c κs = search needs
 
 array-share-prefix-shown : tie.Need-array-share-prefix-shown
-array-share-prefix-shown c = within (c .before .before .before .before .before .before .before) _ (c .shown-length .ensures .1)
+array-share-prefix-shown c =
+    let after-perform : tie.After-perform = search in
+    within after-perform _ (c .shown-length .ensures .1)
 
 slice-aggregate-write-answer : tie.Need-slice-aggregate-write-answer
-slice-aggregate-write-answer c = sym (count (c .before .before .before .before .before .before .before .before) _ (c .before .shown-length .ensures .1))
+slice-aggregate-write-answer c =
+    let after-perform : tie.After-perform = search in
+    sym (count after-perform _ (c .before .shown-length .ensures .1))
 
 write-answer-requires : tie.Need-write-answer-requires
 write-answer-requires c κs =
-    let n = c .before .before .shown-length in
-    let e = count (c .before .before .before .before .before .before .before .before .before) (n .result) (n .ensures .1) in
-    let z = c .before .before .before .before .before .before .before .before .before .before .before .before .before in
-    omega (arith, z .before .before .before .before .before .pre .1, small z, e, n .ensures .1)
+    let after-shown-length : tie.After-shown-length = search in let after-perform : tie.After-perform = search in let start : tie.Start = search in
+    let n = after-shown-length .shown-length in
+    let e = count after-perform (n .result) (n .ensures .1) in
+    let z : tie.After-zero-block2 = search in
+    omega (arith, start .pre .1, small z, e, n .ensures .1)
 
 enum-known-answer-2 : tie.Need-enum-known-answer-2
 enum-known-answer-2 c = search needs
@@ -100,17 +111,22 @@ shown-length-requires-2 : tie.Need-shown-length-requires-2
 shown-length-requires-2 c κs = search needs
 
 array-share-prefix-shown-2 : tie.Need-array-share-prefix-shown-2
-array-share-prefix-shown-2 c = within (c .before .before .before .before .before .before .before) _ (c .shown-length2 .ensures .1)
+array-share-prefix-shown-2 c =
+    let after-perform : tie.After-perform = search in
+    within after-perform _ (c .shown-length2 .ensures .1)
 
 slice-aggregate-write-answer-2 : tie.Need-slice-aggregate-write-answer-2
-slice-aggregate-write-answer-2 c = sym (count (c .before .before .before .before .before .before .before .before) _ (c .before .shown-length2 .ensures .1))
+slice-aggregate-write-answer-2 c =
+    let after-perform : tie.After-perform = search in
+    sym (count after-perform _ (c .before .shown-length2 .ensures .1))
 
 write-answer-requires-2 : tie.Need-write-answer-requires-2
 write-answer-requires-2 c κs =
-    let n = c .before .before .shown-length2 in
-    let e = count (c .before .before .before .before .before .before .before .before .before) (n .result) (n .ensures .1) in
-    let z = c .before .before .before .before .before .before .before .before .before .before .before .before .before in
-    omega (arith, z .before .before .before .before .before .pre .1, small z, e, n .ensures .1)
+    let after-shown-length2 : tie.After-shown-length2 = search in let after-perform : tie.After-perform = search in let start : tie.Start = search in
+    let n = after-shown-length2 .shown-length2 in
+    let e = count after-perform (n .result) (n .ensures .1) in
+    let z : tie.After-zero-block2 = search in
+    omega (arith, start .pre .1, small z, e, n .ensures .1)
 
 same-length : tie.Need-same-length
 same-length c = search needs
@@ -120,16 +136,15 @@ same-length-2 c = search needs
 
 returns : tie.Need-returns
 returns c =
-    let at-shown-length = c .before .before .before .before .before in
-    let at-answer = at-shown-length .before .before in
-    let s = at-answer .before .before .before .before .before .before .before .before .before .before .before .before .before .before in
+    let after-write-answer : tie.After-write-answer = search in let after-zero-block2 : tie.After-zero-block2 = search in
+    let at-shown-length : tie.After-shown-length = search in let at-answer : tie.After-answer = search in let s : tie.Start = search in
     let a = s .args in
-    let p = c .before .before .before .before .before .before .before .before .before .before .before .before in
-    let w = c .before .before .write-answer in
+    let p : tie.After-perform = search in
+    let w = after-write-answer .write-answer in
     let n = at-shown-length .shown-length in
     let g = at-answer .answer .given in
-    yes-written (a .settings) (a .store .now) (s .pre .0) (a .kind) (a .a) (a .b) (a .c) (a .«data» .now) _ _ (blank-zero (p .before .before .before .before))
-    (front-size (p .before .before .before .before) _ (p .before .before .before .before .zero-block2 .ensures)) (p .perform .result) _ _ (p .perform .ensures)
+    yes-written (a .settings) (a .store .now) (s .pre .0) (a .kind) (a .a) (a .b) (a .c) (a .«data» .now) _ _ (blank-zero after-zero-block2)
+    (front-size after-zero-block2 _ (after-zero-block2 .zero-block2 .ensures)) (p .perform .result) _ _ (p .perform .ensures)
     (shown-size p) (g .0 .0) (g .1) (n .result) (n .ensures .0)
     _ (front p (n .result) (n .ensures .1)) (a .number) _ (a .area .now) _ (w .ensures .0) (w .ensures .1)
 
@@ -141,16 +156,15 @@ same-length-4 c = search needs
 
 returns-2 : tie.Need-returns-2
 returns-2 c =
-    let at-shown-length2 = c .before .before .before .before .before in
-    let at-answer2 = at-shown-length2 .before .before in
-    let s = at-answer2 .before .before .before .before .before .before .before .before .before .before .before .before .before .before in
+    let after-write-answer2 : tie.After-write-answer2 = search in let after-zero-block2 : tie.After-zero-block2 = search in
+    let at-shown-length2 : tie.After-shown-length2 = search in let at-answer2 : tie.After-answer2 = search in let s : tie.Start = search in
     let a = s .args in
-    let p = c .before .before .before .before .before .before .before .before .before .before .before .before in
-    let w = c .before .before .write-answer2 in
+    let p : tie.After-perform = search in
+    let w = after-write-answer2 .write-answer2 in
     let n = at-shown-length2 .shown-length2 in
     let g = at-answer2 .answer2 .given in
-    no-written (a .settings) (a .store .now) (s .pre .0) (a .kind) (a .a) (a .b) (a .c) (a .«data» .now) _ _ (blank-zero (p .before .before .before .before))
-    (front-size (p .before .before .before .before) _ (p .before .before .before .before .zero-block2 .ensures)) (p .perform .result) _ _ (p .perform .ensures)
+    no-written (a .settings) (a .store .now) (s .pre .0) (a .kind) (a .a) (a .b) (a .c) (a .«data» .now) _ _ (blank-zero after-zero-block2)
+    (front-size after-zero-block2 _ (after-zero-block2 .zero-block2 .ensures)) (p .perform .result) _ _ (p .perform .ensures)
     (shown-size p) (g .0 .0) (g .1) (n .result) (n .ensures .0)
     _ (front p (n .result) (n .ensures .1)) (a .number) _ (a .area .now) _ (w .ensures .0) (w .ensures .1)
 

@@ -17,7 +17,9 @@ block-size c =
     (omega (arith, c .before .settings .ensures .limits .size-to, ap length (c .zero-block .ensures), zeros-length max-size))
 
 data-size : (c : tie.After-parse) → length (c .parse .last .1 .1 .0) ≡ c .before .before .before .settings .result .size
-data-size c = c .parse .kept .1 .1 .0 ∙ block-size (c .before .before)
+data-size c =
+    let after-zero-block : tie.After-zero-block = search in
+    c .parse .kept .1 .1 .0 ∙ block-size after-zero-block
 
 settings-requires : tie.Need-settings-requires
 settings-requires c κs = search needs
@@ -39,17 +41,18 @@ enum-known-parsed c = search needs
 
 array-share-prefix-data : tie.Need-array-share-prefix-data
 array-share-prefix-data c =
-    let f = c .before .before .before .before .before in omega (
+    let after-settings : tie.After-settings = search in let after-zero-block : tie.After-zero-block = search in
+    let f : tie.After-parse = search in omega (
       arith,
       data-size f,
       length-append (f .parse .last .1 .1 .0)
-          (drop (f .before .before .before .settings .result .size) (f .before .before .zero-block .result)),
+          (drop (after-settings .settings .result .size) (after-zero-block .zero-block .result)),
     )
 
 slice-aggregate-answer-event : tie.Need-slice-aggregate-answer-event
 slice-aggregate-answer-event c =
-    let f = c .before .before .before .before .before .before in
-    sym (ap length (take-at (f .parse .last .1 .1 .0) _ (f .before .before .before .settings .result .size) (data-size f)) ∙ data-size f)
+    let after-settings : tie.After-settings = search in let f : tie.After-parse = search in
+    sym (ap length (take-at (f .parse .last .1 .1 .0) _ (after-settings .settings .result .size) (data-size f)) ∙ data-size f)
 
 answer-event-requires : tie.Need-answer-event-requires
 answer-event-requires c κs = search needs
@@ -96,15 +99,16 @@ same-length-4 c = search needs
 
 returns-2 : tie.Need-returns-2
 returns-2 c =
-    let at-enum-told = c .before .before .before .before .before in
-    let at-slice-known = at-enum-told .before .before .before .before .before .before .before .before .before .before in
+    let after-settings : tie.After-settings = search in let after-write-answer : tie.After-write-answer = search in
+    let after-zero-block : tie.After-zero-block = search in let at-enum-told : tie.After-enum-told = search in
+    let at-slice-known : tie.After-slice-known = search in
     let s = at-slice-known .before in
     let a = s .args in
-    let f = c .before .before .before .before .before .before .before .before in
-    let z = f .before .before .before .settings in
-    let w = c .before .before .write-answer in
-    answered-none (z .result) (a .store .now) (a .line .now) (take (z .result .size) (f .before .before .zero-block .result)) (f .parse .last .1 .1 .0)
-    (z .ensures) (f .parse .result) (block-size (f .before .before)) (f .parse .ensures .0)
+    let f : tie.After-parse = search in
+    let z = after-settings .settings in
+    let w = after-write-answer .write-answer in
+    answered-none (z .result) (a .store .now) (a .line .now) (take (z .result .size) (after-zero-block .zero-block .result)) (f .parse .last .1 .1 .0)
+    (z .ensures) (f .parse .result) (block-size after-zero-block) (f .parse .ensures .0)
     (f .parse .ensures .1) (a .number) (a .area .now) (w .result) _ (a .store .now) (below-of 256 _ (λ i. omega (arith, at-slice-known .slice-known .given i)))
     (at-enum-told .enum-told .given .1) (w .ensures .0) (w .ensures .1)
 
