@@ -263,6 +263,8 @@ slips =
     ∷ (pairs-after small (Event.crash 0 ∷ Event.view ∷ for-each 16 Event.fetch ++ for-each 16 Event.ready ++ (Event.rise 0 ∷ Event.view ∷ []))
     (0 ∷ 1 ∷ 2 ∷ 3 ∷ 4 ∷ 5 ∷ 6 ∷ 7 ∷ 8 ∷ 9 ∷ 10 ∷ 11 ∷ 12 ∷ 13 ∷ 14 ∷ 15 ∷ [])
     gives (2 ∷ 1 ∷ 3 ∷ 1 ∷ 2 ∷ 1 ∷ 2 ∷ 1 ∷ 3 ∷ 1 ∷ 2 ∷ 1 ∷ 2 ∷ 1 ∷ 3 ∷ 1 ∷ 2 ∷ 3 ∷ 2 ∷ 3 ∷ 3 ∷ 1 ∷ 2 ∷ 3 ∷ 2 ∷ 3 ∷ 3 ∷ 1 ∷ 2 ∷ 3 ∷ 2 ∷ 3 ∷ []))
+    -- pairs: of a pair whose primary is lost the backup becomes primary, and counts with all its assignments before any empty position is filled
+    ∷ (pairs-after (places 5) (Event.lose 0 ∷ Event.view ∷ []) (0 ∷ 2 ∷ 7 ∷ []) gives (2 ∷ 3 ∷ 5 ∷ 4 ∷ 5 ∷ 2 ∷ []))
     -- alike: the primary's memory, not its disk; the view; the members
     ∷ (are-alike small mapped-5 (mapped-5 ++ (Event.savemap 0 ∷ [])) gives (1 ∷ []))
     ∷ (are-alike small mapped-5 put-5 gives (0 ∷ []))

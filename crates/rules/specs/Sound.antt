@@ -19,7 +19,7 @@
 --   a down brick's memory is its disk, its buffer empty   sound-copies, sound-buffer
 --   copies and items are sorted by block                  sound-table
 --   a relay's bucket is its block's                       sound-relay
--- What the layout adds (the length; flags that are 0 or 1; a log's positions in order of keys) stands in crates/layout/specs/Store.antt.
+-- What the layout adds (its version in the first word; a log's positions in order of keys) stands in crates/layout/specs/Store.antt, sound-words.
 -- Each test takes what it reads, so that the check of lent bytes promises the same tests of what it decodes.
 use mathlib.Core.List.{List, [], _∷_}
 use mathlib.Core.Bool.{Bool, true, false, not}
