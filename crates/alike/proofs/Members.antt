@@ -35,7 +35,7 @@ places-of s t sd y n = all-true n (member-in s t) (λ p l. let i = s .ids p in
 -- and back
 member-of : (s t : State) → Sound s → all-below (s .settings .places) (member-in s t) ≡ true → (i : ℕ) → s .bricks .member i ≡ true → t .bricks .member i ≡ true
 member-of s t sd y i m =
-    let w = sd .bricks .somewhere i (sd .bricks .up-here i (sd .bricks .member-up i m)) in
+    let w = sd .bricks .somewhere i (sd .bricks .up-present i (sd .bricks .member-up i m)) in
     subst (λ (j : ℕ). s .bricks .member j ≡ true → t .bricks .member j ≡ true) (w .2) (if-so _ _ (all-at _ _ y (w .0) (w .1))) m
 
 pub members-are : (s t : State) → Sound s → Sound t → s .settings .places ≡ t .settings .places

@@ -14,7 +14,7 @@ use Rattle.rules.specs.declared.settings.Settings.{Settings}
 use Rattle.rules.specs.Entries.{Entry}
 use Rattle.rules.specs.State.{State}
 use Rattle.rules.specs.Sound.{same-entries}
-use Rattle.layout.specs.Disk.{entry-row, Brick, blank-brick}
+use Rattle.layout.specs.Contents.{entry-row, Brick, blank-brick}
 use Rattle.layout.specs.Layout.{entries-codec}
 use Rattle.layout.specs.Store.{brick-in}
 use Rattle.lent.specs.declared.brick.Found.{Found}

@@ -5,7 +5,7 @@ use Prim.Native.Nat.{ℕ}
 use Rattle.lists.specs.Tests.{_and_, _or_}
 use Rattle.rules.specs.declared.settings.Settings.{Settings}
 use Rattle.rules.specs.State.{State}
-use Rattle.rules.specs.Parts.{primary-memory}
+use Rattle.rules.specs.Derived.{primary-memory}
 use Rattle.rules.specs.Sound.{same-entries}
 use Rattle.rules.specs.Alike.{alike}
 use Rattle.layout.specs.Store.{decode-bytes, sound-bytes}

@@ -157,10 +157,10 @@ fn are_alike(one: &[u8], other: &[u8]) -> bool
 pub fn alike(one: &[u8], other: &[u8]) -> Compared
     ensures { λ r. ⌜ r ≡ alike-answer (now (one .entry)) (now (other .entry)) ⌝ }
 {
-    if !sound::is_sound(one) {
+    if !store_check::is_sound(one) {
         return Compared::Unsound;
     }
-    if !sound::is_sound(other) {
+    if !store_check::is_sound(other) {
         return Compared::Unsound;
     }
     if are_alike(one, other) {

@@ -8,9 +8,9 @@ ghost use Rattle.rules.specs.Limits.{max-relays};
 ghost use Rattle.rules.specs.Maps.{remove-at};
 ghost use Rattle.tables.specs.Tables.{IsTable};
 ghost use Rattle.codec.specs.Codec.{change};
-ghost use Rattle.layout.specs.Disk.{relay};
+ghost use Rattle.layout.specs.Contents.{relay};
 ghost use Rattle.layout.specs.Layout.{bag-codec};
-ghost use Rattle.bag.specs.Relays.{relay-words, relay-at};
+ghost use Rattle.bag.specs.Relays.{relay-words, relay-in-words};
 use layout::sizes::RELAY_WORDS;
 use rules::constants::MAX_RELAYS;
 use rules::numbers::BlockNumber;
@@ -31,7 +31,7 @@ const KEY: usize = 4;
 pub fn view_at(t: &[u8], i: usize) -> ViewNumber
     requires { ⌜ IsTable relay-words max-relays (words (now t)) (length (now t)) ⌝ }
     requires { ⌜ i < getD (words (now t)) 0 0 ⌝ }
-    ensures { λ r. ⌜ r .0 ≡ relay-at (words (now (t .entry))) i .view ⌝ }
+    ensures { λ r. ⌜ r .0 ≡ relay-in-words (words (now (t .entry))) i .view ⌝ }
 {
     ViewNumber(tables::cell(t, RELAY_WORDS, MAX_RELAYS, i, VIEW))
 }
@@ -39,7 +39,7 @@ pub fn view_at(t: &[u8], i: usize) -> ViewNumber
 pub fn bucket_at(t: &[u8], i: usize) -> u64
     requires { ⌜ IsTable relay-words max-relays (words (now t)) (length (now t)) ⌝ }
     requires { ⌜ i < getD (words (now t)) 0 0 ⌝ }
-    ensures { λ r. ⌜ r ≡ relay-at (words (now (t .entry))) i .bucket ⌝ }
+    ensures { λ r. ⌜ r ≡ relay-in-words (words (now (t .entry))) i .bucket ⌝ }
 {
     tables::cell(t, RELAY_WORDS, MAX_RELAYS, i, BUCKET)
 }
@@ -47,7 +47,7 @@ pub fn bucket_at(t: &[u8], i: usize) -> u64
 pub fn order_at(t: &[u8], i: usize) -> u64
     requires { ⌜ IsTable relay-words max-relays (words (now t)) (length (now t)) ⌝ }
     requires { ⌜ i < getD (words (now t)) 0 0 ⌝ }
-    ensures { λ r. ⌜ r ≡ relay-at (words (now (t .entry))) i .order ⌝ }
+    ensures { λ r. ⌜ r ≡ relay-in-words (words (now (t .entry))) i .order ⌝ }
 {
     tables::cell(t, RELAY_WORDS, MAX_RELAYS, i, ORDER)
 }
@@ -55,7 +55,7 @@ pub fn order_at(t: &[u8], i: usize) -> u64
 pub fn block_at(t: &[u8], i: usize) -> BlockNumber
     requires { ⌜ IsTable relay-words max-relays (words (now t)) (length (now t)) ⌝ }
     requires { ⌜ i < getD (words (now t)) 0 0 ⌝ }
-    ensures { λ r. ⌜ r .0 ≡ relay-at (words (now (t .entry))) i .block ⌝ }
+    ensures { λ r. ⌜ r .0 ≡ relay-in-words (words (now (t .entry))) i .block ⌝ }
 {
     BlockNumber(tables::cell(t, RELAY_WORDS, MAX_RELAYS, i, BLOCK))
 }
@@ -63,7 +63,7 @@ pub fn block_at(t: &[u8], i: usize) -> BlockNumber
 pub fn key_at(t: &[u8], i: usize) -> ChunkKey
     requires { ⌜ IsTable relay-words max-relays (words (now t)) (length (now t)) ⌝ }
     requires { ⌜ i < getD (words (now t)) 0 0 ⌝ }
-    ensures { λ r. ⌜ r .0 ≡ relay-at (words (now (t .entry))) i .key ⌝ }
+    ensures { λ r. ⌜ r .0 ≡ relay-in-words (words (now (t .entry))) i .key ⌝ }
 {
     ChunkKey(tables::cell(t, RELAY_WORDS, MAX_RELAYS, i, KEY))
 }

@@ -12,18 +12,18 @@ use Rattle.rules.specs.Format.{format}
 use Rattle.layout.specs.Store.{decode-bytes, sound-bytes}
 use Rattle.lent.specs.Stores.{StoreOf}
 use Rattle.lent.proofs.Stores as stores
-use Rattle.history.specs.Claim.{Told, no-history, Ageing, StruckWhole, NoWant}
+use Rattle.history.specs.Claim.{Answered, no-history, Ageing, FailuresFindWhole, NeverRefusedForWant}
 use Rattle.calls.specs.Outcome.{outcome}
-use Rattle.calls.specs.Claim.{told-calls, NeverTwo}
+use Rattle.calls.specs.Claim.{answered-calls, NeverTwo}
 use Rattle.calls.proofs.Calls.{call-keeps, kept-of}
 use Rattle.calls.proofs.Claim.{formatted, calls-claim}
 use Rattle.calls.proofs.Held.{held-settings}
 use Rattle.calls.proofs.Performed.{sound-store, store-sound}
 use Rattle.reads.proofs.Outcomes.{size-is}
 use Rattle.batch.specs.Batch.{Batch, Lent, lent, turns, count, is-batch, Ran, ran, batch-outcome}
-use Rattle.batch.specs.Claim.{store-after, calls-of, told-batch, Request, told-requests, BatchesClaim}
+use Rattle.batch.specs.Claim.{store-after, calls-of, answered-batch, Request, answered-requests, BatchesClaim}
 use Rattle.batch.proofs.Turns.{ran-none, ran-all}
-use Rattle.batch.proofs.Theorem.{held-after, bytes-after, one-by-one, all-told}
+use Rattle.batch.proofs.Theorem.{held-after, bytes-after, one-by-one, all-answered}
 
 -- ---- the calls that a list of requests makes
 calls-made : ℕ → List ℕ → List Request → List Call
@@ -33,11 +33,11 @@ calls-made size bs (Request.several batch area answers ∷ requests) =
     let l = lent bs area answers in
     cond (is-batch batch l) (calls-of size batch l) [] ++ calls-made size (batch-outcome batch l .left .store) requests
 
-told-append : (size : ℕ) (bs : List ℕ) (calls more : List Call)
-    → told-calls size bs (calls ++ more) ≡ told-calls size bs calls ++ told-calls size (store-after bs calls) more
-unfolding told-calls store-after
-told-append size bs [] more = refl
-told-append size bs (call ∷ calls) more = same-cons refl (told-append size (outcome bs call .store) calls more)
+answered-append : (size : ℕ) (bs : List ℕ) (calls more : List Call)
+    → answered-calls size bs (calls ++ more) ≡ answered-calls size bs calls ++ answered-calls size (store-after bs calls) more
+unfolding answered-calls store-after
+answered-append size bs [] more = refl
+answered-append size bs (call ∷ calls) more = same-cons refl (answered-append size (outcome bs call .store) calls more)
 
 -- ---- one batch
 module _ (c : Settings) (bs : List ℕ) (v : StoreOf c bs) (b : Below 256 bs) (batch : Batch) (area answers : List ℕ) where
@@ -52,9 +52,9 @@ module _ (c : Settings) (bs : List ℕ) (v : StoreOf c bs) (b : Below 256 bs) (b
     unfolding decode-bytes
     all-run = ran-all batch l passes y ∙ ap (λ (n : ℕ). ran 0 (turns n batch (count batch) l)) (sym (size-is c bs v))
 
-    batch-told : told-batch (c .size) batch l (batch-outcome batch l) ≡ told-calls (c .size) bs (calls-of (c .size) batch l)
-    unfolding told-batch
-    batch-told = rw all-run (all-told c batch l v b y)
+    batch-answered : answered-batch (c .size) batch l (batch-outcome batch l) ≡ answered-calls (c .size) bs (calls-of (c .size) batch l)
+    unfolding answered-batch
+    batch-answered = rw all-run (all-answered c batch l v b y)
 
     batch-left : batch-outcome batch l .left .store ≡ store-after bs (calls-of (c .size) batch l)
     batch-left = ap (λ (r : Ran). r .left .store) all-run ∙ one-by-one c batch l v b y .store
@@ -69,9 +69,9 @@ module _ (c : Settings) (bs : List ℕ) (v : StoreOf c bs) (b : Below 256 bs) (b
     none-run : batch-outcome batch l ≡ ran 3 l
     none-run = ran-none batch l passes n
 
-    none-told : told-batch (c .size) batch l (batch-outcome batch l) ≡ []
-    unfolding told-batch
-    none-told = rw none-run refl
+    none-answered : answered-batch (c .size) batch l (batch-outcome batch l) ≡ []
+    unfolding answered-batch
+    none-answered = rw none-run refl
 
   -- in both cases the store is sound
   left-held : StoreOf c (batch-outcome batch l .left .store)
@@ -81,35 +81,35 @@ module _ (c : Settings) (bs : List ℕ) (v : StoreOf c bs) (b : Below 256 bs) (b
   left-bytes = by (is-batch batch l) batch-bytes (λ n. subst (λ (r : Ran). Below 256 (r .left .store)) (sym (none-run n)) b)
 
   -- and what was told is what the calls were told that the batch makes
-  several-told : (more : List Call) → told-batch (c .size) batch l (batch-outcome batch l) ++ told-calls (c .size) (batch-outcome batch l .left .store) more
-      ≡ told-calls (c .size) bs (cond (is-batch batch l) (calls-of (c .size) batch l) [] ++ more)
-  several-told more =
+  several-answered : (more : List Call) → answered-batch (c .size) batch l (batch-outcome batch l) ++ answered-calls (c .size) (batch-outcome batch l .left .store) more
+      ≡ answered-calls (c .size) bs (cond (is-batch batch l) (calls-of (c .size) batch l) [] ++ more)
+  several-answered more =
       by (is-batch batch l)
-      (λ y. ap (λ (ts : List Told). ts ++ told-calls (c .size) (batch-outcome batch l .left .store) more) (batch-told y)
-      ∙ ap (λ (x : List ℕ). told-calls (c .size) bs (calls-of (c .size) batch l) ++ told-calls (c .size) x more) (batch-left y)
-      ∙ sym (told-append (c .size) bs (calls-of (c .size) batch l) more)
-      ∙ ap (λ (x : Bool). told-calls (c .size) bs (cond x (calls-of (c .size) batch l) [] ++ more)) (sym y))
-      (λ n. ap (λ (ts : List Told). ts ++ told-calls (c .size) (batch-outcome batch l .left .store) more) (none-told n)
-      ∙ ap (λ (r : Ran). told-calls (c .size) (r .left .store) more) (none-run n)
-      ∙ ap (λ (x : Bool). told-calls (c .size) bs (cond x (calls-of (c .size) batch l) [] ++ more)) (sym n))
+      (λ y. ap (λ (ts : List Answered). ts ++ answered-calls (c .size) (batch-outcome batch l .left .store) more) (batch-answered y)
+      ∙ ap (λ (x : List ℕ). answered-calls (c .size) bs (calls-of (c .size) batch l) ++ answered-calls (c .size) x more) (batch-left y)
+      ∙ sym (answered-append (c .size) bs (calls-of (c .size) batch l) more)
+      ∙ ap (λ (x : Bool). answered-calls (c .size) bs (cond x (calls-of (c .size) batch l) [] ++ more)) (sym y))
+      (λ n. ap (λ (ts : List Answered). ts ++ answered-calls (c .size) (batch-outcome batch l .left .store) more) (none-answered n)
+      ∙ ap (λ (r : Ran). answered-calls (c .size) (r .left .store) more) (none-run n)
+      ∙ ap (λ (x : Bool). answered-calls (c .size) bs (cond x (calls-of (c .size) batch l) [] ++ more)) (sym n))
 
 -- ---- what requests were told is what the calls that they make were told
-requests-told : (c : Settings) (bs : List ℕ) → StoreOf c bs → Below 256 bs → (requests : List Request)
-    → told-requests (c .size) bs requests ≡ told-calls (c .size) bs (calls-made (c .size) bs requests)
-unfolding told-requests told-calls calls-made store-after
-requests-told c bs v b [] = refl
-requests-told c bs v b (Request.single call ∷ requests) =
+requests-answered : (c : Settings) (bs : List ℕ) → StoreOf c bs → Below 256 bs → (requests : List Request)
+    → answered-requests (c .size) bs requests ≡ answered-calls (c .size) bs (calls-made (c .size) bs requests)
+unfolding answered-requests answered-calls calls-made store-after
+requests-answered c bs v b [] = refl
+requests-answered c bs v b (Request.single call ∷ requests) =
     let k = call-keeps bs b call in
-    same-cons refl (requests-told c (outcome bs call .store) (kept-of v k) (k .bytes) requests)
-requests-told c bs v b (Request.several batch area answers ∷ requests) =
+    same-cons refl (requests-answered c (outcome bs call .store) (kept-of v k) (k .bytes) requests)
+requests-answered c bs v b (Request.several batch area answers ∷ requests) =
     let r = batch-outcome batch (lent bs area answers) in
-    ap (λ (ts : List Told). told-batch (c .size) batch (lent bs area answers) r ++ ts)
-    (requests-told c (r .left .store) (left-held c bs v b batch area answers) (left-bytes c bs v b batch area answers) requests)
-    ∙ several-told c bs v b batch area answers (calls-made (c .size) (r .left .store) requests)
+    ap (λ (ts : List Answered). answered-batch (c .size) batch (lent bs area answers) r ++ ts)
+    (requests-answered c (r .left .store) (left-held c bs v b batch area answers) (left-bytes c bs v b batch area answers) requests)
+    ∙ several-answered c bs v b batch area answers (calls-made (c .size) (r .left .store) requests)
 
 pub batches-claim : BatchesClaim
 batches-claim c bytes b y code store f requests =
     let h = formatted c bytes b y code store f in
     let v : StoreOf c store = stores.store-of store (store-sound store (h .passes)) c (sym (held-settings h ∙ (unfold format in refl))) in
-    subst (λ (ts : List Told). Ageing (c .size) no-history ts × (StruckWhole ts → NoWant (λ g. false) ts) × NeverTwo ts)
-    (sym (requests-told c store v (h .bytes) requests)) (calls-claim c bytes b y code store f (calls-made (c .size) store requests))
+    subst (λ (ts : List Answered). Ageing (c .size) no-history ts × (FailuresFindWhole ts → NeverRefusedForWant (λ g. false) ts) × NeverTwo ts)
+    (sym (requests-answered c store v (h .bytes) requests)) (calls-claim c bytes b y code store f (calls-made (c .size) store requests))

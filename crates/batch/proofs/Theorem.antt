@@ -9,7 +9,7 @@ use lib.Dec.{ltb, eqb}
 use lib.ListN.{length, take, getD, set, length-set}
 use lib.Seq.{take-all, take-suc-set, getD-at, getD-append-add, length-take-le}
 use borrow.Author.Tests.{eqb-true, eq-eqb, lt-ltb}
-use Rattle.lists.specs.Tests.{_and_, some-below}
+use Rattle.lists.specs.Tests.{_and_, any-below}
 use Rattle.lists.specs.Runs.{run, enc-all, Below}
 use Rattle.lists.proofs.Lists.{same-cons}
 use Rattle.lists.proofs.Tests.{by, clash, and-l, and-r, both, yes-first, some-at}
@@ -21,24 +21,24 @@ use Rattle.layout.specs.Layout.{settings-of}
 use Rattle.layout.specs.Store.{decode-bytes, sound-bytes}
 use Rattle.lent.specs.Stores.{StoreOf}
 use Rattle.lent.proofs.Stores as stores
-use Rattle.history.specs.Claim.{Told}
+use Rattle.history.specs.Claim.{Answered}
 use Rattle.calls.specs.Outcome.{Outcome, outcome}
-use Rattle.calls.specs.Claim.{told-calls}
+use Rattle.calls.specs.Claim.{answered-calls}
 use Rattle.calls.proofs.Performed.{store-sound}
 use Rattle.reads.proofs.Outcomes.{size-is}
 use Rattle.calls.proofs.Calls.{kept-of}
 use Rattle.batch.specs.Batch.{block-at, with-block, Batch, Lent, begins, kind-of, call-at, turn, turns, count, is-batch, Ran, batch-outcome}
-use Rattle.batch.specs.Claim.{outcomes, store-after, code-and-key, calls-from, calls-of, blocks-from, fills-into, OneByOne, BatchTheorem, seen, told-from}
+use Rattle.batch.specs.Claim.{outcomes, store-after, code-and-key, calls-from, calls-of, blocks-from, fills-into, OneByOne, BatchTheorem, seen, answered-from}
 use Rattle.batch.proofs.Blocks.{block-with, block-same, apart, with-length, with-apart, with-same}
 use Rattle.batch.proofs.Turns.{turn-keeps, ran-unsound, ran-none, ran-all}
 use Rattle.step.proofs.Areas.{area-left, area-length}
 
-same-told : (e : Event) (w : Bool) {code code' key key' : ℕ} {bytes bytes' : List ℕ} → code ≡ code' → key ≡ key' → bytes ≡ bytes'
-    → _≡_ {A = Told} (record { event = e; code = code; said = record { key = key; bytes = bytes }; found-whole = w })
+same-answered : (e : Event) (w : Bool) {code code' key key' : ℕ} {bytes bytes' : List ℕ} → code ≡ code' → key ≡ key' → bytes ≡ bytes'
+    → _≡_ {A = Answered} (record { event = e; code = code; said = record { key = key; bytes = bytes }; found-whole = w })
     (record { event = e; code = code'; said = record { key = key'; bytes = bytes' }; found-whole = w })
-same-told e w p q s = rw (p, q, s) refl
+same-answered e w p q s = rw (p, q, s) refl
 
-none-at : (n : ℕ) (test : ℕ → Bool) (k : ℕ) → k < n → some-below n test ≡ false → test k ≡ false
+none-at : (n : ℕ) (test : ℕ → Bool) (k : ℕ) → k < n → any-below n test ≡ false → test k ≡ false
 none-at n test k l f = by (test k) (λ y. clash f (some-at n test k l y)) (λ z. z)
 
 module _ (c : Settings) (batch : Batch) where
@@ -167,20 +167,20 @@ module _ (c : Settings) (batch : Batch) where
   seen-is i k l r left e h =
       let at = begins batch i in
       let next-l = turn (c .size) batch i l in
-      by (some-below (count batch) (λ j. ltb i j and fills-into (c .size) batch left at (c .size) j)) (λ y. rw y (shown i k l r))
+      by (any-below (count batch) (λ j. ltb i j and fills-into (c .size) batch left at (c .size) j)) (λ y. rw y (shown i k l r))
       (λ n. rw n
       (block-same (c .size) at (left .area) (next-l .area) (ap (λ (m : Lent). length (m .area)) e ∙ from-length (suc i) k next-l (next i k l r))
       (ap (λ (m : Lent). run at (c .size) (m .area)) e ∙ from-kept at (c .size) (suc i) k next-l (next i k l r) left e
       (λ j p q. sym (yes-first _ _ (lt-ltb i j p)) ∙ none-at (count batch) _ j (omega arith) n))
       ∙ shown i k l r))
 
-  from-told : (i k : ℕ) (l : Lent) → Ready i k l → (left : Lent) → left ≡ from i k l → i + k ≡ count batch
-      → told-from (c .size) batch left i k l ≡ told-calls (c .size) (l .store) (calls-from (c .size) batch i k l)
-  unfolding from told-from told-calls calls-from
-  from-told i zero l r left e h = refl
-  from-told i (suc k) l r left e h =
-      same-cons (same-told _ _ (code-at i k l r left e) (key-at i k l r left e) (seen-is i k l r left e h))
-      (from-told (suc i) k (turn (c .size) batch i l) (next i k l r) left e (omega arith) ∙ unfold turn in refl)
+  from-answered : (i k : ℕ) (l : Lent) → Ready i k l → (left : Lent) → left ≡ from i k l → i + k ≡ count batch
+      → answered-from (c .size) batch left i k l ≡ answered-calls (c .size) (l .store) (calls-from (c .size) batch i k l)
+  unfolding from answered-from answered-calls calls-from
+  from-answered i zero l r left e h = refl
+  from-answered i (suc k) l r left e h =
+      same-cons (same-answered _ _ (code-at i k l r left e) (key-at i k l r left e) (seen-is i k l r left e h))
+      (from-answered (suc i) k (turn (c .size) batch i l) (next i k l r) left e (omega arith) ∙ unfold turn in refl)
 
   -- ---- from the first event on
   ready-turns : (n i : ℕ) (l : Lent) → Ready 0 n l → i ≤ n → Ready i (n - i) (turns (c .size) batch i l)
@@ -218,9 +218,9 @@ module _ (c : Settings) (batch : Batch) where
           (sym q) (λ j g p. f j g (omega arith));
     }
 
-    pub all-told : told-from (c .size) batch (turns (c .size) batch (count batch) l) 0 (count batch) l ≡ told-calls (c .size) (l .store)
+    pub all-answered : answered-from (c .size) batch (turns (c .size) batch (count batch) l) 0 (count batch) l ≡ answered-calls (c .size) (l .store)
         (calls-of (c .size) batch l)
-    all-told = from-told 0 (count batch) l ready _ all-from (zero-add (count batch))
+    all-answered = from-answered 0 (count batch) l ready _ all-from (zero-add (count batch))
 
 -- ---- the outcome of a batch on a sound store
 module _ (batch : Batch) (l : Lent) where

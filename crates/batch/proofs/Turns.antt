@@ -31,17 +31,17 @@ use Rattle.batch.specs.Batch.{block-at, with-block, Batch, Lent, lent, c
 use Rattle.batch.proofs.Blocks.{block-none, block-size, with-same, nothing}
 
 -- ---- an answer has its code and key whatever stands beside it
-told-of : (r : Answer) (area store : List ℕ)
+answered-of : (r : Answer) (area store : List ℕ)
     → outcome-of r area store ≡ record { code = outcome-of r [] [] .code; key = outcome-of r [] [] .key; area = area; store = store }
 unfolding outcome-of
-told-of (Yes k) area store = refl
-told-of (No n) area store = refl
+answered-of (Yes k) area store = refl
+answered-of (No n) area store = refl
 
 -- the outcome of a call, told with the area that it leaves
 pub steps-at : (size at : ℕ) (call : Call) (store area : List ℕ) (r : Answer) (after part area-after : List ℕ) → outcome-of r part after ≡ outcome store call
     → area-after ≡ with-block size at part area → StepsAt size at call store area r after area-after
 steps-at size at call store area r after part area-after e f =
-    let q : part ≡ outcome store call .area = ap (λ (o : Outcome). o .area) (sym (told-of r part after) ∙ e) in
+    let q : part ≡ outcome store call .area = ap (λ (o : Outcome). o .area) (sym (answered-of r part after) ∙ e) in
     record {
       same = subst (λ (p : List ℕ). outcome-of r p after ≡ outcome store call) q e;
       fills = f ∙ ap (λ (p : List ℕ). with-block size at p area) q;
@@ -57,7 +57,7 @@ module _ (c : Settings) (bs : List ℕ) (v : StoreOf c bs) (kind a b d at : ℕ)
       → StepsAt (c .size) at call bs area r after (part ++ area)
   other-at u r after part got z q e =
       steps-at (c .size) at call bs area r after (block-at (c .size) at area) (part ++ area)
-      (told-of r _ after ∙ ap (λ (o : Outcome). over o (block-at (c .size) at area)) (sym (told-of r part after))
+      (answered-of r _ after ∙ ap (λ (o : Outcome). over o (block-at (c .size) at area)) (sym (answered-of r part after))
       ∙ ap (λ (o : Outcome). over o (block-at (c .size) at area)) (e ∙ ap (λ (x : List ℕ). outcome bs (call-with kind a b d x [] [])) q)
       ∙ sym (other-areas bs kind a b d bytes (zeros (c .size)) _ [] [] u))
       (ap (λ (p : List ℕ). p ++ area) (nothing part z) ∙ with-same (c .size) at area)
@@ -95,9 +95,9 @@ pub turned : (size : ℕ) (batch : Batch) (i : ℕ) (l : Lent) (r : Answer) (aft
 unfolding turn
 turned size batch i l r after area p answers e =
     let o = outcome (l .store) (call-at size batch i (l .area)) in
-    let c : outcome-of r [] [] .code ≡ o .code = ap (λ (x : Outcome). x .code) (sym (told-of r (o .area) after) ∙ p .same) in
-    let k : outcome-of r [] [] .key ≡ o .key = ap (λ (x : Outcome). x .key) (sym (told-of r (o .area) after) ∙ p .same) in
-    let s : after ≡ o .store = ap (λ (x : Outcome). x .store) (sym (told-of r (o .area) after) ∙ p .same) in
+    let c : outcome-of r [] [] .code ≡ o .code = ap (λ (x : Outcome). x .code) (sym (answered-of r (o .area) after) ∙ p .same) in
+    let k : outcome-of r [] [] .key ≡ o .key = ap (λ (x : Outcome). x .key) (sym (answered-of r (o .area) after) ∙ p .same) in
+    let s : after ≡ o .store = ap (λ (x : Outcome). x .store) (sym (answered-of r (o .area) after) ∙ p .same) in
     rw (e, c, k, s, p .fills) refl
 
 pub turns-more : (size : ℕ) (batch : Batch) (i : ℕ) (l m k : Lent) → k ≡ turn size batch i m → m ≡ turns size batch i l → k ≡ turns size batch (i + 1) l

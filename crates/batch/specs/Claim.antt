@@ -5,7 +5,7 @@ use mathlib.Core.Bool.{Bool, true, false, cond}
 use Prim.Native.Nat.{ℕ, zero, suc, _+_, _*_, _≤_, _<_}
 use lib.Dec.{ltb, eqb}
 use lib.ListN.{getD}
-use Rattle.lists.specs.Tests.{_and_, some-below}
+use Rattle.lists.specs.Tests.{_and_, any-below}
 use Rattle.lists.specs.Runs.{run, enc-all, Below}
 use Rattle.rules.specs.declared.settings.Settings.{Settings}
 use Rattle.rules.specs.Event.{Event}
@@ -13,10 +13,10 @@ use Rattle.rules.specs.Call.{Call, get-kind, event-called}
 use Rattle.rules.specs.Step.{only-key}
 use Rattle.rules.specs.Whole.{whole}
 use Rattle.layout.specs.Store.{decode-bytes}
-use Rattle.history.specs.Claim.{Told, no-history, Ageing, StruckWhole, NoWant}
+use Rattle.history.specs.Claim.{Answered, no-history, Ageing, FailuresFindWhole, NeverRefusedForWant}
 use Rattle.store.specs.Calls.{may-format, Formatted}
 use Rattle.calls.specs.Outcome.{Outcome, outcome}
-use Rattle.calls.specs.Claim.{told-calls, NeverTwo}
+use Rattle.calls.specs.Claim.{answered-calls, NeverTwo}
 use Rattle.batch.specs.Batch.{answer-words, block-at, Batch, Lent, lent, begins, kind-of, call-at, turn, turns, count, Ran, batch-outcome}
 
 -- ---- single calls, each on the store as the last left it: their outcomes, and the store at the end
@@ -71,27 +71,27 @@ BatchTheorem = (batch : Batch) (l : Lent) → Below 256 (l .store) → batch-out
 abbrev pub seen : ℕ → Batch → Lent → ℕ → Lent → List ℕ
 seen size batch left i after =
     block-at size (begins batch i)
-    (cond (some-below (count batch) (λ j. ltb i j and fills-into size batch left (begins batch i) size j)) (after .area) (left .area))
+    (cond (any-below (count batch) (λ j. ltb i j and fills-into size batch left (begins batch i) size j)) (after .area) (left .area))
 
 -- what the events of a batch were told, k of them from event i on: code and key as the answers have them at the end, and the bytes that were seen
-unfoldable pub told-from : ℕ → Batch → Lent → ℕ → ℕ → Lent → List Told
-told-from size batch left i zero l = []
-told-from size batch left i (suc k) l =
+unfoldable pub answered-from : ℕ → Batch → Lent → ℕ → ℕ → Lent → List Answered
+answered-from size batch left i zero l = []
+answered-from size batch left i (suc k) l =
     record {
       event = event-called size (call-at size batch i (l .area));
       code = getD (left .answers) (answer-words * i) 0;
       said = record { key = getD (left .answers) (answer-words * i + 1) 0; bytes = seen size batch left i (turn size batch i l) };
       found-whole = whole (decode-bytes (l .store));
     }
-    ∷ told-from size batch left (suc i) k (turn size batch i l)
+    ∷ answered-from size batch left (suc i) k (turn size batch i l)
 
 -- that the store is not sound
-abbrev pub told-unsound : Told
-told-unsound = record { event = Event.unknown; code = 2; said = only-key 0; found-whole = false }
+abbrev pub answered-unsound : Answered
+answered-unsound = record { event = Event.unknown; code = 2; said = only-key 0; found-whole = false }
 
 -- what a batch was told by what it left: one for each event; a batch that is refused with 3 was told nothing of any block
-unfoldable pub told-batch : ℕ → Batch → Lent → Ran → List Told
-told-batch size batch l r = cond (eqb (r .code) 0) (told-from size batch (r .left) 0 (count batch) l) (cond (eqb (r .code) 2) (told-unsound ∷ []) [])
+unfoldable pub answered-batch : ℕ → Batch → Lent → Ran → List Answered
+answered-batch size batch l r = cond (eqb (r .code) 0) (answered-from size batch (r .left) 0 (count batch) l) (cond (eqb (r .code) 2) (answered-unsound ∷ []) [])
 
 pub data Request : Type 0 where
   single : Call → Request
@@ -99,17 +99,17 @@ pub data Request : Type 0 where
   several : Batch → List ℕ → List ℕ → Request
 
 -- a list of requests, each on the store as the last left it
-unfoldable pub told-requests : ℕ → List ℕ → List Request → List Told
-told-requests size bs [] = []
-told-requests size bs (Request.single call ∷ requests) = told-calls size bs (call ∷ []) ++ told-requests size (outcome bs call .store) requests
-told-requests size bs (Request.several batch area answers ∷ requests) =
+unfoldable pub answered-requests : ℕ → List ℕ → List Request → List Answered
+answered-requests size bs [] = []
+answered-requests size bs (Request.single call ∷ requests) = answered-calls size bs (call ∷ []) ++ answered-requests size (outcome bs call .store) requests
+answered-requests size bs (Request.several batch area answers ∷ requests) =
     let r = batch-outcome batch (lent bs area answers) in
-    told-batch size batch (lent bs area answers) r ++ told-requests size (r .left .store) requests
+    answered-batch size batch (lent bs area answers) r ++ answered-requests size (r .left .store) requests
 
 -- format any lent bytes with any settings that question 1 passes; then take any list of calls and batches, of all kinds of events, any order, refused ones
 -- included, each with any numbers, any bytes and areas of any lengths
 abbrev pub BatchesClaim : Type 0
 BatchesClaim = (c : Settings) (lent : List ℕ) → Below 256 lent → may-format c lent ≡ true →
     (code : ℕ) (store : List ℕ) → Formatted c lent code store → (requests : List Request) →
-    let ts = told-requests (c .size) store requests in
-    Ageing (c .size) no-history ts × (StruckWhole ts → NoWant (λ g. false) ts) × NeverTwo ts
+    let ts = answered-requests (c .size) store requests in
+    Ageing (c .size) no-history ts × (FailuresFindWhole ts → NeverRefusedForWant (λ g. false) ts) × NeverTwo ts

@@ -161,7 +161,7 @@ pub fn run(
     ensures { λ r. ⌜ ran r (lent (now (store .exit)) (now (area .exit)) (now (answers .exit)))
         ≡ batch-outcome (batch-with (now (events .entry)) (now («data» .entry))) (lent (now (store .entry)) (now (area .entry)) (now (answers .entry))) ⌝ }
 {
-    if !sound::is_sound(store) {
+    if !store_check::is_sound(store) {
         return 2;
     }
     let n = events.len() / EVENT_WORDS;

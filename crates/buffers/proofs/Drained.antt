@@ -14,11 +14,11 @@ use Rattle.lists.proofs.Tests.{by}
 use Rattle.lists.proofs.Lists.{only-more}
 use Rattle.lists.proofs.Runs.{run-length, on-at-before, on-by, on-id, on-twice, on-same}
 use Rattle.rules.specs.Numbers.{bucket-of}
-use Rattle.rules.specs.Entries.{Entry, entry, waits-for, take-in, drain, ascending}
+use Rattle.rules.specs.Entries.{Entry, entry, is-of-bucket, insert-if-room, drain, ascending}
 use Rattle.tables.specs.Tables.{Sorted}
 use Rattle.codec.specs.Codec.{change}
 use Rattle.layout.specs.Layout.{entries-codec}
-use Rattle.entries.specs.Words.{entries-words, entry-at}
+use Rattle.entries.specs.Entries.{entries-words, entry-at}
 use Rattle.buffers.specs.Steps.{drained-at, drained-words, Drains}
 use Rattle.entries.proofs.Sorted.{take-grows, drain-more, drain-ascends, drain-few}
 use Rattle.entries.proofs.Words.{entries, entries-back, entries-keeps, entries-over, entries-clean, entries-length, at-words, sorted-of, sorted-ascends}
@@ -26,7 +26,7 @@ use Rattle.entries.proofs.Words.{entries, entries-back, entries-keeps, entries-
 -- the copy after the first i entries of the buffer
 abbrev pub drained : ℕ → ℕ → ℕ → ℕ → ℕ → ℕ → List ℕ → ℕ → List Entry
 drained count g buffer waiting copy most ws i =
-    drain most (entries (run copy (entries-words most) ws)) (only (waits-for count g) (take i (entries (run buffer (entries-words waiting) ws))))
+    drain most (entries (run copy (entries-words most) ws)) (only (is-of-bucket count g) (take i (entries (run buffer (entries-words waiting) ws))))
 
 module _ (count g buffer waiting copy most : ℕ) (ws : List ℕ) where
   abbrev size : ℕ
@@ -62,11 +62,11 @@ module _ (count g buffer waiting copy most : ℕ) (ws : List ℕ) where
     part-few = rw (entries-length most part part-length (d .sorted .few)) (d .sorted .few)
 
     few-after : (i : ℕ) → length (after i) ≤ most
-    few-after i = drain-few most (entries part) (only (waits-for count g) (take i (entries queue))) part-ascends part-few
+    few-after i = drain-few most (entries part) (only (is-of-bucket count g) (take i (entries queue))) part-ascends part-few
 
     module _ (i : ℕ) where
       after-ascends : ascending 0 (after i) ≡ true
-      after-ascends = drain-ascends most (entries part) (only (waits-for count g) (take i (entries queue))) part-ascends
+      after-ascends = drain-ascends most (entries part) (only (is-of-bucket count g) (take i (entries queue))) part-ascends
 
       written : length (entries-codec most .enc (after i) part) ≡ size
       written = entries-keeps most part part-length (after i)
@@ -82,15 +82,15 @@ module _ (count g buffer waiting copy most : ℕ) (ws : List ℕ) where
             (rw (entries-back most part part-length (after i) (few-after i)) after-ascends))
 
         -- one entry taken in
-        taken : (e : Entry) → length (take-in most (after i) e) ≤ most
-            → on-run copy size (change (entries-codec most) (λ l. take-in most l e)) v ≡ on-run copy size
-            (entries-codec most .enc (take-in most (after i) e)) ws
+        taken : (e : Entry) → length (insert-if-room most (after i) e) ≤ most
+            → on-run copy size (change (entries-codec most) (λ l. insert-if-room most l e)) v ≡ on-run copy size
+            (entries-codec most .enc (insert-if-room most (after i) e)) ws
         taken e few =
-            let f : List ℕ → List ℕ = change (entries-codec most) (λ l. take-in most l e) in
+            let f : List ℕ → List ℕ = change (entries-codec most) (λ l. insert-if-room most l e) in
             ap (on-run copy size f) ev ∙ sym (on-twice copy size (entries-codec most .enc (after i)) f ws hw written)
-            ∙ on-by copy size (λ c. f (entries-codec most .enc (after i) c)) (entries-codec most .enc (take-in most (after i) e)) ws
+            ∙ on-by copy size (λ c. f (entries-codec most .enc (after i) c)) (entries-codec most .enc (insert-if-room most (after i) e)) ws
             (rw (entries-back most part part-length (after i) (few-after i))
-            (entries-over most part part-length (after i) (take-in most (after i) e) (take-grows most (after i) e after-ascends) few))
+            (entries-over most part part-length (after i) (insert-if-room most (after i) e) (take-grows most (after i) e after-ascends) few))
 
         module _ (at : ℕ) (ea : at ≡ buffer + (1 + i * 2)) (h : i < getD ws buffer 0) where
           abbrev next : Entry
@@ -109,19 +109,19 @@ module _ (count g buffer waiting copy most : ℕ) (ws : List ℕ) where
           in-queue : i < length (entries queue)
           in-queue = rw (entries-length waiting queue queue-length queue-few, queue-count) h
 
-          yes : eqb (bucket-of count (getD v at 0)) g ≡ true → after (suc i) ≡ take-in most (after i) next
-          unfolding waits-for
+          yes : eqb (bucket-of count (getD v at 0)) g ≡ true → after (suc i) ≡ insert-if-room most (after i) next
+          unfolding is-of-bucket
           yes q =
-              let z : waits-for count g (entry-at (entries queue) i) ≡ true = rw next-is q in
-              ap (drain most (entries part)) (only-more (waits-for count g) (entries queue) i (entry 0 0) in-queue ∙ rw z)
-              ∙ drain-more most (entries part) (only (waits-for count g) (take i (entries queue))) (entry-at (entries queue) i)
-              ∙ ap (take-in most (after i)) next-is
+              let z : is-of-bucket count g (entry-at (entries queue) i) ≡ true = rw next-is q in
+              ap (drain most (entries part)) (only-more (is-of-bucket count g) (entries queue) i (entry 0 0) in-queue ∙ rw z)
+              ∙ drain-more most (entries part) (only (is-of-bucket count g) (take i (entries queue))) (entry-at (entries queue) i)
+              ∙ ap (insert-if-room most (after i)) next-is
 
           no : eqb (bucket-of count (getD v at 0)) g ≡ false → after (suc i) ≡ after i
-          unfolding waits-for
+          unfolding is-of-bucket
           no q =
-              let z : waits-for count g (entry-at (entries queue) i) ≡ false = rw next-is q in
-              ap (drain most (entries part)) (only-more (waits-for count g) (entries queue) i (entry 0 0) in-queue ∙ rw z)
+              let z : is-of-bucket count g (entry-at (entries queue) i) ≡ false = rw next-is q in
+              ap (drain most (entries part)) (only-more (is-of-bucket count g) (entries queue) i (entry 0 0) in-queue ∙ rw z)
 
           pub drain-turn : (v1 : List ℕ) → v1 ≡ drained-at count g at copy most v → v1 ≡ on-run copy size (entries-codec most .enc (after (suc i))) ws
           unfolding drained-at
@@ -136,5 +136,5 @@ module _ (count g buffer waiting copy most : ℕ) (ws : List ℕ) where
         → on-run copy size (entries-codec most .enc (after i)) ws ≡ drained-words count g buffer waiting copy most ws
     drain-end i e =
         let all = take-all i (entries queue) (rw (entries-length waiting queue queue-length queue-few, queue-count, e) (le-refl (getD ws buffer 0))) in
-        on-by copy size (entries-codec most .enc (after i)) (change (entries-codec most) (λ l. drain most l (only (waits-for count g) (entries queue)))) ws
-        (ap (λ (l : List Entry). entries-codec most .enc (drain most (entries part) (only (waits-for count g) l)) part) all)
+        on-by copy size (entries-codec most .enc (after i)) (change (entries-codec most) (λ l. drain most l (only (is-of-bucket count g) (entries queue)))) ws
+        (ap (λ (l : List Entry). entries-codec most .enc (drain most (entries part) (only (is-of-bucket count g) l)) part) all)

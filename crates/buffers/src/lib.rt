@@ -9,11 +9,11 @@ ghost use Rattle.lists.specs.Runs.{run};
 ghost use Rattle.words.specs.Words.{words};
 ghost use Rattle.rules.specs.Limits.{buckets};
 ghost use Rattle.rules.specs.Numbers.{bucket-of};
-ghost use Rattle.rules.specs.Entries.{waits-for};
+ghost use Rattle.rules.specs.Entries.{is-of-bucket};
 ghost use Rattle.codec.specs.Codec.{change};
 ghost use Rattle.layout.specs.Layout.{entries-codec};
 ghost use Rattle.tables.specs.Tables.{IsTable, Sorted};
-ghost use Rattle.entries.specs.Words.{entry-words, entries-words};
+ghost use Rattle.entries.specs.Entries.{entry-words, entries-words};
 ghost use Rattle.buffers.specs.Steps.{SiftStep, drained-at, drained-words, Drains};
 use layout::sizes::ENTRY_WORDS;
 use rules::numbers::BlockNumber;
@@ -43,7 +43,7 @@ fn sift_at(t: &mut [u8], most: usize, settings: Settings, g: u64, i: usize, o: u
 // The bucket's entries go; the others stay in their order.
 pub fn drop_bucket(t: &mut [u8], most: usize, settings: Settings, g: u64)
     requires { ⌜ IsTable entry-words most (words (now t)) (length (now t)) ⌝ }
-    ensures { λ _. ⌜ words (now (t .exit)) ≡ change (entries-codec most) (only (λ e. not (waits-for (buckets settings) g e))) (words (now (t .entry))) ⌝ }
+    ensures { λ _. ⌜ words (now (t .exit)) ≡ change (entries-codec most) (only (λ e. not (is-of-bucket (buckets settings) g e))) (words (now (t .entry))) ⌝ }
 {
     let n = words::read(t, 0) as usize;
     let mut o = 0;

@@ -8,15 +8,15 @@ use lib.Dec.{eqb}
 use borrow.Author.Tests.{eq-eqb}
 use Rattle.lists.specs.Tests.{_and_}
 use Rattle.lists.proofs.Tests.{impossible}
-use Rattle.rules.specs.Event.{Event, event-from, parts-of}
+use Rattle.rules.specs.Event.{Event, event-from, event-fields}
 use Rattle.rules.specs.Call.{get-kind}
 use Rattle.rules.specs.State.{State}
 use Rattle.rules.specs.Step.{Outcome, rule, step}
 use Rattle.rules.proofs.Event.{made-kind}
 use Rattle.rules.proofs.Step.{Stepped, refused, accepted, stepped}
 
-no-bytes : (s : State) (e : Event) → (parts-of e .kind ≡ get-kind → ⊥) → rule s e .said .bytes ≡ []
-unfolding rule parts-of
+no-bytes : (s : State) (e : Event) → (event-fields e .kind ≡ get-kind → ⊥) → rule s e .said .bytes ≡ []
+unfolding rule event-fields
 no-bytes s (Event.put p i b d) n = refl
 no-bytes s (Event.copy k) n = refl
 no-bytes s (Event.savelog i) n = refl

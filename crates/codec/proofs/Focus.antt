@@ -7,11 +7,11 @@ use native.Mathlib.Omega.{arith}
 use borrow.Author.Tests.{lt-ltb, ne-eqb}
 use lib.ListN.{length, take, drop, getD, set}
 use lib.Seq.{getD-take, getD-drop, drop-length}
-use Rattle.lists.specs.Runs.{run, on-run, part}
+use Rattle.lists.specs.Runs.{run, on-run, nth-run}
 use Rattle.lists.proofs.Tests.{by-eq}
 use Rattle.lists.proofs.Runs.{fits-in, run-length, run-of-run, run-front, run-all, on-left, on-right, on-same, on-within, set-is}
-use Rattle.codec.specs.Codec.{Codec, Clean, change, Two, word, Reading, via, enc-two, _then_, enc-many, many, enc-slot, slot}
-use Rattle.codec.proofs.Laws.{Lawful, via-law, then-law, many-law, slot-law, two-is, two-left, two-right}
+use Rattle.codec.specs.Codec.{Codec, Clean, change, Two, word, Reading, via, enc-two, _then_, enc-many, many, enc-if-present, if-present}
+use Rattle.codec.proofs.Laws.{Lawful, via-law, then-law, many-law, if-present-law, two-is, two-left, two-right}
 use Rattle.codec.proofs.Laws.{many-last, many-left, many-right, many-keeps, rest-length}
 
 -- `Else a b`: a and b agree but for the part
@@ -210,12 +210,12 @@ module _ {A : Type 0} (c : Codec A) where
   many-same zero f g w e = refl
   many-same (suc n) f g w e = rw (many-same n f g (take (n * c .size) w) (λ j p. e j (omega arith)), e n (omega arith))
 
-  pub many-read : (n : ℕ) (blank : A) (i : ℕ) (w : List ℕ) → i < n → many n blank c .dec w i ≡ c .dec (part (c .size) i w)
+  pub many-read : (n : ℕ) (blank : A) (i : ℕ) (w : List ℕ) → i < n → many n blank c .dec w i ≡ c .dec (nth-run (c .size) i w)
   many-read n blank i w p = rw (lt-ltb i n p)
 
 module _ {A : Type 0} (c : Codec A) (law : Lawful c) where
   pub many-write : (n i : ℕ) (f g : ℕ → A) (w : List ℕ) → i < n → length w ≡ n * c .size → ((j : ℕ) → j < n → (j ≡ i → ⊥) → f j ≡ g j)
-      → enc-many c n g w ≡ on-run (i * c .size) (c .size) (λ _. c .enc (g i) (part (c .size) i w)) (enc-many c n f w)
+      → enc-many c n g w ≡ on-run (i * c .size) (c .size) (λ _. c .enc (g i) (nth-run (c .size) i w)) (enc-many c n f w)
   many-write zero i f g w p h e = absurd (not-suc-le-zero p)
   many-write (suc n) i f g w p h e =
       let l = many-left c n w h in
@@ -224,7 +224,7 @@ module _ {A : Type 0} (c : Codec A) (law : Lawful c) where
       let y : List ℕ = c .enc (f n) (drop (n * c .size) w) in
       let lx = many-keeps c law n f (take (n * c .size) w) l in
       by-eq i n
-      (λ _ q. let new : List ℕ → List ℕ = λ _. c .enc (g n) (part (c .size) n w) in
+      (λ _ q. let new : List ℕ → List ℕ = λ _. c .enc (g n) (nth-run (c .size) n w) in
       rw q (many-last c n g w
       ∙ ap (λ (z : List ℕ). z ++ c .enc (g n) (drop (n * c .size) w))
       (many-same c n g f (take (n * c .size) w) (λ j s. sym (e j (omega arith) (λ z. omega arith))))
@@ -233,7 +233,7 @@ module _ {A : Type 0} (c : Codec A) (law : Lawful c) where
       ∙ sym (on-right 0 (c .size) new (n * c .size) x y lx)
       ∙ rw (add-zero (n * c .size)) (ap (on-run (n * c .size) (c .size) new) (sym (many-last c n f w)))))
       (λ _ q. let b = fits-in (c .size) {i = i} {n = n} (omega arith) in
-      let new : List ℕ → List ℕ = λ _. c .enc (g i) (part (c .size) i w) in
+      let new : List ℕ → List ℕ = λ _. c .enc (g i) (nth-run (c .size) i w) in
       many-last c n g w
       ∙ ap (λ z. enc-many c n g (take (n * c .size) w) ++ c .enc z (drop (n * c .size) w)) (sym (e n (omega arith) (λ z. q (sym z))))
       ∙ ap (λ (z : List ℕ). z ++ y)
@@ -256,39 +256,39 @@ nth {c = c} law n blank i p = record {
   write = λ f g w h s. many-write c law n i f g w p h s;
 }
 
--- ---- the value of a slot that is not empty
-pub slot-none : {A : Type 0} (c : Codec A) (i : ℕ) (a : A) (w : List ℕ) → i ≡ 0 → enc-slot c i a w ≡ w
-unfolding enc-slot
-slot-none c zero a w h = refl
-slot-none c (suc i) a w h = absurd (omega arith)
+-- ---- a value that is present
+pub if-present-none : {A : Type 0} (c : Codec A) (i : ℕ) (a : A) (w : List ℕ) → i ≡ 0 → enc-if-present c i a w ≡ w
+unfolding enc-if-present
+if-present-none c zero a w h = refl
+if-present-none c (suc i) a w h = absurd (omega arith)
 
-pub slot-some : {A : Type 0} (c : Codec A) (i : ℕ) (a : A) (w : List ℕ) → 0 < i → enc-slot c i a w ≡ c .enc a w
-unfolding enc-slot
-slot-some c zero a w h = absurd (not-suc-le-zero h)
-slot-some c (suc i) a w h = refl
+pub if-present-some : {A : Type 0} (c : Codec A) (i : ℕ) (a : A) (w : List ℕ) → 0 < i → enc-if-present c i a w ≡ c .enc a w
+unfolding enc-if-present
+if-present-some c zero a w h = absurd (not-suc-le-zero h)
+if-present-some c (suc i) a w h = refl
 
 module _ {A : Type 0} (blank : A) (c : Codec A) (law : Lawful c) (w : List ℕ) (h : length w ≡ 1 + c .size) where
-  pub filled-read : 0 < getD w 0 0 → slot blank c .dec w .snd ≡ c .dec (run 1 (c .size) w)
+  pub filled-read : 0 < getD w 0 0 → if-present blank c .dec w .snd ≡ c .dec (run 1 (c .size) w)
   filled-read s = rw (ne-eqb (getD w 0 0) 0 (λ z. omega arith), run-all (c .size) (drop 1 w) (rest-length (c .size) w h))
 
   pub filled-write : (x y : Two ℕ A) → x .fst ≡ y .fst → 0 < x .fst
-      → slot blank c .enc y w ≡ on-run 1 (c .size) (λ _. c .enc (y .snd) (run 1 (c .size) w)) (slot blank c .enc x w)
+      → if-present blank c .enc y w ≡ on-run 1 (c .size) (λ _. c .enc (y .snd) (run 1 (c .size) w)) (if-present blank c .enc x w)
   filled-write x y e s =
       let l = rest-length (c .size) w h in
       let old : List ℕ = c .enc (x .snd) (drop 1 w) in
       let new : List ℕ → List ℕ = λ _. c .enc (y .snd) (run 1 (c .size) w) in
-      rw (slot-some c (y .fst) (y .snd) (drop 1 w) (omega arith), slot-some c (x .fst) (x .snd) (drop 1 w) (omega arith))
+      rw (if-present-some c (y .fst) (y .snd) (drop 1 w) (omega arith), if-present-some c (x .fst) (x .snd) (drop 1 w) (omega arith))
       (ap (λ (i : ℕ). i ∷ c .enc (y .snd) (drop 1 w)) (sym e)
       ∙ ap (λ (z : List ℕ). x .fst ∷ c .enc (y .snd) z) (sym (run-all (c .size) (drop 1 w) l))
       ∙ ap (λ (z : List ℕ). x .fst ∷ z) (sym (on-whole (c .size) new old (law .keeps (x .snd) (drop 1 w) l)))
       ∙ sym (on-right 0 (c .size) new 1 (x .fst ∷ []) old refl))
 
-abbrev pub filled : {A : Type 0} {c : Codec A} (blank : A) → Lawful c → Focus (slot blank c) c
+abbrev pub filled : {A : Type 0} {c : Codec A} (blank : A) → Lawful c → Focus (if-present blank c) c
 filled {c = c} blank law = record {
   off = 1;
   see = λ x. x .snd;
   Else = λ x y. (x .fst ≡ y .fst) × (0 < x .fst);
-  outer = slot-law blank law;
+  outer = if-present-law blank law;
   inner = law;
   same = λ x y h. (refl, h .1);
   inside = second-in 1 (c .size);

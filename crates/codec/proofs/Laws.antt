@@ -9,7 +9,7 @@ use lib.Seq.{take-at, drop-at, length-take-le}
 use Rattle.lists.specs.Runs.{enc-all, Sized, none, more}
 use Rattle.lists.specs.Rows.{over-rows}
 use Rattle.lists.proofs.Runs.{length-enc-all}
-use Rattle.codec.specs.Codec.{Codec, Two, word, flag, fixed, Reading, via, enc-two, _then_, enc-many, many, Row, table, enc-slot, slot}
+use Rattle.codec.specs.Codec.{Codec, Two, word, flag, fixed, Reading, via, enc-two, _then_, enc-many, many, Row, table, enc-if-present, if-present}
 
 pub record Lawful {A : Type 0} (c : Codec A) : Type 0 where
   pub keeps : (a : A) (w : List ℕ) → length w ≡ c .size → length (c .enc a w) ≡ c .size
@@ -161,20 +161,20 @@ module _ {A : Type 0} {r : Row A} (x : Exact r) where
     idem = λ l w h. ap (λ (v : List ℕ). length l ∷ v) (over-idem most l (drop 1 w) (rest-length (most * r .size) w h));
   }
 
--- ---- a slot
+-- ---- a value that is present or not
 module _ {A : Type 0} (c : Codec A) (law : Lawful c) where
-  slot-keeps : (i : ℕ) (a : A) (w : List ℕ) → length w ≡ c .size → length (enc-slot c i a w) ≡ c .size
-  unfolding enc-slot
-  slot-keeps zero a w h = h
-  slot-keeps (suc i) a w h = law .keeps a w h
+  if-present-keeps : (i : ℕ) (a : A) (w : List ℕ) → length w ≡ c .size → length (enc-if-present c i a w) ≡ c .size
+  unfolding enc-if-present
+  if-present-keeps zero a w h = h
+  if-present-keeps (suc i) a w h = law .keeps a w h
 
-  slot-idem : (i : ℕ) (a : A) (w : List ℕ) → length w ≡ c .size → enc-slot c i a (enc-slot c i a w) ≡ enc-slot c i a w
-  unfolding enc-slot
-  slot-idem zero a w h = refl
-  slot-idem (suc i) a w h = law .idem a w h
+  if-present-idem : (i : ℕ) (a : A) (w : List ℕ) → length w ≡ c .size → enc-if-present c i a (enc-if-present c i a w) ≡ enc-if-present c i a w
+  unfolding enc-if-present
+  if-present-idem zero a w h = refl
+  if-present-idem (suc i) a w h = law .idem a w h
 
-pub slot-law : {A : Type 0} {c : Codec A} (blank : A) → Lawful c → Lawful (slot blank c)
-slot-law {c = c} blank law = record {
-  keeps = λ x w h. omega (arith, slot-keeps c law (x .fst) (x .snd) (drop 1 w) (rest-length (c .size) w h));
-  idem = λ x w h. ap (λ (v : List ℕ). x .fst ∷ v) (slot-idem c law (x .fst) (x .snd) (drop 1 w) (rest-length (c .size) w h));
+pub if-present-law : {A : Type 0} {c : Codec A} (blank : A) → Lawful c → Lawful (if-present blank c)
+if-present-law {c = c} blank law = record {
+  keeps = λ x w h. omega (arith, if-present-keeps c law (x .fst) (x .snd) (drop 1 w) (rest-length (c .size) w h));
+  idem = λ x w h. ap (λ (v : List ℕ). x .fst ∷ v) (if-present-idem c law (x .fst) (x .snd) (drop 1 w) (rest-length (c .size) w h));
 }

@@ -6,7 +6,7 @@ use native.Mathlib.Nat.{suc-mul, zero-mul, add-zero, not-suc-le-zero}
 use native.Mathlib.Omega.{arith}
 use lib.ListN.{length, take, drop, set}
 use lib.Seq.{take-at, drop-at, take-all, take-nil, drop-drop, drop-length, take-length, take-add, length-take-le}
-use Rattle.lists.specs.Runs.{run, on-run, part, enc-all}
+use Rattle.lists.specs.Runs.{run, on-run, nth-run, enc-all}
 use Rattle.lists.specs.Rows.{table-enc}
 use Rattle.lists.proofs.Runs.{fits-in, run-length, on-right, on-length, on-by, on-twice, on-within}
 use Rattle.codec.specs.Codec.{Codec, Two, enc-two, enc-many, Row, table}
@@ -38,11 +38,11 @@ module _ {A : Type 0} (c : Codec A) (law : Lawful c) (n : ℕ) (f : ℕ → A) (
     front = many-keeps c law i f (take (i * c .size) w) (length-take-le (i * c .size) w (omega (arith, inside)))
 
     -- value i is still as it was
-    pub loop-next : part (c .size) i (written c i f w) ≡ part (c .size) i w
+    pub loop-next : nth-run (c .size) i (written c i f w) ≡ nth-run (c .size) i w
     unfolding written
     loop-next = ap (take (c .size)) (drop-at (enc-many c i f (take (i * c .size) w)) (drop (i * c .size) w) (i * c .size) front)
 
-    pub loop-turn : (g : List ℕ → List ℕ) (v : List ℕ) → v ≡ written c i f w → g (part (c .size) i w) ≡ c .enc (f i) (part (c .size) i w)
+    pub loop-turn : (g : List ℕ → List ℕ) (v : List ℕ) → v ≡ written c i f w → g (nth-run (c .size) i w) ≡ c .enc (f i) (nth-run (c .size) i w)
         → on-run (i * c .size) (c .size) g v ≡ written c (suc i) f w
     unfolding written
     loop-turn g v e q =
@@ -50,15 +50,15 @@ module _ {A : Type 0} (c : Codec A) (law : Lawful c) (n : ℕ) (f : ℕ → A) (
         let x : List ℕ = enc-many c i f (take k w) in
         let lt : length (take k w) ≡ k = length-take-le k w (omega (arith, inside)) in
         let up : suc i * c .size ≡ k + c .size = suc-mul i (c .size) in
-        let parted : take (k + c .size) w ≡ take k w ++ part (c .size) i w = take-add k (c .size) w in
-        let last : enc-many c (suc i) f (take (k + c .size) w) ≡ x ++ c .enc (f i) (part (c .size) i w) =
-        rw parted (many-last c i f (take k w ++ part (c .size) i w)
-        ∙ rw (take-at (take k w) (part (c .size) i w) k lt, drop-at (take k w) (part (c .size) i w) k lt)) in
+        let parted : take (k + c .size) w ≡ take k w ++ nth-run (c .size) i w = take-add k (c .size) w in
+        let last : enc-many c (suc i) f (take (k + c .size) w) ≡ x ++ c .enc (f i) (nth-run (c .size) i w) =
+        rw parted (many-last c i f (take k w ++ nth-run (c .size) i w)
+        ∙ rw (take-at (take k w) (nth-run (c .size) i w) k lt, drop-at (take k w) (nth-run (c .size) i w) k lt)) in
         ap (on-run k (c .size) g) e
         ∙ ap (λ (o : ℕ). on-run o (c .size) g (x ++ drop k w)) (sym (add-zero k))
         ∙ on-right 0 (c .size) g k x (drop k w) front
         ∙ ap (λ (l : List ℕ). x ++ l) (on-front (c .size) g (drop k w) ∙ ap (λ (l : List ℕ). l ++ drop (c .size) (drop k w)) q)
-        ∙ rw (up, last, drop-drop (c .size) k w) (sym (append-assoc x (c .enc (f i) (part (c .size) i w)) (drop (k + c .size) w)))
+        ∙ rw (up, last, drop-drop (c .size) k w) (sym (append-assoc x (c .enc (f i) (nth-run (c .size) i w)) (drop (k + c .size) w)))
 
 -- ---- two values written one after the other
 module _ {A B : Type 0} (c : Codec A) (d : Codec B) (l : Lawful c) (x : Two A B) where

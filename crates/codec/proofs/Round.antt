@@ -9,15 +9,15 @@ use lib.Dec.{eqb, lit<}
 use borrow.Author.Tests.{lt-ltb}
 use lib.ListN.{length, take, drop, getD, take-append-drop}
 use lib.Seq.{take-all, drop-cons, getD-take, getD-drop}
-use Rattle.lists.specs.Runs.{run, part, Below, none, more}
+use Rattle.lists.specs.Runs.{run, nth-run, Below, none, more}
 use Rattle.lists.specs.Rows.{rows, over-rows, table-dec}
 use Rattle.lists.proofs.Tests.{by-eq, by-lt}
 use Rattle.lists.proofs.Runs.{fits-in, run-length, run-front, run-all, below-append, below-take, below-drop, below-enc-all}
 use Rattle.lists.proofs.Rows.{length-rows, rows-take, enc-rows, rows-back}
-use Rattle.codec.specs.Codec.{Codec, Clean, Fits, word-limit, word, flag, fixed, Reading, via, Two, enc-two, _then_, enc-many, many, Row, table, enc-slot, slot}
+use Rattle.codec.specs.Codec.{Codec, Clean, Fits, word-limit, word, flag, fixed, Reading, via, Two, enc-two, _then_, enc-many, many, Row, table, enc-if-present, if-present}
 use Rattle.codec.proofs.Laws.{Lawful, two-is, two-left, two-right, two-take, two-drop, many-none, many-last, many-left, many-right}
 use Rattle.codec.proofs.Laws.{Exact, all-sized, rest-length}
-use Rattle.codec.proofs.Focus.{Focus, part-of, clean-part, nth, slot-none, slot-some}
+use Rattle.codec.proofs.Focus.{Focus, part-of, clean-part, nth, if-present-none, if-present-some}
 
 -- ---- words that are clean: where something holds of them, or whatever they hold
 pub record CleanIf {A : Type 0} (c : Codec A) (P : List ℕ → Type 0) : Type 0 where
@@ -80,7 +80,7 @@ clean-two {c = c} {d = d} k l = record {
 }
 
 many-clean : {A : Type 0} (c : Codec A) (n : ℕ) (f : ℕ → A) (w : List ℕ) → length w ≡ n * c .size
-    → ((i : ℕ) → i < n → c .enc (f i) (part (c .size) i w) ≡ part (c .size) i w) → enc-many c n f w ≡ w
+    → ((i : ℕ) → i < n → c .enc (f i) (nth-run (c .size) i w) ≡ nth-run (c .size) i w) → enc-many c n f w ≡ w
 many-clean c zero f w h e = many-none c f w ∙ nil-of w (h ∙ zero-mul (c .size))
 many-clean c (suc n) f w h e =
     let l = many-left c n w h in
@@ -91,14 +91,14 @@ many-clean c (suc n) f w h e =
     let last : c .enc (f n) (drop (n * c .size) w) ≡ drop (n * c .size) w = rw (run-all (c .size) (drop (n * c .size) w) r) at (e n (omega arith)) in
     many-last c n f w ∙ rw (front, last) (take-append-drop (n * c .size) w)
 
-part-long : (size n i : ℕ) (w : List ℕ) → i < n → length w ≡ n * size → length (part size i w) ≡ size
+part-long : (size n i : ℕ) (w : List ℕ) → i < n → length w ≡ n * size → length (nth-run size i w) ≡ size
 part-long size n i w p h = run-length (i * size) size w (omega (arith, fits-in size p))
 
 pub clean-many : {A : Type 0} {c : Codec A} {P : List ℕ → Type 0} (n : ℕ) (blank : A) → CleanIf c P
-    → CleanIf (many n blank c) (λ w. (i : ℕ) → i < n → P (part (c .size) i w))
+    → CleanIf (many n blank c) (λ w. (i : ℕ) → i < n → P (nth-run (c .size) i w))
 clean-many {c = c} n blank k = record {
   clean = λ w h e.
-      many-clean c n (many n blank c .dec w) w h (λ i p. rw (lt-ltb i n p) (k .clean (part (c .size) i w) (part-long (c .size) n i w p h) (e i p)));
+      many-clean c n (many n blank c .dec w) w h (λ i p. rw (lt-ltb i n p) (k .clean (nth-run (c .size) i w) (part-long (c .size) n i w p h) (e i p)));
 }
 
 -- a table is clean whatever its words are; a count of more rows than there are names all of them
@@ -122,18 +122,18 @@ module _ {A : Type 0} {r : Row A} (x : Exact r) (most : ℕ) where
         (sym (drop-cons w 0 0 (omega arith)));
   }
 
--- the words of an empty slot are not in use
-pub clean-slot : {A : Type 0} {c : Codec A} {P : List ℕ → Type 0} (blank : A) → CleanIf c P → CleanIf (slot blank c) (λ w. 0 < getD w 0 0 → P (drop 1 w))
-clean-slot {c = c} {P} blank k = record { clean = at }
+-- where none is present, the words are not in use
+pub clean-if-present : {A : Type 0} {c : Codec A} {P : List ℕ → Type 0} (blank : A) → CleanIf c P → CleanIf (if-present blank c) (λ w. 0 < getD w 0 0 → P (drop 1 w))
+clean-if-present {c = c} {P} blank k = record { clean = at }
   where
-    at : (w : List ℕ) → length w ≡ 1 + c .size → (0 < getD w 0 0 → P (drop 1 w)) → Clean (slot blank c) w
+    at : (w : List ℕ) → length w ≡ 1 + c .size → (0 < getD w 0 0 → P (drop 1 w)) → Clean (if-present blank c) w
     at w h e =
         let l : 0 < length w = omega arith in
         by-eq (getD w 0 0) 0
-        (λ q z. rw q (ap (λ (v : List ℕ). getD w 0 0 ∷ v) (slot-none c (getD w 0 0) blank (drop 1 w) z) ∙ sym (drop-cons w 0 0 l)))
+        (λ q z. rw q (ap (λ (v : List ℕ). getD w 0 0 ∷ v) (if-present-none c (getD w 0 0) blank (drop 1 w) z) ∙ sym (drop-cons w 0 0 l)))
         (λ q z. let p : 0 < getD w 0 0 = omega arith in
         rw q (ap (λ (v : List ℕ). getD w 0 0 ∷ v)
-        (slot-some c (getD w 0 0) (c .dec (drop 1 w)) (drop 1 w) p ∙ k .clean (drop 1 w) (rest-length (c .size) w h) (e p)) ∙ sym (drop-cons w 0 0 l)))
+        (if-present-some c (getD w 0 0) (c .dec (drop 1 w)) (drop 1 w) p ∙ k .clean (drop 1 w) (rest-length (c .size) w h) (e p)) ∙ sym (drop-cons w 0 0 l)))
 
 -- ---- values that are read back
 pub fits-word : (a : ℕ) → a < word-limit → Fits word a
@@ -180,7 +180,7 @@ module _ {A : Type 0} (c : Codec A) (law : Lawful c) where
     where
       at : (w : List ℕ) → length w ≡ n * c .size → (i : ℕ) → many n blank c .dec (enc-many c n f w) i ≡ f i
       at w h i = by-lt i n
-          (λ q p. rw q (ap (c .dec) (part-of (nth law n blank i p) f w h (λ j s z. refl)) ∙ e i p .back (part (c .size) i w) (part-long (c .size) n i w p h)))
+          (λ q p. rw q (ap (c .dec) (part-of (nth law n blank i p) f w h (λ j s z. refl)) ∙ e i p .back (nth-run (c .size) i w) (part-long (c .size) n i w p h)))
           (λ q p. rw q (sym (b i p)))
 
 module _ {A : Type 0} {r : Row A} (x : Exact r) where
@@ -196,18 +196,18 @@ module _ {A : Type 0} {r : Row A} (x : Exact r) where
   }
 
 module _ {A : Type 0} (c : Codec A) where
-  pub fits-slot : (blank : A) (x : Two ℕ A) → x .fst < word-limit → (0 < x .fst → Fits c (x .snd)) → (x .fst ≡ 0 → x .snd ≡ blank)
-      → Fits (slot blank c) x
-  fits-slot blank x m f e = record { back = back; small = λ w h b. more m (small (drop 1 w) (rest-length (c .size) w h) (below-drop 1 b)) }
+  pub fits-if-present : (blank : A) (x : Two ℕ A) → x .fst < word-limit → (0 < x .fst → Fits c (x .snd)) → (x .fst ≡ 0 → x .snd ≡ blank)
+      → Fits (if-present blank c) x
+  fits-if-present blank x m f e = record { back = back; small = λ w h b. more m (small (drop 1 w) (rest-length (c .size) w h) (below-drop 1 b)) }
     where
-      back : (w : List ℕ) → length w ≡ 1 + c .size → slot blank c .dec (slot blank c .enc x w) ≡ x
+      back : (w : List ℕ) → length w ≡ 1 + c .size → if-present blank c .dec (if-present blank c .enc x w) ≡ x
       back w h =
           by-eq (x .fst) 0
           (λ q z. ap (λ (a : A). record { fst = x .fst; snd = a }) (rw q (sym (e z))))
           (λ q z. ap (λ (a : A). record { fst = x .fst; snd = a })
-          (rw (q, slot-some c (x .fst) (x .snd) (drop 1 w) (omega arith)) (f (omega arith) .back (drop 1 w) (rest-length (c .size) w h))))
+          (rw (q, if-present-some c (x .fst) (x .snd) (drop 1 w) (omega arith)) (f (omega arith) .back (drop 1 w) (rest-length (c .size) w h))))
 
-      small : (w : List ℕ) → length w ≡ c .size → Below word-limit w → Below word-limit (enc-slot c (x .fst) (x .snd) w)
+      small : (w : List ℕ) → length w ≡ c .size → Below word-limit w → Below word-limit (enc-if-present c (x .fst) (x .snd) w)
       small w h b =
-          by-eq (x .fst) 0 (λ q z. rw (slot-none c (x .fst) (x .snd) w z) b)
-          (λ q z. rw (slot-some c (x .fst) (x .snd) w (omega arith)) (f (omega arith) .small w h b))
+          by-eq (x .fst) 0 (λ q z. rw (if-present-none c (x .fst) (x .snd) w z) b)
+          (λ q z. rw (if-present-some c (x .fst) (x .snd) w (omega arith)) (f (omega arith) .small w h b))

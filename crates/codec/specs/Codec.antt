@@ -6,7 +6,7 @@ use mathlib.Core.Bool.{Bool, cond}
 use Prim.Native.Nat.{ℕ, zero, suc, _+_, _*_, _^_}
 use lib.Dec.{ltb, eqb}
 use lib.ListN.{length, take, drop, getD}
-use Rattle.lists.specs.Runs.{part, Below}
+use Rattle.lists.specs.Runs.{nth-run, Below}
 use Rattle.lists.specs.Rows.{over-rows, table-words, table-dec}
 
 pub record Codec (A : Type 0) : Type 0 where
@@ -76,7 +76,7 @@ enc-many c zero f w = []
 enc-many c (suc n) f w = enc-many c n f (take (n * c .size) w) ++ c .enc (f n) (drop (n * c .size) w)
 
 abbrev pub many : {A : Type 0} → ℕ → A → Codec A → Codec (ℕ → A)
-many n blank c = record { size = n * c .size; dec = λ w i. cond (ltb i n) (c .dec (part (c .size) i w)) blank; enc = enc-many c n }
+many n blank c = record { size = n * c .size; dec = λ w i. cond (ltb i n) (c .dec (nth-run (c .size) i w)) blank; enc = enc-many c n }
 
 -- ---- a row: a value that fills its words
 pub record Row (A : Type 0) : Type 0 where
@@ -93,13 +93,13 @@ table most r = record {
 }
 
 -- ---- an id and, where it is not 0, a value; under id 0 the words are not in use
-unfoldable pub enc-slot : {A : Type 0} → Codec A → ℕ → A → List ℕ → List ℕ
-enc-slot c zero a w = w
-enc-slot c (suc i) a w = c .enc a w
+unfoldable pub enc-if-present : {A : Type 0} → Codec A → ℕ → A → List ℕ → List ℕ
+enc-if-present c zero a w = w
+enc-if-present c (suc i) a w = c .enc a w
 
-abbrev pub slot : {A : Type 0} → A → Codec A → Codec (Two ℕ A)
-slot blank c = record {
+abbrev pub if-present : {A : Type 0} → A → Codec A → Codec (Two ℕ A)
+if-present blank c = record {
   size = 1 + c .size;
   dec = λ w. record { fst = getD w 0 0; snd = cond (eqb (getD w 0 0) 0) blank (c .dec (drop 1 w)) };
-  enc = λ x w. x .fst ∷ enc-slot c (x .fst) (x .snd) (drop 1 w);
+  enc = λ x w. x .fst ∷ enc-if-present c (x .fst) (x .snd) (drop 1 w);
 }

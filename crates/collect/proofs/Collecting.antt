@@ -16,12 +16,12 @@ use Rattle.rules.specs.Limits.{buckets}
 use Rattle.rules.specs.Entries.{Entry, names}
 use Rattle.rules.specs.Chunks.{Chunk, only-named}
 use Rattle.rules.specs.State.{State}
-use Rattle.rules.specs.Parts.{calm}
+use Rattle.rules.specs.Derived.{nothing-pending}
 use Rattle.rules.specs.Upkeep.{pair-names, is-named, collect-effect}
-use Rattle.rules.proofs.Parts.{calm-agrees}
+use Rattle.rules.proofs.Derived.{nothing-pending-agrees}
 use Rattle.log.specs.Log.{IsLog}
 use Rattle.log.proofs.Check.{looser}
-use Rattle.sweep.specs.Marks.{marked, swept}
+use Rattle.sweep.specs.Marks.{with-marks, swept}
 use Rattle.sweep.proofs.Marks.{keep-named-leaves}
 use Rattle.layout.specs.Layout.{word-bytes, log-codec, log-words}
 use Rattle.layout.specs.Store.{decode, render}
@@ -33,7 +33,7 @@ use Rattle.lent.specs.Places.{log-from}
 use Rattle.lent.proofs.Logs.{log-inside, log-bytes, log-run, log-length, log-lies, log-changed}
 use Rattle.collect.specs.Marked.{marks, named-first, LogIn, TableIn, TablesIn, sweeps}
 use Rattle.collect.specs.Collect.{Collects}
-use Rattle.collect.proofs.SameCopies.{Tables, calm-names}
+use Rattle.collect.proofs.SameCopies.{Tables, nothing-pending-names}
 use Rattle.collect.proofs.Marking.{keeps, some-same, marks-log}
 
 -- tests that agree leave the same chunks
@@ -58,10 +58,10 @@ module _ (c : Settings) (bs : List ℕ) (v : StoreOf c bs) where
       }
 
   module _ (g from : ℕ) (p : g < buckets c) (a : EntriesAt c (words bs) g (named s g) from) where
-    calm-name : (k : ℕ) → calm (s .bucket g) ≡ true → names-at (words bs) from k ≡ pair-names (s .bucket g) k
-    calm-name k y =
-        entry-names c bs v g from p a k ∙ ap (λ (l : List Entry). names l k) (named-is s g (calm-agrees (s .bucket g) y .0))
-        ∙ sym (calm-names (s .bucket g) (bucket-tables g p) y k)
+    nothing-pending-name : (k : ℕ) → nothing-pending (s .bucket g) ≡ true → names-at (words bs) from k ≡ pair-names (s .bucket g) k
+    nothing-pending-name k y =
+        entry-names c bs v g from p a k ∙ ap (λ (l : List Entry). names l k) (named-is s g (nothing-pending-agrees (s .bucket g) y .0))
+        ∙ sym (nothing-pending-names (s .bucket g) (bucket-tables g p) y k)
 
     pub table-in : (at q : ℕ) → q < c .places → at ≡ log-from c q → 0 < from → TableIn c at from (words bs) (length bs)
     table-in at q l e z = record {
@@ -80,14 +80,14 @@ module _ (c : Settings) (bs : List ℕ) (p : ℕ) (tables : List ℕ) (at : ℕ)
   h : Collects c bs p
   h = o .there
 
-  each-calm : (g : ℕ) → g < buckets c → calm (decode (words bs) .bucket g) ≡ true
-  each-calm = all-at (buckets c) _ (h .calm)
+  each-nothing-pending : (g : ℕ) → g < buckets c → nothing-pending (decode (words bs) .bucket g) ≡ true
+  each-nothing-pending = all-at (buckets c) _ (h .nothing-pending)
 
   all-names : (k : ℕ) → named-first (words bs) tables (buckets c) k ≡ is-named (decode (words bs)) k
   unfolding named-first is-named
   all-names k =
       rw (settings-are c bs (h .store))
-      (some-same (buckets c) _ _ (λ g q. calm-name c bs (h .store) g (getD tables g 0) q (o .known .lie g q) k (each-calm g q)))
+      (some-same (buckets c) _ _ (λ g q. nothing-pending-name c bs (h .store) g (getD tables g 0) q (o .known .lie g q) k (each-nothing-pending g q)))
 
   pub tables-in : TablesIn c at tables (words bs) (length bs)
   tables-in = record {
@@ -120,10 +120,10 @@ module _ (c : Settings) (bs : List ℕ) (p : ℕ) (tables : List ℕ) (at : ℕ)
   log-still vs len f e n = rw (e, n) (marks-log c at (words bs) (length bs) (room bs (at + log-words c) (log-in .inside)) log-in f)
 
   module _ (b : Below 256 bs) where
-    left : (f : ℕ → Bool) → swept (c .chunks) (c .size / word-bytes) (marked (c .chunks) (c .size / word-bytes) (λ x. f (x .key)) log)
+    left : (f : ℕ → Bool) → swept (c .chunks) (c .size / word-bytes) (with-marks (c .chunks) (c .size / word-bytes) (λ x. f (x .key)) log)
         ≡ log-codec c .enc (only-named f (decode (words bs) .bricks .log (decode (words bs) .ids p))) log
     left f =
-        subst (λ (w : List ℕ). swept (c .chunks) (c .size / word-bytes) (marked (c .chunks) (c .size / word-bytes) (λ x. f (x .key)) w)
+        subst (λ (w : List ℕ). swept (c .chunks) (c .size / word-bytes) (with-marks (c .chunks) (c .size / word-bytes) (λ x. f (x .key)) w)
         ≡ log-codec c .enc (only-named f (decode (words bs) .bricks .log (decode (words bs) .ids p))) w) (log-run c bs (h .store) p (h .inside))
         (keep-named-leaves (c .chunks) (c .size / word-bytes) (log-bytes c p bs) is-a-log (below-take (8 * log-words c) (below-drop (8 * log-from c p) b)) f
         ∙ ap (λ (l : List Chunk). log-codec c .enc (only-named f l) (words (log-bytes c p bs)))
@@ -135,7 +135,7 @@ module _ (c : Settings) (bs : List ℕ) (p : ℕ) (tables : List ℕ) (at : ℕ)
     collected vs us ev eu =
         let f : ℕ → Bool = named-first (words bs) tables (buckets c) in
         let n : ℕ = log-words c in
-        let mark : List ℕ → List ℕ = marked (c .chunks) (c .size / word-bytes) (λ x. f (x .key)) in
+        let mark : List ℕ → List ℕ = with-marks (c .chunks) (c .size / word-bytes) (λ x. f (x .key)) in
         let old : List Chunk = decode (words bs) .bricks .log (decode (words bs) .ids p) in
         eu ∙ ap (on-run at n (swept (c .chunks) (c .size / word-bytes))) ev
         ∙ rw (o .begins) (sym (on-twice (log-from c p) n mark (swept (c .chunks) (c .size / word-bytes)) (words bs) fits

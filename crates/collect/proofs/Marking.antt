@@ -11,7 +11,7 @@ use lib.Dec.{eqb}
 use lib.ListN.{length, take, drop, getD, length-drop}
 use lib.Seq.{length-take-le}
 use borrow.Author.Tests.{eq-eqb, ne-eqb, eqb-true}
-use Rattle.lists.specs.Tests.{_or_, some-below}
+use Rattle.lists.specs.Tests.{_or_, any-below}
 use Rattle.lists.specs.Runs.{run}
 use Rattle.lists.proofs.Tests.{by-eq, same-test}
 use Rattle.lists.proofs.Runs.{run-length, on-by, on-id, on-same, on-at-before, on-twice}
@@ -21,7 +21,7 @@ use Rattle.rules.specs.declared.settings.Settings.{Settings}
 use Rattle.rules.specs.Limits.{buckets}
 use Rattle.log.specs.Log.{LogWith}
 use Rattle.log.proofs.Chunks.{fits-read, length-write}
-use Rattle.sweep.specs.Marks.{marked, swept}
+use Rattle.sweep.specs.Marks.{with-marks, swept}
 use Rattle.sweep.proofs.Marks.{fits-marks, marked-twice, marked-same, unmarked, log-marked}
 use Rattle.layout.specs.Layout.{word-bytes, copy-words, log-words}
 use Rattle.layout.proofs.Lent.{lent}
@@ -46,8 +46,8 @@ module _ (c : Settings) (at : ℕ) (ws : List ℕ) (len : ℕ) (h : at + log-wor
   log-length : length log ≡ log-words c
   log-length = run-length at (log-words c) ws h
 
-  pub keeps : (named : ℕ → Bool) → length (marked (c .chunks) (c .size / word-bytes) (λ x. named (x .key)) log) ≡ log-words c
-  unfolding marked
+  pub keeps : (named : ℕ → Bool) → length (with-marks (c .chunks) (c .size / word-bytes) (λ x. named (x .key)) log) ≡ log-words c
+  unfolding with-marks
   keeps named =
       length-write (c .chunks) (c .size / word-bytes) _ log log-length
       (fits-marks (λ x. named (x .key)) (fits-read (c .chunks) (c .size / word-bytes) log log-length (o .log .few)))
@@ -58,7 +58,7 @@ module _ (c : Settings) (at : ℕ) (ws : List ℕ) (len : ℕ) (h : at + log-wor
   marks-log named = record {
     small = o .small;
     inside = o .inside;
-    log = rw (on-same at (log-words c) (marked (c .chunks) (c .size / word-bytes) (λ x. named (x .key))) ws h (keeps named))
+    log = rw (on-same at (log-words c) (with-marks (c .chunks) (c .size / word-bytes) (λ x. named (x .key))) ws h (keeps named))
         (log-marked (c .chunks) (c .size / word-bytes) log (8 * log-words c) log-length (o .log) (omega arith) (λ x. named (x .key)));
   }
 
@@ -79,8 +79,8 @@ module _ (c : Settings) (at : ℕ) (ws : List ℕ) (len : ℕ) (h : at + log-wor
   marks-twice f g = two ∙ marks-same (λ k. f k or g k) (λ k. g k or f k) (λ k. or-swap (f k) (g k))
     where
       two : marks c at f (marks c at g ws) ≡ marks c at (λ k. f k or g k) ws
-      two = unfold marks in (sym (on-twice at (log-words c) (marked (c .chunks) (c .size / word-bytes) (λ x. g (x .key)))
-          (marked (c .chunks) (c .size / word-bytes) (λ x. f (x .key))) ws h (keeps g))
+      two = unfold marks in (sym (on-twice at (log-words c) (with-marks (c .chunks) (c .size / word-bytes) (λ x. g (x .key)))
+          (with-marks (c .chunks) (c .size / word-bytes) (λ x. f (x .key))) ws h (keeps g))
           ∙ on-by at (log-words c) _ _ ws
           (marked-twice (c .chunks) (c .size / word-bytes) log (8 * log-words c) log-length (o .log) (λ x. f (x .key)) (λ x. g (x .key)) (λ x s. refl)))
 
@@ -93,7 +93,7 @@ module _ (c : Settings) (at : ℕ) (ws : List ℕ) (len : ℕ) (h : at + log-wor
   -- ---- the loop over the rows of a table beside the log
   module _ (from : ℕ) (t : TableIn c at from ws len) where
     pub rows-start : ws ≡ marks c at (names-first ws from 0) ws
-    rows-start = marks-none (names-first ws from 0) (λ k. unfold names-first some-below in refl)
+    rows-start = marks-none (names-first ws from 0) (λ k. unfold names-first any-below in refl)
 
     abbrev marked-to : ℕ → List ℕ
     marked-to i = marks c at (names-first ws from i) ws
@@ -112,11 +112,11 @@ module _ (c : Settings) (at : ℕ) (ws : List ℕ) (len : ℕ) (h : at + log-wor
         ∙ marks-same (λ k. names-first ws from i k or eqb key k) (names-first ws from (i + 1)) (λ k. turn i key k same)
       where
         turn : (i key k : ℕ) → key ≡ key-in ws from i → (names-first ws from i k or eqb key k) ≡ names-first ws from (i + 1) k
-        turn i key k e = unfold names-first in rw (add-one i) (unfold some-below in (ap (λ b. names-first ws from i k or b) (eqb-swap key k ∙ ap (eqb k) e)))
+        turn i key k e = unfold names-first in rw (add-one i) (unfold any-below in (ap (λ b. names-first ws from i k or b) (eqb-swap key k ∙ ap (eqb k) e)))
 
 -- ---- the loop over the tables of all buckets
-pub some-same : (n : ℕ) (f g : ℕ → Bool) → ((k : ℕ) → k < n → f k ≡ g k) → some-below n f ≡ some-below n g
-unfolding some-below
+pub some-same : (n : ℕ) (f g : ℕ → Bool) → ((k : ℕ) → k < n → f k ≡ g k) → any-below n f ≡ any-below n g
+unfolding any-below
 some-same zero f g e = refl
 some-same (suc n) f g e = rw (some-same n f g (λ k p. e k (omega arith)), e n (omega arith))
 
@@ -145,7 +145,7 @@ module _ (c : Settings) (at : ℕ) (ws : List ℕ) (len : ℕ) (h : at + log-wor
 
   module _ (tables : List ℕ) (t : TablesIn c at tables ws len) where
     pub tables-start : ws ≡ marks c at (named-first ws tables 0) ws
-    tables-start = marks-none c at ws len h o (named-first ws tables 0) (λ k. unfold named-first some-below in refl)
+    tables-start = marks-none c at ws len h o (named-first ws tables 0) (λ k. unfold named-first any-below in refl)
 
     pub table-still : (n g : ℕ) → g < buckets c → 0 < getD tables g 0 → TableIn c at (getD tables g 0) (marks c at (named-first ws tables n) ws) len
     table-still n g p z = table-marks (named-first ws tables n) (getD tables g 0) (t .each g p z)
@@ -164,7 +164,7 @@ module _ (c : Settings) (at : ℕ) (ws : List ℕ) (len : ℕ) (h : at + log-wor
         ∙ marks-same c at ws len h o _ (named-first ws tables (n + 1)) (λ k. turn k)
       where
         turn : (k : ℕ) → (named-first ws tables n k or names-at (marks c at (named-first ws tables n) ws) (getD tables n 0) k) ≡ named-first ws tables (n + 1) k
-        turn k = rw (add-one n, names-still n n k p) (unfold named-first some-below in refl)
+        turn k = rw (add-one n, names-still n n k p) (unfold named-first any-below in refl)
 
 -- ---- the log lent
 module _ (c : Settings) (at : ℕ) (s : List ℕ) (i : LogIn c at (words s) (length s)) (o e : ℕ) (eo : o ≡ 8 * at) (ee : e ≡ o + 8 * log-words c) where
@@ -176,12 +176,12 @@ module _ (c : Settings) (at : ℕ) (s : List ℕ) (i : LogIn c at (words s) (len
       rw (lent s o e at (log-words c) eo ee inside, size) (i .log)
 
   pub lent-marks : (t : List ℕ) (named : ℕ → Bool) → length t ≡ e - o
-      → words t ≡ marked (c .chunks) (c .size / word-bytes) (λ x. named (x .key)) (words (take (e - o) (drop o s)))
+      → words t ≡ with-marks (c .chunks) (c .size / word-bytes) (λ x. named (x .key)) (words (take (e - o) (drop o s)))
       → words (take o s ++ (t ++ drop (e - o) (drop o s))) ≡ marks c at named (words s)
   unfolding marks
   lent-marks t named lt et =
       let inside = i .inside in
-      lent-run s t o (e - o) at (log-words c) (marked (c .chunks) (c .size / word-bytes) (λ x. named (x .key))) eo (omega arith) (omega arith) (omega arith) et
+      lent-run s t o (e - o) at (log-words c) (with-marks (c .chunks) (c .size / word-bytes) (λ x. named (x .key))) eo (omega arith) (omega arith) (omega arith) et
 
   pub lent-sweeps : (t : List ℕ) → length t ≡ e - o → words t ≡ swept (c .chunks) (c .size / word-bytes) (words (take (e - o) (drop o s)))
       → words (take o s ++ (t ++ drop (e - o) (drop o s))) ≡ sweeps c at (words s)

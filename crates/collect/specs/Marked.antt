@@ -5,19 +5,19 @@ use mathlib.Core.Bool.{Bool}
 use mathlib.Core.List.{List}
 use Prim.Native.Nat.{ℕ, _+_, _*_, _/_, _≤_, _<_}
 use lib.ListN.{length, getD}
-use Rattle.lists.specs.Tests.{some-below}
+use Rattle.lists.specs.Tests.{any-below}
 use Rattle.lists.specs.Runs.{run, on-run}
 use Rattle.rules.specs.declared.settings.Settings.{Settings}
 use Rattle.rules.specs.Limits.{buckets}
-use Rattle.rules.proofs.Limits.{Limits}
+use Rattle.rules.specs.Limits.{Limits}
 use Rattle.log.specs.Log.{LogWith}
-use Rattle.sweep.specs.Marks.{marked, swept}
+use Rattle.sweep.specs.Marks.{with-marks, swept}
 use Rattle.layout.specs.Layout.{word-bytes, copy-words, log-words}
 use Rattle.named.specs.Tables.{names-at}
 
 -- a mark on each chunk, of the log at word `at`, whose key a test names
 unfoldable pub marks : Settings → ℕ → (ℕ → Bool) → List ℕ → List ℕ
-marks c at named ws = on-run at (log-words c) (marked (c .chunks) (c .size / word-bytes) (λ x. named (x .key))) ws
+marks c at named ws = on-run at (log-words c) (with-marks (c .chunks) (c .size / word-bytes) (λ x. named (x .key))) ws
 
 -- a log, which may have marks, lies at word `at`
 pub record LogIn (c : Settings) (at : ℕ) (ws : List ℕ) (len : ℕ) : Type 0 where
@@ -33,7 +33,7 @@ pub record TableIn (c : Settings) (at from : ℕ) (ws : List ℕ) (len : ℕ) : 
 
 -- ---- the tables of all buckets, where 0 stands for none
 unfoldable pub named-first : List ℕ → List ℕ → ℕ → ℕ → Bool
-named-first ws tables n key = some-below n (λ g. names-at ws (getD tables g 0) key)
+named-first ws tables n key = any-below n (λ g. names-at ws (getD tables g 0) key)
 
 pub record TablesIn (c : Settings) (at : ℕ) (tables ws : List ℕ) (len : ℕ) : Type 0 where
   pub many : length tables ≡ buckets c

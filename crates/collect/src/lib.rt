@@ -7,7 +7,7 @@ ghost use Rattle.lists.specs.Tests.{_or_, all-below};
 ghost use Rattle.words.specs.Words.{words};
 ghost use Rattle.rules.specs.Limits.{buckets, proxies};
 ghost use Rattle.rules.specs.Event.{Event};
-ghost use Rattle.rules.specs.Parts.{is-empty, up-member, calm};
+ghost use Rattle.rules.specs.Derived.{is-empty, up-member, nothing-pending};
 ghost use Rattle.rules.specs.Question.{first-no};
 ghost use Rattle.rules.specs.Upkeep.{collect-asks, collect-effect};
 ghost use Rattle.layout.specs.Store.{decode, render};
@@ -20,8 +20,8 @@ use lent::place;
 use rules::constants;
 use rules::settings::Settings;
 
-pub mod calm;
 pub mod marks;
+pub mod pending;
 
 // ---- question 13
 
@@ -52,14 +52,14 @@ fn all_up(store: &[u8], settings: Settings) -> bool
     true
 }
 
-fn all_calm(store: &[u8], settings: Settings) -> bool
+fn all_nothing_pending(store: &[u8], settings: Settings) -> bool
     requires { ⌜ StoreOf settings (now store) ⌝ }
-    ensures { λ r. ⌜ r ≡ all-below (buckets settings) (λ g. calm (decode (words (now (store .entry))) .bucket g)) ⌝ }
+    ensures { λ r. ⌜ r ≡ all-below (buckets settings) (λ g. nothing-pending (decode (words (now (store .entry))) .bucket g)) ⌝ }
 {
     let count = settings.buckets();
     let mut bucket = 0;
     while bucket < count {
-        if !calm::calm(store, settings, bucket) {
+        if !pending::nothing_pending(store, settings, bucket) {
             return false;
         }
         bucket += 1;
@@ -91,7 +91,7 @@ fn idle_asks(store: &[u8], settings: Settings) -> u64
     if !all_up(store, settings) {
         return 13;
     }
-    if !all_calm(store, settings) {
+    if !all_nothing_pending(store, settings) {
         return 13;
     }
     if no_items(store, settings) {
@@ -114,7 +114,7 @@ fn asks(store: &[u8], settings: Settings, place: u64) -> u64
 
 // ---- the effect
 
-// All buckets are calm, so the four copies of each pair name what the primary's memory names. There is room for where they lie.
+// All buckets are ready with nothing pending, so the four copies of each pair name what the primary's memory names. There is room for where they lie.
 fn collect_in(store: &mut [u8], settings: Settings, place: usize, tables: &mut [usize])
     requires { ⌜ Collects settings (now store) place × (length (now tables) ≡ buckets settings) ⌝ }
     ensures { λ _. ⌜ words (now (store .exit))

@@ -4,7 +4,7 @@ ghost use lib.ListN.{length};
 ghost use Rattle.text.specs.Lines.{read-settings};
 ghost use Rattle.area.specs.Area.{onto};
 ghost use Rattle.parse.specs.Answers.{parsed, answer-to, bytes-read, settings-answer, event-answer, four-answer};
-ghost use Rattle.rules.specs.Event.{parts-from};
+ghost use Rattle.rules.specs.Event.{fields-brought};
 ghost use Rattle.print.specs.Answers.{printed, line-after, line-answer};
 ghost use Rattle.store.specs.Calls.{settings, length-answer, Formatted, check-answer};
 ghost use Rattle.calls.specs.Outcome.{call-with, outcome};
@@ -128,8 +128,8 @@ pub extern "C" fn disk_print(
     size: usize,
     line: &mut [u8],
 ) -> LineAnswer
-    ensures { λ r. ⌜ (r ≡ line-answer (printed size (parts-from kind a b c (now («data» .entry))) (length (now (line .entry)))))
-        × (now (line .exit) ≡ line-after size (parts-from kind a b c (now («data» .entry))) (now (line .entry))) ⌝ }
+    ensures { λ r. ⌜ (r ≡ line-answer (printed size (fields-brought kind a b c (now («data» .entry))) (length (now (line .entry)))))
+        × (now (line .exit) ≡ line-after size (fields-brought kind a b c (now («data» .entry))) (now (line .entry))) ⌝ }
 {
     print::for_c::print(kind, a, b, c, data, size, line)
 }

@@ -8,35 +8,35 @@ use native.Mathlib.Nat.{le-of-lt, le-refl, not-suc-le-zero, le-of-suc-le-suc}
 use native.Mathlib.Omega.{arith}
 use lib.ListN.{length, set}
 use borrow.Author.Tests.{lt-ltb, le-ltb, le-leb, leb-true, ltb-true, eq-eqb, ne-eqb, eqb-true}
-use Rattle.lists.specs.Tests.{_or_, some, only}
+use Rattle.lists.specs.Tests.{_or_, any, only}
 use Rattle.lists.proofs.Tests.{by, by-eq, by-lt, impossible, and-l, and-r, both, or-l, or-r, eqb-self}
-use Rattle.rules.specs.Entries.{Entry, entry, look, has, insert, remove, takes, drain, ascending, take-in}
+use Rattle.rules.specs.Entries.{Entry, entry, key-for, has, insert, remove, takes, drain, ascending, insert-if-room}
 use Rattle.rules.specs.Sound.{same-entries}
-use Rattle.tables.specs.Tables.{insert-at, remove-at}
-use Rattle.entries.specs.Words.{entry-at}
+use Rattle.tables.specs.Tables.{insert-at, without-index}
+use Rattle.entries.specs.Entries.{entry-at}
 
 -- ---- look-up
 module _ (b : ℕ) where
-  pub look-at : (l : List Entry) (p : ℕ) → p < length l → ((j : ℕ) → j < p → entry-at l j .block ≢ b) → entry-at l p .block ≡ b → look l b ≡ entry-at l p .key
-  unfolding look
-  look-at [] p h f e = absurd (not-suc-le-zero h)
-  look-at (x ∷ l) zero h f e = rw (eq-eqb b (x .block) (sym e))
-  look-at (x ∷ l) (suc p) h f e =
-      rw (ne-eqb b (x .block) (λ q. f 0 (omega arith) (sym q))) (look-at l p (le-of-suc-le-suc h) (λ j q. f (suc j) (suc-le-suc q)) e)
+  pub key-for-at : (l : List Entry) (p : ℕ) → p < length l → ((j : ℕ) → j < p → entry-at l j .block ≢ b) → entry-at l p .block ≡ b → key-for l b ≡ entry-at l p .key
+  unfolding key-for
+  key-for-at [] p h f e = absurd (not-suc-le-zero h)
+  key-for-at (x ∷ l) zero h f e = rw (eq-eqb b (x .block) (sym e))
+  key-for-at (x ∷ l) (suc p) h f e =
+      rw (ne-eqb b (x .block) (λ q. f 0 (omega arith) (sym q))) (key-for-at l p (le-of-suc-le-suc h) (λ j q. f (suc j) (suc-le-suc q)) e)
 
-  pub look-none : (l : List Entry) → ((j : ℕ) → j < length l → entry-at l j .block ≢ b) → look l b ≡ 0
-  unfolding look
-  look-none [] f = refl
-  look-none (x ∷ l) f = rw (ne-eqb b (x .block) (λ q. f 0 (omega arith) (sym q))) (look-none l (λ j q. f (suc j) (suc-le-suc q)))
+  pub key-for-none : (l : List Entry) → ((j : ℕ) → j < length l → entry-at l j .block ≢ b) → key-for l b ≡ 0
+  unfolding key-for
+  key-for-none [] f = refl
+  key-for-none (x ∷ l) f = rw (ne-eqb b (x .block) (λ q. f 0 (omega arith) (sym q))) (key-for-none l (λ j q. f (suc j) (suc-le-suc q)))
 
   pub has-at : (l : List Entry) (p : ℕ) → p < length l → entry-at l p .block ≡ b → has l b ≡ true
-  unfolding has some
+  unfolding has any
   has-at [] p h e = absurd (not-suc-le-zero h)
   has-at (x ∷ l) zero h e = or-l _ _ (eq-eqb b (x .block) (sym e))
   has-at (x ∷ l) (suc p) h e = or-r _ _ (has-at l p (le-of-suc-le-suc h) e)
 
   pub has-none : (l : List Entry) → ((j : ℕ) → j < length l → entry-at l j .block ≢ b) → has l b ≡ false
-  unfolding has some _or_
+  unfolding has any _or_
   has-none [] f = refl
   has-none (x ∷ l) f = rw (ne-eqb b (x .block) (λ q. f 0 (omega arith) (sym q))) (has-none l (λ j q. f (suc j) (suc-le-suc q)))
 
@@ -71,7 +71,7 @@ module _ (b : ℕ) where
       rw (ne-eqb b (x .block) (λ q. f 0 (omega arith) (sym q))) (ap (λ (r : List Entry). x ∷ r) (remove-none l (λ j q. f (suc j) (suc-le-suc q))))
 
   pub remove-here : (l : List Entry) (p : ℕ) → p < length l → ((j : ℕ) → j < length l → j ≢ p → entry-at l j .block ≢ b) → entry-at l p .block ≡ b
-      → remove l b ≡ remove-at p l
+      → remove l b ≡ without-index p l
   unfolding remove only
   remove-here [] p h f e = absurd (not-suc-le-zero h)
   remove-here (x ∷ l) zero h f e =
@@ -138,7 +138,7 @@ has-above : (floor : ℕ) (l : List Entry) (b : ℕ) → ascending floor l ≡ t
 has-above floor l b y h = has-none b l (λ j q e. let z = ascending-at floor l y j q in omega arith)
 
 pub insert-length : (floor : ℕ) (l : List Entry) (b k : ℕ) → ascending floor l ≡ true → length (insert l b k) ≡ cond (has l b) (length l) (suc (length l))
-unfolding insert ascending has some _or_
+unfolding insert ascending has any _or_
 insert-length floor [] b k y = refl
 insert-length floor (x ∷ l) b k y =
     let r = and-r _ _ y in
@@ -150,17 +150,17 @@ insert-length floor (x ∷ l) b k y =
 
 -- ---- entries taken in one after the other
 module _ (most : ℕ) (l : List Entry) (e : Entry) (y : ascending 0 l ≡ true) where
-  pub take-ascends : ascending 0 (take-in most l e) ≡ true
+  pub take-ascends : ascending 0 (insert-if-room most l e) ≡ true
   take-ascends =
       by (takes most l (e .block)) (λ q. rw q (insert-ascends 0 l (e .block) (e .key) y (omega arith))) (λ q. rw q y)
 
-  pub take-grows : length l ≤ length (take-in most l e)
+  pub take-grows : length l ≤ length (insert-if-room most l e)
   take-grows =
       by (takes most l (e .block))
       (λ q. rw (q, insert-length 0 l (e .block) (e .key) y) (by (has l (e .block)) (λ t. rw t (le-refl (length l))) (λ t. rw t (omega arith))))
       (λ q. rw q (le-refl (length l)))
 
-  pub take-few : length l ≤ most → length (take-in most l e) ≤ most
+  pub take-few : length l ≤ most → length (insert-if-room most l e) ≤ most
   unfolding takes _or_
   take-few h =
       by (takes most l (e .block))
@@ -168,18 +168,18 @@ module _ (most : ℕ) (l : List Entry) (e : Entry) (y : ascending 0 l ≡ true) 
       (by (has l (e .block)) (λ t. rw t h) (λ t. let z : length l < most = ltb-true (length l) most (rw t at q) in rw t (omega arith))))
       (λ q. rw q h)
 
-pub drain-more : (most : ℕ) (c l : List Entry) (e : Entry) → drain most c (l ++ e ∷ []) ≡ take-in most (drain most c l) e
+pub drain-more : (most : ℕ) (c l : List Entry) (e : Entry) → drain most c (l ++ e ∷ []) ≡ insert-if-room most (drain most c l) e
 unfolding drain
 drain-more most c [] e = refl
-drain-more most c (x ∷ l) e = drain-more most (take-in most c x) l e
+drain-more most c (x ∷ l) e = drain-more most (insert-if-room most c x) l e
 
 module _ (most : ℕ) where
   pub drain-ascends : (c l : List Entry) → ascending 0 c ≡ true → ascending 0 (drain most c l) ≡ true
   unfolding drain
   drain-ascends c [] y = y
-  drain-ascends c (e ∷ l) y = drain-ascends (take-in most c e) l (take-ascends most c e y)
+  drain-ascends c (e ∷ l) y = drain-ascends (insert-if-room most c e) l (take-ascends most c e y)
 
   pub drain-few : (c l : List Entry) → ascending 0 c ≡ true → length c ≤ most → length (drain most c l) ≤ most
   unfolding drain
   drain-few c [] y h = h
-  drain-few c (e ∷ l) y h = drain-few (take-in most c e) l (take-ascends most c e y) (take-few most c e y h)
+  drain-few c (e ∷ l) y h = drain-few (insert-if-room most c e) l (take-ascends most c e y) (take-few most c e y h)

@@ -10,9 +10,9 @@ use Rattle.lists.proofs.Rows.{length-rows}
 use Rattle.rules.specs.Entries.{Entry, ascending}
 use Rattle.tables.specs.Tables.{IsTable, Sorted}
 use Rattle.codec.specs.Codec.{Row, table}
-use Rattle.layout.specs.Disk.{entry-row}
+use Rattle.layout.specs.Contents.{entry-row}
 use Rattle.layout.specs.Layout.{entries-codec}
-use Rattle.entries.specs.Words.{entry-words, entries-words}
+use Rattle.entries.specs.Entries.{entry-words, entries-words}
 use Rattle.entries.proofs.Words.{sorted-of}
 
 -- a table's count is the number of its rows

@@ -14,21 +14,21 @@ use Rattle.lists.specs.Tests.{_and_, _or_, all-below, only}
 use Rattle.lists.specs.Runs.{run, on-run, enc-all}
 use Rattle.lists.proofs.Tests.{by-eq, by-lt, same-test, both, and-l, and-r, all-true, all-at, length-only}
 use Rattle.lists.proofs.Runs.{run-length, on-by}
-use Rattle.rules.specs.Entries.{Entry, entry, look, has, insert, remove, takes, ascending}
+use Rattle.rules.specs.Entries.{Entry, entry, key-for, has, insert, remove, takes, ascending}
 use Rattle.rules.specs.Sound.{same-entries}
-use Rattle.lists.specs.Rows.{table-dec, table-enc, row}
-use Rattle.tables.specs.Tables.{insert-at, remove-at, first-at, same-at, same-rows, Sorted, RowPlace, HereAt, GapAt}
+use Rattle.lists.specs.Rows.{table-dec, table-enc, row-words}
+use Rattle.tables.specs.Tables.{insert-at, without-index, first-at, same-at, same-rows, Sorted, LowerBound, HereAt, GapAt}
 use Rattle.lists.proofs.Rows.{row-at, enc-rows, in-rows}
 use Rattle.codec.proofs.Laws.{table-law}
 use Rattle.codec.proofs.Round.{clean-table}
 use Rattle.codec.proofs.Loops.{table-is}
 use Rattle.tables.proofs.Typed.{typed, typed-back, typed-over, typed-rows, typed-length, typed-insert, typed-append, typed-remove, typed-only, typed-at}
 use Rattle.tables.proofs.Typed.{typed-set}
-use Rattle.entries.specs.Words.{entries-words, copied-entries, entry-at}
-use Rattle.layout.specs.Disk.{entry-row}
+use Rattle.entries.specs.Entries.{entries-words, copied-entries, entry-at}
+use Rattle.layout.specs.Contents.{entry-row}
 use Rattle.layout.specs.Layout.{entries-codec}
 use Rattle.layout.proofs.Codecs.{entry-exact}
-use Rattle.entries.proofs.Sorted.{look-at, look-none, has-at, has-none, insert-gap, insert-here, remove-none, remove-here}
+use Rattle.entries.proofs.Sorted.{key-for-at, key-for-none, has-at, has-none, insert-gap, insert-here, remove-none, remove-here}
 use Rattle.entries.proofs.Sorted.{ascending-of, ascending-rises, same-self, same-is}
 
 -- what the codec of a table reads, whatever it has room for
@@ -91,27 +91,27 @@ module _ (most : ℕ) (ws : List ℕ) (hl : length ws ≡ entries-words most) wh
 
     -- ---- rows put in, set, taken out, kept
     pub put-row : (p b k : ℕ) → getD ws 0 0 < most
-        → table-enc 2 row (insert-at p (b ∷ k ∷ []) (table-dec 2 row ws)) ws ≡ write (insert-at p (entry b k) (entries ws))
+        → table-enc 2 row-words (insert-at p (b ∷ k ∷ []) (table-dec 2 row-words ws)) ws ≡ write (insert-at p (entry b k) (entries ws))
     put-row p b k h =
         let n = entries-length in
         as-entries (insert-at p (entry b k) (entries ws)) _ (typed-insert entry-exact most ws hl few p (entry b k))
         (simp (length-append, length-take, length-drop) (omega arith))
 
     pub set-key : (p k : ℕ) → p < getD ws 0 0
-        → table-enc 2 row (set (table-dec 2 row ws) p (set (getD (table-dec 2 row ws) p []) 1 k)) ws
+        → table-enc 2 row-words (set (table-dec 2 row-words ws) p (set (getD (table-dec 2 row-words ws) p []) 1 k)) ws
         ≡ write (set (entries ws) p (entry (entry-at (entries ws) p .block) k))
     set-key p k h =
         let e = entry (entry-at (entries ws) p .block) k in
         as-entries (set (entries ws) p e) _
         (rw (typed-at entry-exact most ws hl few p (entry 0 0) h) (typed-set entry-exact most ws hl few p e)) (rw (length-set, entries-length) few)
 
-    pub drop-row : (p : ℕ) → table-enc 2 row (remove-at p (table-dec 2 row ws)) ws ≡ write (remove-at p (entries ws))
+    pub drop-row : (p : ℕ) → table-enc 2 row-words (without-index p (table-dec 2 row-words ws)) ws ≡ write (without-index p (entries ws))
     drop-row p =
         let n = entries-length in
-        as-entries (remove-at p (entries ws)) _ (typed-remove entry-exact most ws hl few p) (simp (length-append, length-take, length-drop) (omega arith))
+        as-entries (without-index p (entries ws)) _ (typed-remove entry-exact most ws hl few p) (simp (length-append, length-take, length-drop) (omega arith))
 
     pub keep-rows : (test : List ℕ → Bool) (p : Entry → Bool) → ((e : Entry) → test (entry-row .write e) ≡ p e)
-        → table-enc 2 row (only test (table-dec 2 row ws)) ws ≡ write (only p (entries ws))
+        → table-enc 2 row-words (only test (table-dec 2 row-words ws)) ws ≡ write (only p (entries ws))
     keep-rows test p e =
         let n = entries-length in
         let m = length-only p (entries ws) in
@@ -119,7 +119,7 @@ module _ (most : ℕ) (ws : List ℕ) (hl : length ws ≡ entries-words most) wh
 
     -- ---- at the end
     pub append-leaves : (n b k : ℕ) → n ≡ getD ws 0 0 → getD ws 0 0 < most
-        → table-enc 2 row (insert-at n (b ∷ k ∷ []) (table-dec 2 row ws)) ws ≡ write (entries ws ++ entry b k ∷ [])
+        → table-enc 2 row-words (insert-at n (b ∷ k ∷ []) (table-dec 2 row-words ws)) ws ≡ write (entries ws ++ entry b k ∷ [])
     append-leaves n b k e h =
         let m = entries-length in
         as-entries (entries ws ++ entry b k ∷ []) _ (typed-append entry-exact most ws hl few n (entry b k) e) (rw length-append (omega arith))
@@ -135,7 +135,7 @@ takes-has most l b y = rw y
 
 -- ---- a sorted table
 module _ (most : ℕ) (ws : List ℕ) (len : ℕ) (hl : length ws ≡ entries-words most) (s : Sorted 2 most ws len) where
-  below : (b p : ℕ) → RowPlace 2 ws b p → (j : ℕ) → j < p → entry-at (entries ws) j .block < b
+  below : (b p : ℕ) → LowerBound 2 ws b p → (j : ℕ) → j < p → entry-at (entries ws) j .block < b
   below b p pl j h = let w = pl .within in rw (block-at most ws hl (s .few) j (omega arith)) (pl .before j h)
 
   -- ---- the block is there
@@ -146,19 +146,19 @@ module _ (most : ℕ) (ws : List ℕ) (len : ℕ) (hl : length ws ≡ entries-wo
     here-block : entry-at (entries ws) p .block ≡ b
     here-block = block-at most ws hl (s .few) p (h .in-use) ∙ h .same
 
-    pub look-here : look (entries ws) b ≡ entry-at (entries ws) p .key
-    look-here = look-at b (entries ws) p here-in (λ j q e. let z = below b p (h .place) j q in omega arith) here-block
+    pub key-for-found : key-for (entries ws) b ≡ entry-at (entries ws) p .key
+    key-for-found = key-for-at b (entries ws) p here-in (λ j q e. let z = below b p (h .bound) j q in omega arith) here-block
 
     pub has-here : has (entries ws) b ≡ true
     has-here = has-at b (entries ws) p here-in here-block
 
-    pub put-here : (k : ℕ) → table-enc 2 row (set (table-dec 2 row ws) p (set (getD (table-dec 2 row ws) p []) 1 k)) ws
+    pub put-here : (k : ℕ) → table-enc 2 row-words (set (table-dec 2 row-words ws) p (set (getD (table-dec 2 row-words ws) p []) 1 k)) ws
         ≡ entries-codec most .enc (insert (entries ws) b k) ws
     put-here k =
         set-key most ws hl (s .few) p k (h .in-use)
-        ∙ rw here-block (ap (λ (l : List Entry). entries-codec most .enc l ws) (sym (insert-here b k (entries ws) p here-in (below b p (h .place)) here-block)))
+        ∙ rw here-block (ap (λ (l : List Entry). entries-codec most .enc l ws) (sym (insert-here b k (entries ws) p here-in (below b p (h .bound)) here-block)))
 
-    pub remove-leaves : table-enc 2 row (remove-at p (table-dec 2 row ws)) ws ≡ entries-codec most .enc (remove (entries ws) b) ws
+    pub remove-leaves : table-enc 2 row-words (without-index p (table-dec 2 row-words ws)) ws ≡ entries-codec most .enc (remove (entries ws) b) ws
     remove-leaves =
         drop-row most ws hl (s .few) p
         ∙ ap (λ (l : List Entry). entries-codec most .enc l ws) (sym (remove-here b (entries ws) p here-in
@@ -174,19 +174,19 @@ module _ (most : ℕ) (ws : List ℕ) (len : ℕ) (hl : length ws ≡ entries-wo
   -- ---- the block is not there
   module _ (b p : ℕ) (g : GapAt 2 ws b p) where
     gap-after : p < getD ws 0 0 → b < first-at 2 ws p
-    gap-after q = let z = g .place .after p (le-refl p) q in let n = g .other q in by-eq (first-at 2 ws p) b (λ _ e. absurd (n e)) (λ _ e. omega arith)
+    gap-after q = let z = g .bound .after p (le-refl p) q in let n = g .other q in by-eq (first-at 2 ws p) b (λ _ e. absurd (n e)) (λ _ e. omega arith)
 
     gap-apart : (j : ℕ) → j < length (entries ws) → entry-at (entries ws) j .block ≢ b
     gap-apart j q e =
         let i : j < getD ws 0 0 = rw (entries-length most ws hl (s .few)) at q in
         let f : first-at 2 ws j ≡ b = sym (block-at most ws hl (s .few) j i) ∙ e in
-        by-lt j p (λ _ l. let z = g .place .before j l in omega arith)
+        by-lt j p (λ _ l. let z = g .bound .before j l in omega arith)
         (λ _ l. let a = gap-after (omega arith) in
         by-eq j p (λ _ u. let v : first-at 2 ws j ≡ first-at 2 ws p = rw u in omega arith)
         (λ _ u. let k : p < j = omega arith in let z = s .rising p j k i in omega arith))
 
-    pub look-gap : look (entries ws) b ≡ 0
-    look-gap = look-none b (entries ws) gap-apart
+    pub key-for-gap : key-for (entries ws) b ≡ 0
+    key-for-gap = key-for-none b (entries ws) gap-apart
 
     pub has-gap : has (entries ws) b ≡ false
     has-gap = has-none b (entries ws) gap-apart
@@ -196,12 +196,12 @@ module _ (most : ℕ) (ws : List ℕ) (len : ℕ) (hl : length ws ≡ entries-wo
     gap-room t = rw (← entries-length most ws hl (s .few)) (ltb-true _ _ (sym (takes-room most (entries ws) b has-gap) ∙ t))
 
     pub put-gap : (k : ℕ) → takes most (entries ws) b ≡ true
-        → table-enc 2 row (insert-at p (b ∷ k ∷ []) (table-dec 2 row ws)) ws ≡ entries-codec most .enc (insert (entries ws) b k) ws
+        → table-enc 2 row-words (insert-at p (b ∷ k ∷ []) (table-dec 2 row-words ws)) ws ≡ entries-codec most .enc (insert (entries ws) b k) ws
     put-gap k t =
-        let w = g .place .within in
+        let w = g .bound .within in
         put-row most ws hl (s .few) p b k (gap-room t)
         ∙ ap (λ (l : List Entry). entries-codec most .enc l ws) (sym (insert-gap b k (entries ws) p (rw (entries-length most ws hl (s .few)) w)
-        (below b p (g .place))
+        (below b p (g .bound))
         (λ q. let i : p < getD ws 0 0 = rw (entries-length most ws hl (s .few)) at q in rw (block-at most ws hl (s .few) p i) (gap-after i))))
 
     pub remove-gap : ws ≡ entries-codec most .enc (remove (entries ws) b) ws
@@ -249,7 +249,7 @@ module _ (most : ℕ) (ws vs : List ℕ) (hl : length ws ≡ entries-words most)
 
 -- ---- a table copied over another
 pub copy-leaves : (most from to : ℕ) (ws : List ℕ) → from + entries-words most ≤ length ws → getD ws from 0 ≤ most
-    → on-run to (entries-words most) (table-enc 2 row (table-dec 2 row (run from (entries-words most) ws))) ws
+    → on-run to (entries-words most) (table-enc 2 row-words (table-dec 2 row-words (run from (entries-words most) ws))) ws
     ≡ copied-entries most from to ws
 copy-leaves most from to ws h few =
     let t = run from (entries-words most) ws in
@@ -257,8 +257,8 @@ copy-leaves most from to ws h few =
     let l : length t ≡ entries-words most = run-length from (entries-words most) ws h in
     let c : getD t 0 0 ≡ getD ws from 0 = getD-take (entries-words most) (drop from ws) 0 0 (omega arith) ∙ getD-drop from ws 0 0 ∙ rw (add-zero from) in
     let f : getD t 0 0 ≤ most = rw c few in
-    on-by to (entries-words most) (table-enc 2 row (table-dec 2 row t)) (entries-codec most .enc (entries t)) ws
-    (typed entry-row (entries t) (table-dec 2 row t) (typed-rows entry-exact most t l f) v
+    on-by to (entries-words most) (table-enc 2 row-words (table-dec 2 row-words t)) (entries-codec most .enc (entries t)) ws
+    (typed entry-row (entries t) (table-dec 2 row-words t) (typed-rows entry-exact most t l f) v
     ∙ sym (table-is entry-row most (entries t) v (rw (entries-length most t l f) f)))
 
 -- ---- a sorted table, by its entries

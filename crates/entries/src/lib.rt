@@ -6,13 +6,13 @@ ghost use mathlib.Core.List.{[], _∷_, _++_};
 ghost use Prim.Native.Nat.{_+_, _*_, _<_};
 ghost use lib.ListN.{length, getD};
 ghost use Rattle.words.specs.Words.{words};
-ghost use Rattle.rules.specs.Entries.{entry, look, has, insert, remove, takes, take-in};
+ghost use Rattle.rules.specs.Entries.{entry, key-for, has, insert, remove, takes, insert-if-room};
 ghost use Rattle.rules.specs.Sound.{same-entries};
 ghost use Rattle.tables.specs.Tables.{TwoTables, IsTable, Sorted};
 ghost use Rattle.tables.specs.Spots.{SpotOf};
 ghost use Rattle.codec.specs.Codec.{change};
 ghost use Rattle.layout.specs.Layout.{entries-codec};
-ghost use Rattle.entries.specs.Words.{entry-words, entries-words, copied-entries, entry-at};
+ghost use Rattle.entries.specs.Entries.{entry-words, entries-words, copied-entries, entry-at};
 use layout::sizes::ENTRY_WORDS;
 use rules::numbers::BlockNumber;
 use rules::numbers::ChunkKey;
@@ -43,7 +43,7 @@ pub fn key_at(t: &[u8], most: usize, i: usize) -> ChunkKey
 // The key at the spot that a look-up found; 0 means no mapping.
 fn key_of(t: &[u8], most: usize, b: BlockNumber, spot: Spot) -> ChunkKey
     requires { ⌜ Sorted entry-words most (words (now t)) (length (now t)) × SpotOf entry-words (words (now t)) (b .0) spot ⌝ }
-    ensures { λ r. ⌜ r .0 ≡ look (entries-codec most .dec (words (now (t .entry)))) (b .0) ⌝ }
+    ensures { λ r. ⌜ r .0 ≡ key-for (entries-codec most .dec (words (now (t .entry)))) (b .0) ⌝ }
 {
     match spot {
         Spot::Here(p) => key_at(t, most, p),
@@ -52,17 +52,17 @@ fn key_of(t: &[u8], most: usize, b: BlockNumber, spot: Spot) -> ChunkKey
 }
 
 // The key of a block.
-pub fn look(t: &[u8], most: usize, b: BlockNumber) -> ChunkKey
+pub fn key_for(t: &[u8], most: usize, b: BlockNumber) -> ChunkKey
     requires { ⌜ Sorted entry-words most (words (now t)) (length (now t)) ⌝ }
-    ensures { λ r. ⌜ r .0 ≡ look (entries-codec most .dec (words (now (t .entry)))) (b .0) ⌝ }
+    ensures { λ r. ⌜ r .0 ≡ key-for (entries-codec most .dec (words (now (t .entry)))) (b .0) ⌝ }
 {
     key_of(t, most, b, tables::find(t, ENTRY_WORDS, most, b.0))
 }
 
 // The same, looked for at a guess first.
-pub fn look_near(t: &[u8], most: usize, b: BlockNumber, guess: usize) -> ChunkKey
+pub fn key_near(t: &[u8], most: usize, b: BlockNumber, guess: usize) -> ChunkKey
     requires { ⌜ Sorted entry-words most (words (now t)) (length (now t)) ⌝ }
-    ensures { λ r. ⌜ r .0 ≡ look (entries-codec most .dec (words (now (t .entry)))) (b .0) ⌝ }
+    ensures { λ r. ⌜ r .0 ≡ key-for (entries-codec most .dec (words (now (t .entry)))) (b .0) ⌝ }
 {
     key_of(
         t,
@@ -151,7 +151,7 @@ pub fn insert(t: &mut [u8], most: usize, b: BlockNumber, k: ChunkKey)
 // The same, but a new block that finds the table full is dropped.
 pub fn insert_or_drop(t: &mut [u8], most: usize, b: BlockNumber, k: ChunkKey)
     requires { ⌜ Sorted entry-words most (words (now t)) (length (now t)) ⌝ }
-    ensures { λ _. ⌜ words (now (t .exit)) ≡ change (entries-codec most) (λ l. take-in most l (entry (b .0) (k .0))) (words (now (t .entry))) ⌝ }
+    ensures { λ _. ⌜ words (now (t .exit)) ≡ change (entries-codec most) (λ l. insert-if-room most l (entry (b .0) (k .0))) (words (now (t .entry))) ⌝ }
 {
     if takes(t, most, b) {
         insert(t, most, b, k);

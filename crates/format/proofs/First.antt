@@ -11,21 +11,21 @@ use Rattle.lists.proofs.Runs.{run-length, on-right, on-length, on-by, on-set}
 use Rattle.rules.specs.declared.settings.Settings.{Settings}
 use Rattle.rules.specs.Limits.{buckets, max-relays}
 use Rattle.rules.specs.Chunks.{Chunk}
-use Rattle.rules.specs.Pairs.{Slots}
+use Rattle.rules.specs.Pairs.{Assignments}
 use Rattle.rules.specs.Format.{first-pairs, format}
 use Rattle.log.specs.Log.{log-enc}
 use Rattle.log.proofs.Changes.{cleared}
 use Rattle.codec.specs.Codec.{Codec, _&_, enc-two, _then_, Row, table}
 use Rattle.codec.proofs.Laws.{Lawful}
-use Rattle.codec.proofs.Focus.{on-whole, many-same, slot-some}
+use Rattle.codec.proofs.Focus.{on-whole, many-same, if-present-some}
 use Rattle.codec.proofs.Loops.{then-written, table-cleared}
-use Rattle.layout.specs.Disk.{Status, Copies, Brick, Disk, entry-row, relay-row, blank-proxy, blank-copies, brick-reading, disk-reading}
+use Rattle.layout.specs.Contents.{Status, Copies, Brick, Contents, entry-row, relay-row, blank-proxy, blank-copies, brick-reading, contents-reading}
 use Rattle.layout.specs.Layout.{head-codec, agreed-codec, proxy-codec, status-codec, buffer-codec, copy-codec, copies-codec}
 use Rattle.layout.specs.Layout.{all-copies-codec, log-codec, brick-codec, place-codec, status-words, copy-words, copies-words, log-words, place-words}
 use Rattle.layout.specs.Layout.{buffer-at, all-copies-at, log-at}
-use Rattle.layout.specs.Layout.{bag-codec, all-agreed-codec, all-proxies-codec, all-places-codec, disk-codec, head-words, bag-words, store-words}
+use Rattle.layout.specs.Layout.{bag-codec, all-agreed-codec, all-proxies-codec, all-places-codec, store-codec, head-words, bag-words, store-words}
 use Rattle.layout.specs.Layout.{proxies-at, bag-at, places-at}
-use Rattle.layout.specs.Store.{to-disk, render}
+use Rattle.layout.specs.Store.{contents-of, render}
 use Rattle.layout.proofs.Codecs.{status-law, buffer-law, copy-law, all-copies-law, head-law, all-agreed-law, all-proxies-law, bag-law}
 use Rattle.format.specs.First.{first-head, agreed-in, new-brick, first-place}
 use Rattle.format.proofs.Pairs.{format-agreed, format-place}
@@ -63,11 +63,11 @@ log-cleared : (c : Settings) (w : List ℕ) → length w ≡ log-words c → log
 unfolding log-enc
 log-cleared c w h = rw (take-nil {A = Chunk} (c .chunks)) (sym (cleared (c .chunks) (c .size / 8) w h))
 
-slot-first : (c : Settings) (i : ℕ) (b : Brick) (w : List ℕ) → 0 < i → length w ≡ place-words c
+position-first : (c : Settings) (i : ℕ) (b : Brick) (w : List ℕ) → 0 < i → length w ≡ place-words c
     → place-codec c .enc (i & b) w ≡ on-run 1 (brick-codec c .size) (brick-codec c .enc b) (set w 0 i)
-slot-first c i b [] o h = absurd (omega arith)
-slot-first c i b (x ∷ w) o h =
-    ap (λ (v : List ℕ). i ∷ v) (slot-some (brick-codec c) i b w o)
+position-first c i b [] o h = absurd (omega arith)
+position-first c i b (x ∷ w) o h =
+    ap (λ (v : List ℕ). i ∷ v) (if-present-some (brick-codec c) i b w o)
     ∙ sym (on-right 0 (brick-codec c .size) (brick-codec c .enc b) 1 (i ∷ []) w refl
     ∙ ap (λ (v : List ℕ). i ∷ v) (on-whole (brick-codec c .size) (brick-codec c .enc b) w (omega arith)))
 
@@ -120,7 +120,7 @@ module _ (c : Settings) (i : ℕ) (status : Status) (w : List ℕ) (o : 0 < i) (
       (log-cleared c (run (log-at c) log with-copies) (run-length (log-at c) log with-copies (omega arith))) in
       sym cells ∙ sym three
       ∙ ap (on-run all-copies-at (all + log) (enc-two (all-copies-codec c) (log-codec c) (empty & []))) (sym buffer)
-      ∙ sym two ∙ sym one ∙ sym (slot-first c i (new-brick status) w o h)
+      ∙ sym two ∙ sym one ∙ sym (position-first c i (new-brick status) w o h)
 
 -- the writes of a place, one after the other
 pub place-steps : (c : Settings) (i : ℕ) (status : Status) (log : ℕ) (w0 w1 w2 w3 w4 w5 : List ℕ) → 0 < i → length w0 ≡ place-words c
@@ -130,7 +130,7 @@ pub place-steps : (c : Settings) (i : ℕ) (status : Status) (log : ℕ) (w0 w1 
 place-steps c i status log w0 w1 w2 w3 w4 w5 o h e1 e2 e3 e4 el e5 = e5 ∙ rw (el, e4, e3, e2, e1) (place-written c i status w0 o h)
 
 -- ---- the store
-module _ (c : Settings) (d : Disk) (w : List ℕ) (h : length w ≡ store-words c) where
+module _ (c : Settings) (d : Contents) (w : List ℕ) (h : length w ≡ store-words c) where
   abbrev with-head : List ℕ
   with-head = on-run 0 head-words (head-codec .enc (d .head)) w
 
@@ -154,13 +154,13 @@ module _ (c : Settings) (d : Disk) (w : List ℕ) (h : length w ≡ store-words 
       let l2 = on-kept (all-agreed-codec c) (all-agreed-law c) (d .agreed) head-words with-head l1 (omega arith) in
       on-kept all-proxies-codec all-proxies-law (d .proxy) (proxies-at c) with-agreed l2 (omega arith)
 
-  disk-written : disk-codec c .enc d w ≡ on-run (places-at c) (all-places-codec c .size) (all-places-codec c .enc (d .place)) with-bag
+  disk-written : store-codec c .enc d w ≡ on-run (places-at c) (all-places-codec c .size) (all-places-codec c .enc (d .place)) with-bag
   disk-written =
       let l1 = on-kept head-codec head-law (d .head) 0 w h (omega arith) in
       let l2 = on-kept (all-agreed-codec c) (all-agreed-law c) (d .agreed) head-words with-head l1 (omega arith) in
       let l3 = proxies-long in
-      sym (on-whole (store-words c) (disk-codec c .enc d) w h)
-      ∙ then-written head-codec (all-agreed-codec c then all-proxies-codec then bag-codec then all-places-codec c) head-law (disk-reading .from d) 0 w
+      sym (on-whole (store-words c) (store-codec c .enc d) w h)
+      ∙ then-written head-codec (all-agreed-codec c then all-proxies-codec then bag-codec then all-places-codec c) head-law (contents-reading .from d) 0 w
       (omega arith)
       ∙ then-written (all-agreed-codec c) (all-proxies-codec then bag-codec then all-places-codec c) (all-agreed-law c)
       (d .agreed & d .proxy & d .bag & d .place) head-words with-head (omega arith)
@@ -168,28 +168,28 @@ module _ (c : Settings) (d : Disk) (w : List ℕ) (h : length w ≡ store-words 
       (omega arith)
       ∙ then-written bag-codec (all-places-codec c) bag-law (d .bag & d .place) (bag-at c) with-proxies (omega arith)
 
-abbrev first-disk : Settings → Disk
+abbrev first-disk : Settings → Contents
 first-disk c = record { head = first-head c; agreed = agreed-in (first-pairs c); proxy = λ p. blank-proxy; bag = []; place = first-place }
 
 -- the first state, as it lies
-as-first : (c : Settings) (w : List ℕ) → render (format c) w ≡ disk-codec c .enc (first-disk c) w
+as-first : (c : Settings) (w : List ℕ) → render (format c) w ≡ store-codec c .enc (first-disk c) w
 unfolding render format enc-two
 as-first c w =
     let rest : List ℕ = drop head-words w in
     let places : List ℕ = drop bag-words (drop (all-proxies-codec .size) (drop (all-agreed-codec c .size) rest)) in
     rw (
-      many-same agreed-codec (buckets c) (to-disk (format c) .agreed) (agreed-in (first-pairs c)) (take (all-agreed-codec c .size) rest) (format-agreed c),
-      many-same (place-codec c) (c .places) (to-disk (format c) .place) first-place places (format-place c),
+      many-same agreed-codec (buckets c) (contents-of (format c) .agreed) (agreed-in (first-pairs c)) (take (all-agreed-codec c .size) rest) (format-agreed c),
+      many-same (place-codec c) (c .places) (contents-of (format c) .place) first-place places (format-place c),
     )
 
 -- the writes of the first state, one after the other
-pub first-steps : (c : Settings) (slots : Slots) → slots ≡ first-pairs c → (p b q : ℕ) (w0 w1 w2 w3 w4 w5 : List ℕ) → length w0 ≡ store-words c
+pub first-steps : (c : Settings) (assigned : Assignments) → assigned ≡ first-pairs c → (p b q : ℕ) (w0 w1 w2 w3 w4 w5 : List ℕ) → length w0 ≡ store-words c
     → p ≡ proxies-at c → b ≡ bag-at c → q ≡ places-at c → w1 ≡ on-run 0 head-words (head-codec .enc (first-head c)) w0
-    → w2 ≡ on-run head-words (all-agreed-codec c .size) (all-agreed-codec c .enc (agreed-in slots)) w1
+    → w2 ≡ on-run head-words (all-agreed-codec c .size) (all-agreed-codec c .enc (agreed-in assigned)) w1
     → w3 ≡ on-run p (all-proxies-codec .size) (all-proxies-codec .enc (λ _. blank-proxy)) w2 → w4 ≡ set w3 b 0
     → w5 ≡ on-run q (all-places-codec c .size) (all-places-codec c .enc first-place) w4 → w5 ≡ render (format c) w0
-first-steps c slots es p b q w0 w1 w2 w3 w4 w5 h ep eb eq e1 e2 e3 e4 e5 =
-    let d : Disk = first-disk c in
+first-steps c assigned es p b q w0 w1 w2 w3 w4 w5 h ep eb eq e1 e2 e3 e4 e5 =
+    let d : Contents = first-disk c in
     let all : List ℕ → List ℕ = on-run (places-at c) (all-places-codec c .size) (all-places-codec c .enc first-place) in
     let bag = table-run relay-row max-relays (bag-at c) (with-proxies c d w0 h) (rw (proxies-long c d w0 h) (omega arith)) in
     e5 ∙ rw (eq, e4, eb, e3, ep, e2, es, e1) (ap all (sym bag) ∙ sym (disk-written c d w0 h) ∙ sym (as-first c w0))

@@ -12,13 +12,14 @@ use borrow.Author.Tests.{lt-ltb, le-leb}
 use Rattle.lists.proofs.Tests.{by, both}
 use Rattle.rules.specs.declared.settings.Settings.{Settings}
 use Rattle.rules.specs.Limits.{buckets, max-buckets, max-places, max-id}
-use Rattle.rules.specs.Pairs.{Slots, ids-of, pairs}
+use Rattle.rules.specs.Pairs.{Assignments, ids-of, pairs}
 use Rattle.rules.specs.Format.{first-id, is-first, first-pairs, format}
-use Rattle.rules.proofs.Limits.{Limits, few-buckets}
+use Rattle.rules.specs.Limits.{Limits}
+use Rattle.rules.proofs.Limits.{few-buckets}
 use Rattle.pairs.proofs.Facts.{pairs-length}
 use Rattle.codec.specs.Codec.{_&_}
-use Rattle.layout.specs.Disk.{Copies, Brick, blank-copies}
-use Rattle.layout.specs.Store.{brick-in, to-disk}
+use Rattle.layout.specs.Contents.{Copies, Brick, blank-copies}
+use Rattle.layout.specs.Store.{brick-in, contents-of}
 use Rattle.format.specs.First.{agreed-in, first-brick, first-place}
 
 -- the ids of the bricks, as the code has them
@@ -51,17 +52,17 @@ no-pairs c n e =
     let split = replicate-append-replicate {A = ℕ} k rest 0 ∙ ap (λ (m : ℕ). replicate {A = ℕ} m 0) all in
     rw used (ap (λ (l : List ℕ). take k l) (sym split) ∙ take-at (replicate k 0) (replicate rest 0) k (length-replicate k 0))
 
-pub first-pairs-are : (c : Settings) → Limits c → (n : ℕ) → n ≡ buckets c → (last slots : Slots) → last ≡ replicate (2 * buckets c) 0
-    → slots ≡ pairs n (take (c .places) all-ids) last → slots ≡ first-pairs c
+pub first-pairs-are : (c : Settings) → Limits c → (n : ℕ) → n ≡ buckets c → (last assigned : Assignments) → last ≡ replicate (2 * buckets c) 0
+    → assigned ≡ pairs n (take (c .places) all-ids) last → assigned ≡ first-pairs c
 unfolding first-pairs
-first-pairs-are c l n en last slots el e = e ∙ rw (en, el, first-ids (c .places) (l .places-to))
+first-pairs-are c l n en last assigned el e = e ∙ rw (en, el, first-ids (c .places) (l .places-to))
 
 pub first-pairs-long : (c : Settings) → length (first-pairs c) ≡ 2 * buckets c
 unfolding first-pairs
 first-pairs-long c = pairs-length _ _ _ ∙ length-replicate _ 0
 
 -- ---- in the state that format makes
-pub format-agreed : (c : Settings) (g : ℕ) → g < buckets c → to-disk (format c) .agreed g ≡ agreed-in (first-pairs c) g
+pub format-agreed : (c : Settings) (g : ℕ) → g < buckets c → contents-of (format c) .agreed g ≡ agreed-in (first-pairs c) g
 unfolding format
 format-agreed c g h = rw (lt-ltb g (buckets c) h)
 
@@ -84,10 +85,10 @@ module _ (c : Settings) where
     where
       made : {f : Bool} {copies : ℕ → Copies} → f ≡ true → copies ≡ (λ g. blank-copies)
           → _≡_ {A = Brick}
-          (record { here = f; status = record { up = f; member = f; began = f; next = 0; ceiling = 0 }; buffer = []; copies = copies; log = [] }) first-brick
+          (record { present = f; status = record { up = f; member = f; began = f; next = 0; ceiling = 0 }; buffer = []; copies = copies; log = [] }) first-brick
       made e k = cc
 
-  pub format-place : (p : ℕ) → p < c .places → to-disk (format c) .place p ≡ first-place p
+  pub format-place : (p : ℕ) → p < c .places → contents-of (format c) .place p ≡ first-place p
   unfolding format
   format-place p h =
       ap (λ (i : ℕ). i & brick-in (format c) i) (id-is p h)

@@ -5,18 +5,18 @@ ghost use lib.ListN.{length, replicate};
 ghost use Rattle.words.specs.Words.{words};
 ghost use Rattle.rules.specs.Limits.{buckets};
 ghost use Rattle.rules.specs.Format.{first-pairs, format};
-ghost use Rattle.rules.proofs.Limits.{Limits};
+ghost use Rattle.rules.specs.Limits.{Limits};
 ghost use Rattle.codec.specs.Codec.{_&_};
-ghost use Rattle.layout.specs.Disk.{blank-proxy, blank-copies};
+ghost use Rattle.layout.specs.Contents.{blank-proxy, blank-copies};
 ghost use Rattle.layout.specs.Layout.{all-agreed-codec, proxy-codec, all-proxies-codec, copies-codec, all-copies-codec, place-codec, all-places-codec};
 ghost use Rattle.layout.specs.Layout.{agreed-words, proxy-words, copies-words, place-words};
 ghost use Rattle.layout.specs.Store.{render, store-bytes};
-ghost use Rattle.parts.specs.Parts.{agreed-of, status-of};
+ghost use Rattle.records.specs.Records.{agreed-of, status-of};
 ghost use Rattle.format.specs.First.{first-agreed, agreed-in, new-brick, first-place};
 use layout::sizes;
-use parts::agreed::Agreed;
-use parts::head::Head;
-use parts::status::Status;
+use records::agreed::Agreed;
+use records::head::Head;
+use records::status::Status;
 use rules::constants;
 use rules::numbers::ViewNumber;
 use rules::settings::Settings;
@@ -24,14 +24,14 @@ use rules::settings::Settings;
 // the bricks' ids, in the order of their places
 const FIRST_IDS: [u64; Settings::MAX_PLACES] = [1, 2, 3, 4, 5, 6, 7, 8];
 
-// The pairs of the first view go into the slots: no bucket had a pair before.
-fn first_pairs(settings: Settings, slots: &mut [u64])
-    requires { ⌜ Limits settings × (now slots ≡ replicate (2 * buckets settings) 0) ⌝ }
-    ensures { λ _. ⌜ now (slots .exit) ≡ first-pairs settings ⌝ }
+// The pairs of the first view go into the assigned: no bucket had a pair before.
+fn first_pairs(settings: Settings, assigned: &mut [u64])
+    requires { ⌜ Limits settings × (now assigned ≡ replicate (2 * buckets settings) 0) ⌝ }
+    ensures { λ _. ⌜ now (assigned .exit) ≡ first-pairs settings ⌝ }
 {
     let ids = FIRST_IDS;
     let count = settings.places;
-    pairing::assign(&ids[0..count], slots, settings.buckets());
+    pairing::assign(&ids[0..count], assigned, settings.buckets());
 }
 
 // A bucket's record: it is ready.
@@ -45,22 +45,22 @@ fn first_agreed(primary: u64, backup: u64) -> Agreed
         last_backup: backup,
         ready: true,
         fetched: false,
-        order: 0,
+        last_sent: 0,
         taken: 0,
     }
 }
 
-// All buckets' records, with the pairs in the slots.
-fn bucket_records(s: &mut [u8], settings: Settings, slots: &[u64])
-    requires { ⌜ (length (now s) ≡ 8 * (buckets settings * agreed-words)) × (length (now slots) ≡ 2 * buckets settings) ⌝ }
-    ensures { λ _. ⌜ words (now (s .exit)) ≡ all-agreed-codec settings .enc (agreed-in (now (slots .entry))) (words (now (s .entry))) ⌝ }
+// All buckets' records, with the pairs in the assigned.
+fn bucket_records(s: &mut [u8], settings: Settings, assigned: &[u64])
+    requires { ⌜ (length (now s) ≡ 8 * (buckets settings * agreed-words)) × (length (now assigned) ≡ 2 * buckets settings) ⌝ }
+    ensures { λ _. ⌜ words (now (s .exit)) ≡ all-agreed-codec settings .enc (agreed-in (now (assigned .entry))) (words (now (s .entry))) ⌝ }
 {
     let count = settings.buckets();
     let mut g = 0;
     while g < count {
         let at = 8 * words::offset(g, sizes::AGREED_WORDS, count);
-        let agreed = first_agreed(slots[2 * g], slots[2 * g + 1]);
-        parts::agreed::write(&mut s[at..at + 8 * sizes::AGREED_WORDS], agreed);
+        let agreed = first_agreed(assigned[2 * g], assigned[2 * g + 1]);
+        records::agreed::write(&mut s[at..at + 8 * sizes::AGREED_WORDS], agreed);
         g += 1;
     }
 }
@@ -118,7 +118,7 @@ pub fn place(s: &mut [u8], settings: Settings, id: u64, status: Status)
 {
     let log = sizes::log_at(settings);
     words::write(s, sizes::ID_AT, id);
-    parts::status::write(&mut s[8 * sizes::UP_AT..8 * sizes::BUFFER_AT], status);
+    records::status::write(&mut s[8 * sizes::UP_AT..8 * sizes::BUFFER_AT], status);
     words::write(s, sizes::BUFFER_AT, 0);
     all_copies(&mut s[8 * sizes::COPIES_AT..8 * log], settings);
     words::write(s, log, 0);
@@ -146,9 +146,9 @@ fn places(s: &mut [u8], settings: Settings)
     }
 }
 
-// The first state, with the pairs in the slots.
-fn write(s: &mut [u8], settings: Settings, slots: &[u64])
-    requires { ⌜ Limits settings × (length (now s) ≡ store-bytes settings) × (now slots ≡ first-pairs settings) ⌝ }
+// The first state, with the pairs in the assigned.
+fn write(s: &mut [u8], settings: Settings, assigned: &[u64])
+    requires { ⌜ Limits settings × (length (now s) ≡ store-bytes settings) × (now assigned ≡ first-pairs settings) ⌝ }
     ensures { λ _. ⌜ words (now (s .exit)) ≡ render (format settings) (words (now (s .entry))) ⌝ }
 {
     let proxies_at = sizes::proxies_at(settings);
@@ -161,11 +161,11 @@ fn write(s: &mut [u8], settings: Settings, slots: &[u64])
         given: settings.places as u64,
         started: settings.places as u64,
     };
-    parts::head::write(&mut s[0..8 * sizes::HEAD_WORDS], head);
+    records::head::write(&mut s[0..8 * sizes::HEAD_WORDS], head);
     bucket_records(
         &mut s[8 * sizes::HEAD_WORDS..8 * proxies_at],
         settings,
-        slots,
+        assigned,
     );
     proxies(&mut s[8 * proxies_at..8 * bag_at]);
     words::write(s, bag_at, 0);
@@ -173,12 +173,12 @@ fn write(s: &mut [u8], settings: Settings, slots: &[u64])
 }
 
 // The same, with room for the pairs.
-fn write_in(s: &mut [u8], settings: Settings, slots: &mut [u64])
-    requires { ⌜ Limits settings × (length (now s) ≡ store-bytes settings) × (now slots ≡ replicate (2 * buckets settings) 0) ⌝ }
+fn write_in(s: &mut [u8], settings: Settings, assigned: &mut [u64])
+    requires { ⌜ Limits settings × (length (now s) ≡ store-bytes settings) × (now assigned ≡ replicate (2 * buckets settings) 0) ⌝ }
     ensures { λ _. ⌜ words (now (s .exit)) ≡ render (format settings) (words (now (s .entry))) ⌝ }
 {
-    first_pairs(settings, slots);
-    write(s, settings, slots);
+    first_pairs(settings, assigned);
+    write(s, settings, assigned);
 }
 
 // The first state over a store of the right length.
@@ -187,6 +187,6 @@ pub fn first_state(s: &mut [u8], settings: Settings)
     ensures { λ _. ⌜ words (now (s .exit)) ≡ render (format settings) (words (now (s .entry))) ⌝ }
 {
     let used = 2 * settings.buckets();
-    let mut room = [0; pairing::MAX_SLOTS];
+    let mut room = [0; pairing::MAX_ASSIGNED];
     write_in(s, settings, &mut room[0..used]);
 }

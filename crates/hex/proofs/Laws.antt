@@ -15,7 +15,7 @@ use Rattle.lists.specs.Tests.{_and_}
 use Rattle.lists.proofs.Tests.{impossible, by, by-lt}
 use Rattle.area.proofs.Laws.{onto-onto}
 use Rattle.area.proofs.Each.{Above, Below, each-none, each-more}
-use Rattle.hex.specs.Hex.{hex-digit, hex, is-digit, digit-value, only-digits, unhex, spells-bytes, bytes-of}
+use Rattle.hex.specs.Hex.{hex-digit, hex, is-digit, digit-value, only-digits, unhex, spells-bytes, hex-bytes}
 
 -- ---- one digit
 
@@ -179,8 +179,8 @@ unhex-hex (each-more {x = b} {xs = bs} h r) =
     rw (hex-value (b / 16) (omega arith), hex-value (b % 16) (omega arith), e, unhex-hex r)
 
 -- bytes are read back from their text
-pub bytes-there : (n : ℕ) {bs : List ℕ} → Below 256 bs → length bs ≡ n → bytes-of n (hex bs) ≡ some bs
-unfolding bytes-of spells-bytes
+pub bytes-there : (n : ℕ) {bs : List ℕ} → Below 256 bs → length bs ≡ n → hex-bytes n (hex bs) ≡ some bs
+unfolding hex-bytes spells-bytes
 bytes-there n {bs} h e =
     rw (eq-eqb (length (hex bs)) (2 * n) (hex-length bs ∙ ap (λ (k : ℕ). 2 * k) e), hex-digits h, unhex-hex h)
 
@@ -232,8 +232,8 @@ pub record ReadBytes (n : ℕ) (s bs : List ℕ) : Type 0 where
   pub value : bs ≡ unhex s
 
 -- a text that is read as bytes is their text
-pub bytes-back : (n : ℕ) (s bs : List ℕ) → bytes-of n s ≡ some bs → ReadBytes n s bs
-unfolding bytes-of
+pub bytes-back : (n : ℕ) (s bs : List ℕ) → hex-bytes n s ≡ some bs → ReadBytes n s bs
+unfolding hex-bytes
 bytes-back n s bs e =
     by (spells-bytes n s)
     (λ t.

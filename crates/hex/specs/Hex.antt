@@ -37,5 +37,5 @@ unfoldable pub spells-bytes : ℕ → List ℕ → Bool
 spells-bytes n s = cond (eqb (length s) (2 * n)) (only-digits s) false
 
 -- the n bytes that a text is
-unfoldable pub bytes-of : ℕ → List ℕ → Option (List ℕ)
-bytes-of n s = cond (spells-bytes n s) (some (unhex s)) none
+unfoldable pub hex-bytes : ℕ → List ℕ → Option (List ℕ)
+hex-bytes n s = cond (spells-bytes n s) (some (unhex s)) none

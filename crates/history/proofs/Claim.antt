@@ -9,7 +9,7 @@ use Rattle.rules.specs.declared.settings.Settings.{Settings}
 use Rattle.rules.specs.Event.{Event}
 use Rattle.rules.specs.State.{State}
 use Rattle.rules.specs.Format.{format}
-use Rattle.rules.specs.Parts.{bucket-at}
+use Rattle.rules.specs.Derived.{bucket-at}
 use Rattle.rules.specs.Question.{first-no}
 use Rattle.rules.specs.Maps.{is-taken}
 use Rattle.rules.specs.Whole.{whole}
@@ -17,17 +17,17 @@ use Rattle.rules.specs.Step.{Outcome, rule, step}
 use Rattle.rules.proofs.Step.{Yes, Stepped, refused, accepted, stepped, code-is}
 use Rattle.rules.proofs.Sound.{Sound}
 use Rattle.rules.proofs.Examples.{rules-open}
-use Rattle.history.specs.Claim.{Told, told, History, no-history, number, hear, Shown, Obeys, Ageing}
-use Rattle.history.specs.Claim.{Strikes, StruckWhole, open-after, Sated, NoWant, Claim}
+use Rattle.history.specs.Claim.{Answered, answered, History, no-history, number, after-answer, Shown, Obeys, Ageing}
+use Rattle.history.specs.Claim.{IsCrashOrLose, FailuresFindWhole, awaiting-ready, NotRefusedForWant, NeverRefusedForWant, Claim}
 use Rattle.history.proofs.Sound.All.{format-sound, sound-kept, step-sound}
-use Rattle.history.proofs.Invariant.{Aged}
-use Rattle.history.proofs.Wanting.{Stocked}
-use Rattle.history.proofs.Ageing.Put.{put-fresh}
+use Rattle.history.proofs.AgeingInvariant.{AgeingInvariant}
+use Rattle.history.proofs.WantInvariant.{WantInvariant}
+use Rattle.history.proofs.Ageing.Put.{put-key-unused}
 use Rattle.history.proofs.Ageing.Reads.{get-shown}
-use Rattle.history.proofs.Ageing.All.{aged-kept, format-aged}
+use Rattle.history.proofs.Ageing.All.{ageing-kept, format-ageing}
 use Rattle.history.proofs.Want.Reads.{get-found}
 use Rattle.history.proofs.Want.Views.{fetch-found}
-use Rattle.history.proofs.Want.All.{stocked-kept, format-stocked}
+use Rattle.history.proofs.Want.All.{want-kept, format-want}
 
 -- ---- the settings stay
 same-settings : (s : State) (e : Event) → rule s e .after .settings ≡ s .settings
@@ -57,68 +57,68 @@ same-settings s (Event.collect i) = refl
 same-settings s Event.unknown = refl
 
 -- ---- one step
-abbrev as-told : State → Event → Outcome → Told
-as-told s e u = record { event = e; code = u .code; said = u .said; found-whole = whole s }
+abbrev as-answered : State → Event → Outcome → Answered
+as-answered s e u = record { event = e; code = u .code; said = u .said; found-whole = whole s }
 
-module _ (s : State) (h : History) (v : Aged s h) (z : Sound s) where
+module _ (s : State) (h : History) (v : AgeingInvariant s h) (z : Sound s) where
   new-key : (e : Event) → Yes s e → (p i b : ℕ) (d : List ℕ) → e ≡ Event.put p i b d → (c : ℕ) → number (h .writes c) (rule s e .said .key) ≡ 0
   unfolding rule
   new-key e y p i b d q =
       subst (λ (a : Event). Yes s a → (c : ℕ) → number (h .writes c) (rule s a .said .key) ≡ 0) (sym q)
-      (λ a. put-fresh s h v z p i b d a (sound-kept s (Event.put p i b d) z a)) y
+      (λ a. put-key-unused s h v z p i b d a (sound-kept s (Event.put p i b d) z a)) y
 
   shows : (e : Event) → Yes s e → (p b : ℕ) → e ≡ Event.get p b → Shown (s .settings .size) (h .writes b) (h .mark b) (rule s e .said)
   shows e y p b q = subst (λ (a : Event). Yes s a → Shown (s .settings .size) (h .writes b) (h .mark b) (rule s a .said)) (sym q) (get-shown s h v z p b) y
 
-  obeys : (e : Event) (u : Outcome) → Stepped s e u → Obeys (s .settings .size) h (as-told s e u)
-  obeys e u (refused c) = record { fresh = λ p i b d q n. absurd (omega (arith, n)); shown = λ p b q n. absurd (omega (arith, n)) }
-  obeys e u (accepted y) = record { fresh = λ p i b d q _. new-key e y p i b d q; shown = λ p b q _. shows e y p b q }
+  obeys : (e : Event) (u : Outcome) → Stepped s e u → Obeys (s .settings .size) h (as-answered s e u)
+  obeys e u (refused c) = record { key-unused = λ p i b d q n. absurd (omega (arith, n)); shown = λ p b q n. absurd (omega (arith, n)) }
+  obeys e u (accepted y) = record { key-unused = λ p i b d q _. new-key e y p i b d q; shown = λ p b q _. shows e y p b q }
 
-  sated : (o : ℕ → Bool) → Stocked s o → (e : Event) → Sated o (as-told s e (step s e))
+  sated : (o : ℕ → Bool) → WantInvariant s o → (e : Event) → NotRefusedForWant o (as-answered s e (step s e))
   sated o w e = record {
     bytes = λ p b q n. subst (λ (a : Event). first-no (rule s a .questions) ≡ 11 → ⊥) (sym q) (get-found s z h v o w p b) (sym (code-is s e) ∙ n);
     source = λ g q y n. subst (λ (a : Event). first-no (rule s a .questions) ≡ 13 → ⊥) (sym q) (fetch-found s h v z o w g y) (sym (code-is s e) ∙ n);
   }
 
-  aged-on : (e : Event) (u : Outcome) → Stepped s e u → Aged (u .after) (hear h e (u .code) (u .said))
-  aged-on e u (refused c) = v
-  aged-on e u (accepted y) = aged-kept s h e v z y (sound-kept s e z y)
+  ageing-on : (e : Event) (u : Outcome) → Stepped s e u → AgeingInvariant (u .after) (after-answer h e (u .code) (u .said))
+  ageing-on e u (refused c) = v
+  ageing-on e u (accepted y) = ageing-kept s h e v z y (sound-kept s e z y)
 
-  stocked-on : (o : ℕ → Bool) → Stocked s o → (e : Event) (u : Outcome) → Stepped s e u → (Strikes e → u .code ≡ 0 → whole s ≡ true)
-      → Stocked (u .after) (open-after o e (u .code))
-  stocked-on o w e u (refused c) f = w
-  stocked-on o w e u (accepted y) f = stocked-kept s h o e v z w y (λ t. f t refl)
+  want-on : (o : ℕ → Bool) → WantInvariant s o → (e : Event) (u : Outcome) → Stepped s e u → (IsCrashOrLose e → u .code ≡ 0 → whole s ≡ true)
+      → WantInvariant (u .after) (awaiting-ready o e (u .code))
+  want-on o w e u (refused c) f = w
+  want-on o w e u (accepted y) f = want-kept s h o e v z w y (λ t. f t refl)
 
 pub settings-on : (s : State) (e : Event) (u : Outcome) → Stepped s e u → u .after .settings ≡ s .settings
 settings-on s e u (refused c) = refl
 settings-on s e u (accepted y) = same-settings s e
 
 -- ---- every list
-ageing : (size : ℕ) (es : List Event) (s : State) (h : History) → Aged s h → Sound s → s .settings .size ≡ size → Ageing size h (told s es)
-unfolding Ageing told
+ageing : (size : ℕ) (es : List Event) (s : State) (h : History) → AgeingInvariant s h → Sound s → s .settings .size ≡ size → Ageing size h (answered s es)
+unfolding Ageing answered
 ageing size [] s h v z q = tt
 ageing size (e ∷ es) s h v z q =
     let u = step s e in
     let t = stepped s e in (
-      subst (λ (n : ℕ). Obeys n h (as-told s e u)) q (obeys s h v z e u t),
-      ageing size es (u .after) _ (aged-on s h v z e u t) (step-sound s e z) (ap (λ (c : Settings). c .size) (settings-on s e u t) ∙ q),
+      subst (λ (n : ℕ). Obeys n h (as-answered s e u)) q (obeys s h v z e u t),
+      ageing size es (u .after) _ (ageing-on s h v z e u t) (step-sound s e z) (ap (λ (c : Settings). c .size) (settings-on s e u t) ∙ q),
     )
 
-no-want : (es : List Event) (s : State) (h : History) (o : ℕ → Bool) → Aged s h → Sound s → Stocked s o → StruckWhole (told s es) → NoWant o (told s es)
-unfolding StruckWhole NoWant told
-no-want [] s h o v z w f = tt
-no-want (e ∷ es) s h o v z w f =
+never-refused : (es : List Event) (s : State) (h : History) (o : ℕ → Bool) → AgeingInvariant s h → Sound s → WantInvariant s o → FailuresFindWhole (answered s es) → NeverRefusedForWant o (answered s es)
+unfolding FailuresFindWhole NeverRefusedForWant answered
+never-refused [] s h o v z w f = tt
+never-refused (e ∷ es) s h o v z w f =
     let u = step s e in
     let t = stepped s e in (
       sated s h v z o w e,
-      no-want es (u .after) _ _ (aged-on s h v z e u t) (step-sound s e z) (stocked-on s h v z o w e u t (f .0)) (f .1),
+      never-refused es (u .after) _ _ (ageing-on s h v z e u t) (step-sound s e z) (want-on s h v z o w e u t (f .0)) (f .1),
     )
 
 pub claim : Claim
 claim c y es =
     let z = format-sound c y in
-    let v = format-aged c in
-    (ageing (c .size) es (format c) no-history v z (same-size c), no-want es (format c) no-history (λ g. false) v z (format-stocked c z))
+    let v = format-ageing c in
+    (ageing (c .size) es (format c) no-history v z (same-size c), never-refused es (format c) no-history (λ g. false) v z (format-want c z))
   where
     same-size : (c : Settings) → format c .settings .size ≡ c .size
     same-size c = unfold format in refl

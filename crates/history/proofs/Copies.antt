@@ -8,39 +8,39 @@ use Prim.Native.Nat.{ℕ}
 use Rattle.lists.specs.Columns.{upd}
 use Rattle.lists.proofs.Tests.{by-eq, impossible}
 use Rattle.lists.proofs.Columns.{upd-same, upd-other, upd-all}
-use Rattle.rules.specs.Entries.{Entry, look, insert, drain}
+use Rattle.rules.specs.Entries.{Entry, key-for, insert, drain}
 use Rattle.rules.specs.State.{Bucket}
-use Rattle.rules.specs.Parts.{primary-memory, agree}
-use Rattle.rules.proofs.Entries.{look-insert, drain-from}
-use Rattle.rules.proofs.Parts.{agree-all}
+use Rattle.rules.specs.Derived.{primary-memory, agree}
+use Rattle.rules.proofs.Entries.{key-for-insert, drain-from}
+use Rattle.rules.proofs.Derived.{agree-all}
 
 abbrev pub Role : ℕ → ℕ → ℕ → Bool → ℕ → Type 0
 Role primary last-primary last-backup fetched i = (i ≡ last-primary) ⊎ ((i ≡ last-backup) ⊎ ((fetched ≡ true) × (i ≡ primary)))
 
-pub record Relied (here : ℕ → Bool) (primary last-primary last-backup : ℕ) (fetched : Bool) (i : ℕ) : Type 0 where
-  pub present : here i ≡ true
+pub record Relied (present : ℕ → Bool) (primary last-primary last-backup : ℕ) (fetched : Bool) (i : ℕ) : Type 0 where
+  pub is-present : present i ≡ true
   pub role : Role primary last-primary last-backup fetched i
 
 -- in a new view no primary has fetched; and fetching adds the primary alone
-module _ {here : ℕ → Bool} {last-primary last-backup i : ℕ} where
-  pub relied-anew : (p q : ℕ) (f : Bool) → Relied here p last-primary last-backup false i → Relied here q last-primary last-backup f i
+module _ {present : ℕ → Bool} {last-primary last-backup i : ℕ} where
+  pub relied-anew : (p q : ℕ) (f : Bool) → Relied present p last-primary last-backup false i → Relied present q last-primary last-backup f i
   relied-anew p q f r = record {
-    present = r .present;
+    is-present = r .is-present;
     role = elim (r .role) [ inl e ↦ inl e | inr t ↦ elim t [ inl e ↦ inr (inl e) | inr e ↦ impossible (e .0) ] ];
   }
 
-  pub relied-before : (p : ℕ) (f : Bool) → Relied here p last-primary last-backup true i → (i ≡ p → ⊥) → Relied here p last-primary last-backup f i
+  pub relied-before : (p : ℕ) (f : Bool) → Relied present p last-primary last-backup true i → (i ≡ p → ⊥) → Relied present p last-primary last-backup f i
   relied-before p f r n = record {
-    present = r .present;
+    is-present = r .is-present;
     role = elim (r .role) [ inl e ↦ inl e | inr t ↦ elim t [ inl e ↦ inr (inl e) | inr e ↦ absurd (n (e .1)) ] ];
   }
 
 abbrev pub ReliedOn : (ℕ → Bool) → Bucket → ℕ → Type 0
-ReliedOn here k = Relied here (k .primary) (k .last-primary) (k .last-backup) (k .fetched)
+ReliedOn present k = Relied present (k .primary) (k .last-primary) (k .last-backup) (k .fetched)
 
 -- `P` of what a copy gives each block
 abbrev pub In : (ℕ → ℕ → Type 0) → List Entry → Type 0
-In P l = (b : ℕ) → P b (look l b)
+In P l = (b : ℕ) → P b (key-for l b)
 
 -- and that in memory and on disk, of the bricks that `R` picks
 pub record Copies (P : ℕ → ℕ → Type 0) (R : ℕ → Type 0) (m d : ℕ → List Entry) : Type 0 where
@@ -53,7 +53,7 @@ copies-map P Q f g v = record { memory = λ i r b. f b _ (v .memory i (g i r) b)
 
 module _ (P : ℕ → ℕ → Type 0) where
   pub in-insert : (l : List Entry) (b k : ℕ) → In P l → P b k → In P (insert l b k)
-  in-insert l b k f p c = rw (look-insert l b k c) (upd-all P (look l) b k f p c)
+  in-insert l b k f p c = rw (key-for-insert l b k c) (upd-all P (key-for l) b k f p c)
 
   pub in-drain : (most : ℕ) (l c : List Entry) → In P c → ((e : Entry) → List·Memᴰ e l → P (e .block) (e .key)) → In P (drain most c l)
   in-drain most l c f w b =
@@ -94,9 +94,9 @@ module _ (P : ℕ → ℕ → Type 0) where
     }
 
   -- the copies of a pair that has just become ready
-  pub copies-ready : (here : ℕ → Bool) (p c : ℕ) (f : Bool) (m d : ℕ → List Entry) (l drained saved : List Entry) → (c ≡ p → ⊥)
-      → In P l → In P drained → In P saved → Copies P (Relied here p p c f) (upd (upd m c l) p drained) (upd (upd d c l) p saved)
-  copies-ready here p c f m d l drained saved apart at-backup in-memory on-disk = record {
+  pub copies-ready : (present : ℕ → Bool) (p c : ℕ) (f : Bool) (m d : ℕ → List Entry) (l drained saved : List Entry) → (c ≡ p → ⊥)
+      → In P l → In P drained → In P saved → Copies P (Relied present p p c f) (upd (upd m c l) p drained) (upd (upd d c l) p saved)
+  copies-ready present p c f m d l drained saved apart at-backup in-memory on-disk = record {
     memory = λ i r. at m drained in-memory i (r .role);
     disk = λ i r. at d saved on-disk i (r .role);
   }
@@ -115,24 +115,24 @@ abbrev pub Same : Bucket → Type 0
 Same k = SamePair (k .primary) (k .backup) (k .last-primary) (k .last-backup)
 
 module _ (k : Bucket) (same : Same k) where
-  pub primary-relied : {here : ℕ → Bool} → here (k .primary) ≡ true → ReliedOn here k (k .primary)
-  primary-relied y = record { present = y; role = inl (same .one) }
+  pub primary-relied : {present : ℕ → Bool} → present (k .primary) ≡ true → ReliedOn present k (k .primary)
+  primary-relied y = record { is-present = y; role = inl (same .one) }
 
-  pub backup-relied : {here : ℕ → Bool} → here (k .backup) ≡ true → ReliedOn here k (k .backup)
-  backup-relied y = record { present = y; role = inr (inl (same .two)) }
+  pub backup-relied : {present : ℕ → Bool} → present (k .backup) ≡ true → ReliedOn present k (k .backup)
+  backup-relied y = record { is-present = y; role = inr (inl (same .two)) }
 
-  of-pair : {here : ℕ → Bool} {i : ℕ} → ReliedOn here k i → (i ≡ k .primary) ⊎ (i ≡ k .backup)
+  of-pair : {present : ℕ → Bool} {i : ℕ} → ReliedOn present k i → (i ≡ k .primary) ⊎ (i ≡ k .backup)
   of-pair r = elim (r .role) [ inl e ↦ inl (e ∙ sym (same .one)) | inr t ↦ elim t [ inl e ↦ inr (e ∙ sym (same .two)) | inr e ↦ inl (e .1) ] ]
 
   -- where the four agree on a block, every copy relied on gives the primary's key
   agreed : (b i : ℕ) → agree k b ≡ true → (i ≡ k .primary) ⊎ (i ≡ k .backup)
-      → (look (k .memory i) b ≡ look (primary-memory k) b) × (look (k .disk i) b ≡ look (primary-memory k) b)
+      → (key-for (k .memory i) b ≡ key-for (primary-memory k) b) × (key-for (k .disk i) b ≡ key-for (primary-memory k) b)
   agreed b i y (inl e) = (rw e refl, rw e (agree-all k b y .0))
   agreed b i y (inr e) = (rw e (agree-all k b y .1), rw e (agree-all k b y .2))
 
   -- so what is asked may change by the primary's key where the four agree
-  pub copies-agreed : (P Q : ℕ → ℕ → Type 0) {here : ℕ → Bool} → ((b j : ℕ) → (agree k b ≡ true → j ≡ look (primary-memory k) b) → P b j → Q b j)
-      → Copies P (ReliedOn here k) (k .memory) (k .disk) → Copies Q (ReliedOn here k) (k .memory) (k .disk)
+  pub copies-agreed : (P Q : ℕ → ℕ → Type 0) {present : ℕ → Bool} → ((b j : ℕ) → (agree k b ≡ true → j ≡ key-for (primary-memory k) b) → P b j → Q b j)
+      → Copies P (ReliedOn present k) (k .memory) (k .disk) → Copies Q (ReliedOn present k) (k .memory) (k .disk)
   copies-agreed P Q f v = record {
     memory = λ i r b. f b _ (λ y. agreed b i y (of-pair r) .0) (v .memory i r b);
     disk = λ i r b. f b _ (λ y. agreed b i y (of-pair r) .1) (v .disk i r b);

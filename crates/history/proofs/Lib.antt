@@ -3,9 +3,9 @@ pub mod History
 pub mod Copies
 pub mod Mend
 pub mod Facts
-pub mod Invariant
+pub mod AgeingInvariant
 pub mod Ageing
-pub mod Wanting
+pub mod WantInvariant
 pub mod Want
 pub mod Claim
 pub mod Witness

@@ -10,21 +10,21 @@ use Rattle.lists.proofs.Tests.{either, and-r}
 use Rattle.rules.specs.Limits.{buckets}
 use Rattle.rules.specs.Numbers.{home-of}
 use Rattle.rules.specs.Entries.{Entry}
-use Rattle.rules.specs.Chunks.{Chunk, chunk, held, bytes-in, append, save-key}
+use Rattle.rules.specs.Chunks.{Chunk, new-chunk, held, bytes-in, append, save-key}
 use Rattle.rules.specs.State.{State}
-use Rattle.rules.specs.Parts.{circle, holder, primary-memory}
+use Rattle.rules.specs.Derived.{members-from, holder, primary-memory}
 use Rattle.rules.specs.Upkeep.{of-first-two, mend-key, mend-keys, mend-buckets, mended}
-use Rattle.rules.proofs.Parts.{seek-held}
+use Rattle.rules.proofs.Derived.{first-holder-held}
 
 -- a property of logs that saving a key keeps, and one more chunk that is held elsewhere, holds of a mended log
 module _ (s : State) (x : ℕ) (P : List Chunk → Type 0) (saves : (l : List Chunk) (k : ℕ) → P l → P (save-key l k))
     (adds : (l : List Chunk) (k : ℕ) → held l k ≡ false → held (s .bricks .log (holder s k)) k ≡ true → P l
-    → P (append l (chunk k true (bytes-in (s .bricks .log (holder s k)) k)))) where
+    → P (append l (new-chunk k true (bytes-in (s .bricks .log (holder s k)) k)))) where
   key-keeps : (l : List Chunk) (k : ℕ) → P l → P (mend-key s x l k)
   unfolding mend-key holder
   key-keeps l k o =
-      either P (of-first-two x (circle s (home-of k)) and ltb 0 (holder s k))
-      (λ q. either P (held l k) (λ _. saves l k o) (λ n. adds l k n (seek-held (s .bricks) k _ (ltb-true _ _ (and-r _ _ q))) o)) (λ _. o)
+      either P (of-first-two x (members-from s (home-of k)) and ltb 0 (holder s k))
+      (λ q. either P (held l k) (λ _. saves l k o) (λ n. adds l k n (first-holder-held (s .bricks) k _ (ltb-true _ _ (and-r _ _ q))) o)) (λ _. o)
 
   keys-keep : (es : List Entry) (l : List Chunk) → P l → P (mend-keys s x l es)
   unfolding mend-keys

@@ -2,7 +2,7 @@ pub mod Writes
 pub mod Maps
 pub mod Relays
 pub mod Reads
-pub mod Calm
+pub mod NothingPending
 pub mod Membership
 pub mod Views
 pub mod Upkeep

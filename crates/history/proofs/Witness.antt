@@ -11,36 +11,36 @@ use Rattle.lists.proofs.Tests.{both, and-l, and-r, or-l, or-r, if-so}
 use Rattle.rules.specs.declared.settings.Settings.{Settings}
 use Rattle.rules.specs.Limits.{in-limits}
 use Rattle.rules.specs.Numbers.{key-of}
-use Rattle.rules.specs.Event.{Event, parts-of}
+use Rattle.rules.specs.Event.{Event, event-fields}
 use Rattle.rules.specs.Format.{format}
 use Rattle.rules.specs.Examples.{last-of, a1}
 use Rattle.rules.proofs.Examples.{rules-open}
-use Rattle.history.specs.Claim.{Told, told, Strikes, StruckWhole, NoWant}
+use Rattle.history.specs.Claim.{Answered, answered, IsCrashOrLose, FailuresFindWhole, NeverRefusedForWant}
 use Rattle.history.proofs.Claim.{claim}
 
 -- ---- the premise as a test: a crash is of kind 14, a loss of kind 15
 abbrev kind : Event → ℕ
-kind e = parts-of e .kind
+kind e = event-fields e .kind
 
-abbrev is-strike : Told → Bool
+abbrev is-strike : Answered → Bool
 is-strike t = (eqb (kind (t .event)) 14 or eqb (kind (t .event)) 15) and eqb (t .code) 0
 
-unfoldable struck-whole : List Told → Bool
-struck-whole ts = every (λ t. not (is-strike t) or t .found-whole) ts
+unfoldable failure-found-whole : List Answered → Bool
+failure-found-whole ts = every (λ t. not (is-strike t) or t .found-whole) ts
 
-strike-kind : (e : Event) → Strikes e → (eqb (kind e) 14 or eqb (kind e) 15) ≡ true
-unfolding parts-of
+strike-kind : (e : Event) → IsCrashOrLose e → (eqb (kind e) 14 or eqb (kind e) 15) ≡ true
+unfolding event-fields
 strike-kind e (i, inl q) = rw q (or-l true _ refl)
 strike-kind e (i, inr q) = rw q (or-r _ true refl)
 
-is-struck-whole : (ts : List Told) → struck-whole ts ≡ true → StruckWhole ts
-unfolding struck-whole every StruckWhole
-is-struck-whole [] y = tt
-is-struck-whole (t ∷ ts) y = (λ e n. if-so _ _ (and-l _ _ y) (both _ _ (strike-kind (t .event) e) (eq-eqb (t .code) 0 n)), is-struck-whole ts (and-r _ _ y))
+is-failure-found-whole : (ts : List Answered) → failure-found-whole ts ≡ true → FailuresFindWhole ts
+unfolding failure-found-whole every FailuresFindWhole
+is-failure-found-whole [] y = tt
+is-failure-found-whole (t ∷ ts) y = (λ e n. if-so _ _ (and-l _ _ y) (both _ _ (strike-kind (t .event) e) (eq-eqb (t .code) 0 n)), is-failure-found-whole ts (and-r _ _ y))
 
 -- the kinds of the accepted strikes
-abbrev strikes : List Told → List ℕ
-strikes ts = map (λ (t : Told). kind (t .event)) (only is-strike ts)
+abbrev strikes : List Answered → List ℕ
+strikes ts = map (λ (t : Answered). kind (t .event)) (only is-strike ts)
 
 -- ---- a life: a write confirmed, its primary crashed and risen, shown again after a view, fetches, readies and mends; then the other brick of the pair
 -- is lost for good and another joins
@@ -82,32 +82,32 @@ unfolding rules-open last-of same-numbers a1
 read-after-loss = refl
 
 -- a crash and a loss are accepted in it
-pub two-strikes : strikes (told (format small) lost) ≡ (14 ∷ 15 ∷ [])
-unfolding rules-open told parts-of a1
-two-strikes = refl
+pub two-failures : strikes (answered (format small) lost) ≡ (14 ∷ 15 ∷ [])
+unfolding rules-open answered event-fields a1
+two-failures = refl
 
 -- and each finds a whole store: so there is no want in it
-pub premise-met : StruckWhole (told (format small) lost)
-premise-met = is-struck-whole (told (format small) lost) computed
+pub premise-met : FailuresFindWhole (answered (format small) lost)
+premise-met = is-failure-found-whole (answered (format small) lost) computed
   where
-    computed : struck-whole (told (format small) lost) ≡ true
-    computed = unfold rules-open told parts-of struck-whole a1 in refl
+    computed : failure-found-whole (answered (format small) lost) ≡ true
+    computed = unfold rules-open answered event-fields failure-found-whole a1 in refl
 
-pub no-want-in-it : NoWant (λ g. false) (told (format small) lost)
-no-want-in-it = claim small computed lost .1 premise-met
+pub never-refused-in-it : NeverRefusedForWant (λ g. false) (answered (format small) lost)
+never-refused-in-it = claim small computed lost .1 premise-met
   where
     computed : in-limits small ≡ true
     computed = unfold rules-open in refl
 
 -- ---- without the premise there is want
 -- the one brick that has the chunk is lost
-pub bytes-wanting : gives small (Event.learn 0 ∷ Event.put 0 2 5 a1 ∷ Event.savelog 2 ∷ Event.map 0 5 ∷ Event.send 5 ∷ Event.deliver 0
+pub bytes-refused : gives small (Event.learn 0 ∷ Event.put 0 2 5 a1 ∷ Event.savelog 2 ∷ Event.map 0 5 ∷ Event.send 5 ∷ Event.deliver 0
     ∷ Event.savemap 0 ∷ Event.savemap 1 ∷ Event.lose 2 ∷ Event.get 0 5 ∷ []) (11 ∷ 0 ∷ [])
 unfolding rules-open last-of same-numbers a1
-bytes-wanting = refl
+bytes-refused = refl
 
 -- both bricks of a pair are lost, one after the other
-pub source-wanting : gives (record { places = 4; size = 8; entries = 2; chunks = 4 })
+pub source-refused : gives (record { places = 4; size = 8; entries = 2; chunks = 4 })
     (Event.lose 0 ∷ Event.view ∷ Event.lose 1 ∷ Event.view ∷ Event.fetch 0 ∷ []) (13 ∷ 0 ∷ [])
 unfolding rules-open last-of same-numbers
-source-wanting = refl
+source-refused = refl

@@ -18,16 +18,16 @@ use Rattle.rules.specs.Step.{Answer, step}
 use Rattle.rules.specs.Whole.{whole}
 
 -- ---- the list: each event with its code and answer, as the step gives them from the store that the events before left
-pub record Told : Type 0 where
+pub record Answered : Type 0 where
   pub event : Event
   pub code : ℕ
   pub said : Answer
   -- whether it found a whole store
   pub found-whole : Bool
 
-unfoldable pub told : State → List Event → List Told
-told s [] = []
-told s (e ∷ es) = let o = step s e in record { event = e; code = o .code; said = o .said; found-whole = whole s } ∷ told (o .after) es
+unfoldable pub answered : State → List Event → List Answered
+answered s [] = []
+answered s (e ∷ es) = let o = step s e in record { event = e; code = o .code; said = o .said; found-whole = whole s } ∷ answered (o .after) es
 
 -- ---- history: for each block it has its writes, numbered from 1 (the newest first in the list), and a mark, first 0
 pub record Write : Type 0 where
@@ -86,18 +86,18 @@ meaning Event.unknown = nothing
 
 -- a put adds its answered key and its data as the next write; a done confirms the block's last write: the mark becomes its number; a get shows the write
 -- whose key it answers: the mark becomes its number, or 0 for key 0
-abbrev pub hears : History → Meaning → Answer → History
-hears h (writes b d) a = record { writes = upd (h .writes) b (record { key = a .key; bytes = d } ∷ h .writes b); mark = h .mark }
-hears h (confirms b) a = record { writes = h .writes; mark = upd (h .mark) b (length (h .writes b)) }
-hears h (shows b) a = record { writes = h .writes; mark = upd (h .mark) b (cond (eqb (a .key) 0) 0 (number (h .writes b) (a .key))) }
-hears h views a = h
-hears h (readies g) a = h
-hears h nothing a = h
+abbrev pub record-event : History → Meaning → Answer → History
+record-event h (writes b d) a = record { writes = upd (h .writes) b (record { key = a .key; bytes = d } ∷ h .writes b); mark = h .mark }
+record-event h (confirms b) a = record { writes = h .writes; mark = upd (h .mark) b (length (h .writes b)) }
+record-event h (shows b) a = record { writes = h .writes; mark = upd (h .mark) b (cond (eqb (a .key) 0) 0 (number (h .writes b) (a .key))) }
+record-event h views a = h
+record-event h (readies g) a = h
+record-event h nothing a = h
 
 -- accepted means code 0; refused ones change nothing
-abbrev pub hear : History → Event → ℕ → Answer → History
-hear h e zero a = hears h (meaning e) a
-hear h e (suc c) a = h
+abbrev pub after-answer : History → Event → ℕ → Answer → History
+after-answer h e zero a = record-event h (meaning e) a
+after-answer h e (suc c) a = h
 
 -- ---- the ageing rule
 -- key 0 and zeros where the mark is 0, or the key and bytes of one write of its block whose number is at least the mark
@@ -105,50 +105,50 @@ abbrev pub Shown : ℕ → List Write → ℕ → Answer → Type 0
 Shown size w mark a =
     ((a .key ≡ 0) × (a .bytes ≡ zeros size) × (mark ≡ 0)) ⊎ ((0 < number w (a .key)) × (a .bytes ≡ written w (a .key)) × (mark ≤ number w (a .key)))
 
-pub record Obeys (size : ℕ) (h : History) (t : Told) : Type 0 where
+pub record Obeys (size : ℕ) (h : History) (t : Answered) : Type 0 where
   -- no two accepted puts answer one key: the new one is no earlier write's, of any block
-  pub fresh : (p i b : ℕ) (d : List ℕ) → t .event ≡ Event.put p i b d → t .code ≡ 0 → (c : ℕ) → number (h .writes c) (t .said .key) ≡ 0
+  pub key-unused : (p i b : ℕ) (d : List ℕ) → t .event ≡ Event.put p i b d → t .code ≡ 0 → (c : ℕ) → number (h .writes c) (t .said .key) ≡ 0
   -- what an accepted get answers, by the block's mark just before it
   pub shown : (p b : ℕ) → t .event ≡ Event.get p b → t .code ≡ 0 → Shown size (h .writes b) (h .mark b) (t .said)
 
-unfoldable pub Ageing : ℕ → History → List Told → Type 0
+unfoldable pub Ageing : ℕ → History → List Answered → Type 0
 Ageing size h [] = Unit {0}
-Ageing size h (t ∷ ts) = Obeys size h t × Ageing size (hear h (t .event) (t .code) (t .said)) ts
+Ageing size h (t ∷ ts) = Obeys size h t × Ageing size (after-answer h (t .event) (t .code) (t .said)) ts
 
 -- ---- for want
 -- accepted crash and lose events each find a whole store
-abbrev pub Strikes : Event → Type 0
-Strikes e = (i : ℕ) × ((e ≡ Event.crash i) ⊎ (e ≡ Event.lose i))
+abbrev pub IsCrashOrLose : Event → Type 0
+IsCrashOrLose e = (i : ℕ) × ((e ≡ Event.crash i) ⊎ (e ≡ Event.lose i))
 
-unfoldable pub StruckWhole : List Told → Type 0
-StruckWhole [] = Unit {0}
-StruckWhole (t ∷ ts) = (Strikes (t .event) → t .code ≡ 0 → t .found-whole ≡ true) × StruckWhole ts
+unfoldable pub FailuresFindWhole : List Answered → Type 0
+FailuresFindWhole [] = Unit {0}
+FailuresFindWhole (t ∷ ts) = (IsCrashOrLose (t .event) → t .code ≡ 0 → t .found-whole ≡ true) × FailuresFindWhole ts
 
 -- the buckets of which a view was accepted and no ready has been accepted since
-abbrev pub opens : (ℕ → Bool) → Meaning → (ℕ → Bool)
-opens o (writes b d) = o
-opens o (confirms b) = o
-opens o (shows b) = o
-opens o views = λ g. true
-opens o (readies g) = upd o g false
-opens o nothing = o
+abbrev pub awaiting-by : (ℕ → Bool) → Meaning → (ℕ → Bool)
+awaiting-by o (writes b d) = o
+awaiting-by o (confirms b) = o
+awaiting-by o (shows b) = o
+awaiting-by o views = λ g. true
+awaiting-by o (readies g) = upd o g false
+awaiting-by o nothing = o
 
-abbrev pub open-after : (ℕ → Bool) → Event → ℕ → (ℕ → Bool)
-open-after o e zero = opens o (meaning e)
-open-after o e (suc c) = o
+abbrev pub awaiting-ready : (ℕ → Bool) → Event → ℕ → (ℕ → Bool)
+awaiting-ready o e zero = awaiting-by o (meaning e)
+awaiting-ready o e (suc c) = o
 
-pub record Sated (o : ℕ → Bool) (t : Told) : Type 0 where
+pub record NotRefusedForWant (o : ℕ → Bool) (t : Answered) : Type 0 where
   -- no get answers 11
   pub bytes : (p b : ℕ) → t .event ≡ Event.get p b → t .code ≡ 11 → ⊥
   -- no fetch answers 13 where a view was accepted and no ready of its bucket has been accepted since
   pub source : (g : ℕ) → t .event ≡ Event.fetch g → o g ≡ true → t .code ≡ 13 → ⊥
 
-unfoldable pub NoWant : (ℕ → Bool) → List Told → Type 0
-NoWant o [] = Unit {0}
-NoWant o (t ∷ ts) = Sated o t × NoWant (open-after o (t .event) (t .code)) ts
+unfoldable pub NeverRefusedForWant : (ℕ → Bool) → List Answered → Type 0
+NeverRefusedForWant o [] = Unit {0}
+NeverRefusedForWant o (t ∷ ts) = NotRefusedForWant o t × NeverRefusedForWant (awaiting-ready o (t .event) (t .code)) ts
 
 -- ---- the claim: format with any settings that question 1 passes, then take any list of events, all kinds, any order, refused ones included
 abbrev pub Claim : Type 0
 Claim = (c : Settings) → in-limits c ≡ true → (es : List Event) →
-    let ts = told (format c) es in
-    Ageing (c .size) no-history ts × (StruckWhole ts → NoWant (λ g. false) ts)
+    let ts = answered (format c) es in
+    Ageing (c .size) no-history ts × (FailuresFindWhole ts → NeverRefusedForWant (λ g. false) ts)

@@ -12,8 +12,8 @@ use Rattle.lists.proofs.Tests.{clash, and-l, and-r, both, in-only}
 use Rattle.words.specs.Words.{words}
 use Rattle.rules.specs.declared.settings.Settings.{Settings}
 use Rattle.rules.specs.Chunks.{saved-in}
-use Rattle.rules.specs.Parts.{members, saved-at}
-use Rattle.rules.proofs.Parts.{in-ids, ids-in, saved-at-in}
+use Rattle.rules.specs.Derived.{members, saved-at}
+use Rattle.rules.proofs.Derived.{in-ids, ids-in, saved-at-in}
 use Rattle.layout.specs.Store.{decode}
 use Rattle.lent.specs.Stores.{StoreOf}
 use Rattle.lent.proofs.Stores.{settings-are, facts}
@@ -30,7 +30,7 @@ no-element (x ∷ l) h = absurd (h x (List·Memᴰ·head refl))
 module _ (c : Settings) (bs : List ℕ) (v : StoreOf c bs) where
   -- a place that has a member is not empty
   pub member-some : (p : ℕ) → decode (words bs) .bricks .member (decode (words bs) .ids p) ≡ true → 0 < decode (words bs) .ids p
-  member-some p y = let b = facts c bs v .bricks in b .first _ (b .up-here _ (b .member-up _ y))
+  member-some p y = let b = facts c bs v .bricks in b .first _ (b .up-present _ (b .member-up _ y))
 
   module _ (k : ℕ) where
     pub saved-yes : (p : ℕ) → member-saved (decode (words bs)) k p ≡ true → ltb 0 (length (saved-at (decode (words bs)) k)) ≡ true
@@ -49,5 +49,5 @@ module _ (c : Settings) (bs : List ℕ) (v : StoreOf c bs) where
         elsewhere i m =
             let b = facts c bs v .bricks in
             let y = ids-in (decode (words bs) .given) (decode (words bs) .bricks .member) i (m .0) .2 in
-            let t = b .somewhere i (b .up-here i (b .member-up i y)) in
+            let t = b .somewhere i (b .up-present i (b .member-up i y)) in
             clash (h (t .0) (omega (arith, t .1, ap (λ (x : Settings). x .places) (settings-are c bs v)))) (both _ _ (rw (t .2) y) (rw (t .2) (m .1)))

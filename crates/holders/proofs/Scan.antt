@@ -55,7 +55,7 @@ module _ (c : Settings) (bs : List ℕ) (v : StoreOf c bs) (from to least at : �
   standing : (i : ℕ) → decode (words bs) .bricks .member i ≡ true → (q : ℕ) × (q < c .places) × (decode (words bs) .ids q ≡ i)
   standing i y =
       let b = facts c bs v .bricks in
-      let t = b .somewhere i (b .up-here i (b .member-up i y)) in
+      let t = b .somewhere i (b .up-present i (b .member-up i y)) in
       (t .0, omega (arith, t .1, ap (λ (x : Settings). x .places) (settings-are c bs v)), t .2)
 
   pub scan-none : c .places ≤ at → between (decode (words bs)) from to ≡ []
@@ -68,7 +68,7 @@ module _ (c : Settings) (bs : List ℕ) (v : StoreOf c bs) (from to least at : �
       let o = h .lowest .found (f .1) in
       let b = facts c bs v .bricks in
       let member : decode (words bs) .bricks .member (decode (words bs) .ids at) ≡ true = rw (f .0) (o .0) in
-      let some : 0 < decode (words bs) .ids at = b .first (decode (words bs) .ids at) (b .up-here _ (b .member-up _ member)) in
+      let some : 0 < decode (words bs) .ids at = b .first (decode (words bs) .ids at) (b .up-present _ (b .member-up _ member)) in
       record {
         inside = l;
         some = some;

@@ -9,13 +9,13 @@ use Rattle.rules.specs.declared.settings.Settings.{Settings}
 use Rattle.rules.specs.Limits.{max-id}
 use Rattle.rules.specs.Chunks.{saved-in}
 use Rattle.rules.specs.State.{State}
-use Rattle.rules.specs.Parts.{members}
+use Rattle.rules.specs.Derived.{members}
 use Rattle.lent.specs.declared.brick.Found.{Found}
 use Rattle.lent.specs.declared.brick.Found.the-variants.{At, Nowhere}
 use Rattle.lent.specs.Places.{Stands}
 use Rattle.log.specs.Answers.{FoundAt}
-use Rattle.holders.specs.declared.Lies.{Lies}
-use Rattle.holders.specs.declared.Lies.the-variants as lies
+use Rattle.holders.specs.declared.Location.{Location}
+use Rattle.holders.specs.declared.Location.the-variants as lies
 
 -- ids are below this
 abbrev pub ids : ℕ
@@ -52,7 +52,7 @@ pub record LiesAt (settings : Settings) (s : State) (id key place row : ℕ) : T
   pub stands : Stands settings s id place
   pub found : FoundAt (s .bricks .log id) key row
 
-abbrev pub LiesWith : Settings → State → ℕ → ℕ → Lies → Type 0
+abbrev pub LiesWith : Settings → State → ℕ → ℕ → Location → Type 0
 LiesWith settings s id key (lies.At place row) = LiesAt settings s id key place row
 LiesWith settings s id key (lies.Nowhere) = id ≡ 0
 

@@ -6,7 +6,7 @@ ghost use lib.ListN.{length};
 ghost use Rattle.words.specs.Words.{words};
 ghost use Rattle.rules.specs.Numbers.{home-of};
 ghost use Rattle.rules.specs.Chunks.{held, saved-in};
-ghost use Rattle.rules.specs.Parts.{circle, seek, holder, saved-at};
+ghost use Rattle.rules.specs.Derived.{members-from, first-holder, holder, saved-at};
 ghost use Rattle.rules.specs.Upkeep.{of-first-two};
 ghost use Rattle.rules.specs.Writes.{target};
 ghost use Rattle.layout.specs.Store.{decode};
@@ -59,7 +59,7 @@ pub fn next_member(store: &[u8], settings: Settings, from: u64, to: u64) -> Foun
 // ---- chunks
 
 // Where a chunk lies: the place of a brick that holds it, and the row of its log.
-pub enum Lies {
+pub enum Location {
     At(usize, usize),
     Nowhere,
 }
@@ -114,33 +114,33 @@ pub fn chunk<'a>(store: &'a [u8], settings: Settings, place: usize, row: usize) 
 }
 
 // Where the chunk lies with the first member between two ids that holds it.
-fn seek(store: &[u8], settings: Settings, key: ChunkKey, from: u64, to: u64) -> Lies
+fn first_holder(store: &[u8], settings: Settings, key: ChunkKey, from: u64, to: u64) -> Location
     requires { ⌜ StoreOf settings (now store) ⌝ }
     ensures { λ r. ⌜ LiesWith settings (decode (words (now (store .entry))))
-        (seek (decode (words (now (store .entry))) .bricks) (key .0) (between (decode (words (now (store .entry)))) from to)) (key .0) r ⌝ }
+        (first-holder (decode (words (now (store .entry))) .bricks) (key .0) (between (decode (words (now (store .entry)))) from to)) (key .0) r ⌝ }
 {
     let mut low = from;
     while low < to {
         let Found::At(place) = next_member(store, settings, low, to) else {
-            return Lies::Nowhere;
+            return Location::Nowhere;
         };
         if let log::Found::At(row) = find_at(store, settings, place, key) {
-            return Lies::At(place, row);
+            return Location::At(place, row);
         }
         low = place::id(store, settings, place) + 1;
     }
-    Lies::Nowhere
+    Location::Nowhere
 }
 
 // Where the chunk is found: sought from the home id upward, circularly, among members.
-pub fn holder(store: &[u8], settings: Settings, key: ChunkKey) -> Lies
+pub fn holder(store: &[u8], settings: Settings, key: ChunkKey) -> Location
     requires { ⌜ StoreOf settings (now store) ⌝ }
     ensures { λ r. ⌜ LiesWith settings (decode (words (now (store .entry)))) (holder (decode (words (now (store .entry)))) (key .0)) (key .0) r ⌝ }
 {
     let home = key.home();
-    match seek(store, settings, key, home, IDS) {
-        Lies::At(place, row) => Lies::At(place, row),
-        Lies::Nowhere => seek(store, settings, key, 0, home),
+    match first_holder(store, settings, key, home, IDS) {
+        Location::At(place, row) => Location::At(place, row),
+        Location::Nowhere => first_holder(store, settings, key, 0, home),
     }
 }
 
@@ -226,7 +226,7 @@ fn of_two(store: &[u8], settings: Settings, id: u64, from: u64, to: u64) -> bool
 // Is a brick one of the first two members from the key's home id upward, circularly?
 pub fn of_first_two(store: &[u8], settings: Settings, id: u64, key: ChunkKey) -> bool
     requires { ⌜ StoreOf settings (now store) ⌝ }
-    ensures { λ r. ⌜ r ≡ of-first-two id (circle (decode (words (now (store .entry)))) (home-of (key .0))) ⌝ }
+    ensures { λ r. ⌜ r ≡ of-first-two id (members-from (decode (words (now (store .entry)))) (home-of (key .0))) ⌝ }
 {
     let home = key.home();
     match next_member(store, settings, home, IDS) {

@@ -4,7 +4,8 @@ use native.Mathlib.Nat.{mul-le-mul}
 use native.Mathlib.Omega.{arith}
 use Rattle.rules.specs.declared.settings.Settings.{Settings}
 use Rattle.rules.specs.Limits.{buckets}
-use Rattle.rules.proofs.Limits.{Limits, few-buckets}
+use Rattle.rules.specs.Limits.{Limits}
+use Rattle.rules.proofs.Limits.{few-buckets}
 use Rattle.layout.specs.Layout.{copies-words, place-words, store-words}
 
 module _ (c : Settings) (l : Limits c) where

@@ -13,7 +13,7 @@ use Rattle.rules.specs.declared.settings.Settings.{Settings}
 use Rattle.rules.specs.Numbers.{is-data}
 use Rattle.rules.specs.Chunks.{Chunk}
 use Rattle.rules.specs.Sound.{sound-chunk, sound-log, sound}
-use Rattle.rules.proofs.Limits.{Limits}
+use Rattle.rules.specs.Limits.{Limits}
 use Rattle.log.specs.Log.{good-log}
 use Rattle.log.proofs.Check.{is-log}
 use Rattle.log.proofs.Codec.{dec-length, log-clean, good-of-clean, dec-apart, dec-data}

@@ -11,11 +11,11 @@ use Rattle.rules.specs.declared.settings.Settings.{Settings}
 use Rattle.rules.specs.Limits.{proxies, buckets, max-relays, max-items, max-waiting}
 use Rattle.codec.specs.Codec.{Codec, Clean, word, _then_, many}
 use Rattle.codec.proofs.Focus.{_through_, clean-part}
-use Rattle.codec.proofs.Round.{CleanIf, Any, clean-word, clean-flag, clean-fixed, clean-via, clean-two, flag-part, fixed-part, clean-many, clean-table, clean-slot}
-use Rattle.layout.specs.Disk.{blank-agreed, blank-proxy, blank-copies, blank-brick, blank-place}
-use Rattle.layout.specs.Disk.{settings-reading, head-reading, agreed-reading, proxy-reading, status-reading, copies-reading, brick-reading, disk-reading}
+use Rattle.codec.proofs.Round.{CleanIf, Any, clean-word, clean-flag, clean-fixed, clean-via, clean-two, flag-part, fixed-part, clean-many, clean-table, clean-if-present}
+use Rattle.layout.specs.Contents.{blank-agreed, blank-proxy, blank-copies, blank-brick, blank-place}
+use Rattle.layout.specs.Contents.{settings-reading, head-reading, agreed-reading, proxy-reading, status-reading, copies-reading, brick-reading, contents-reading}
 use Rattle.layout.specs.Layout.{layout-version, head-codec, agreed-codec, proxy-codec, bag-codec, status-codec, buffer-codec, copies-codec}
-use Rattle.layout.specs.Layout.{all-copies-codec, log-codec, place-codec, all-agreed-codec, all-proxies-codec, disk-codec}
+use Rattle.layout.specs.Layout.{all-copies-codec, log-codec, place-codec, all-agreed-codec, all-proxies-codec, store-codec}
 use Rattle.layout.specs.Layout.{head-words, agreed-words, log-words, place-words, store-words, agreed-at, proxies-at, bag-at, places-at, place-at}
 use Rattle.layout.specs.Layout.{agreed-part, place-part, version-at, ready-at, fetched-at, up-at, member-at, began-at, log-at}
 use Rattle.layout.proofs.Codecs.{entry-exact, relay-exact}
@@ -101,7 +101,7 @@ module _ (c : Settings) (w : List ℕ) (h : length w ≡ place-words c) where
 
   pub place-clean : (0 < getD w 0 0 → PlaceClean c w) → Clean (place-codec c) w
   place-clean k =
-      clean-slot blank-brick
+      clean-if-present blank-brick
       (clean-via brick-reading (λ t. refl)
       (clean-two (clean-via status-reading (λ t. refl) (clean-two clean-flag (clean-two clean-flag (clean-two clean-flag words-two))))
       (clean-two (clean-table entry-exact max-waiting) (clean-two (any-many (buckets c) blank-copies (copies-any c)) (log-if c))))) .clean w h
@@ -138,7 +138,7 @@ module _ (c : Settings) (ws : List ℕ) (h : length ws ≡ store-words c) where
   place-long : (p : ℕ) → p < c .places → length (place-part c p ws) ≡ place-words c
   place-long p l = run-length (place-at c p) (place-words c) ws (omega (arith, fits-in (place-words c) l))
 
-  pub clean-parts : Clean (disk-codec c) ws → CleanParts c ws
+  pub clean-parts : Clean (store-codec c) ws → CleanParts c ws
   clean-parts k = record {
     version = fixed-part (head-in c through version-in) ws h (refl, refl) k;
     agreed = λ g l. clean-agreed _ (agreed-long g l) (clean-part (agreed-focus c g l) ws h ((refl, refl), λ j m z. refl) k);
@@ -148,9 +148,9 @@ module _ (c : Settings) (ws : List ℕ) (h : length ws ≡ store-words c) where
   from-places : drop (bag-codec .size) (drop (all-proxies-codec .size) (drop (all-agreed-codec c .size) (drop (head-codec .size) ws))) ≡ drop (places-at c) ws
   from-places = rw (drop-drop (all-agreed-codec c .size) 8 ws, drop-drop 264 (proxies-at c) ws, drop-drop 321 (bag-at c) ws)
 
-  pub parts-clean : CleanParts c ws → Clean (disk-codec c) ws
+  pub parts-clean : CleanParts c ws → Clean (store-codec c) ws
   parts-clean k =
-      clean-via disk-reading (λ t. refl)
+      clean-via contents-reading (λ t. refl)
       (clean-two head-if
       (clean-two (clean-many (buckets c) blank-agreed agreed-if)
       (clean-two (any-many proxies blank-proxy proxy-any)

@@ -7,13 +7,13 @@ use lib.ListN.{length}
 use Rattle.rules.specs.declared.settings.Settings.{Settings}
 use Rattle.rules.specs.Limits.{proxies, buckets, max-relays, max-items, max-waiting}
 use Rattle.log.proofs.Codec.{log-keeps, log-idem}
-use Rattle.codec.proofs.Laws.{Lawful, Exact, word-law, flag-law, fixed-law, via-law, then-law, many-law, table-law, slot-law}
+use Rattle.codec.proofs.Laws.{Lawful, Exact, word-law, flag-law, fixed-law, via-law, then-law, many-law, table-law, if-present-law}
 use Rattle.layout.specs.Layout.{layout-version, settings-codec, head-codec, agreed-codec, items-codec, proxy-codec, bag-codec}
 use Rattle.layout.specs.Layout.{status-codec, buffer-codec, copy-codec, copies-codec, all-copies-codec, log-codec, brick-codec, place-codec}
-use Rattle.layout.specs.Layout.{all-agreed-codec, all-proxies-codec, all-places-codec, disk-codec}
-use Rattle.layout.specs.Disk.{blank-agreed, blank-proxy, blank-copies, blank-brick, blank-place}
-use Rattle.layout.specs.Disk.{entry-row, relay-row, settings-reading, head-reading, agreed-reading, proxy-reading, status-reading}
-use Rattle.layout.specs.Disk.{copies-reading, brick-reading, disk-reading}
+use Rattle.layout.specs.Layout.{all-agreed-codec, all-proxies-codec, all-places-codec, store-codec}
+use Rattle.layout.specs.Contents.{blank-agreed, blank-proxy, blank-copies, blank-brick, blank-place}
+use Rattle.layout.specs.Contents.{entry-row, relay-row, settings-reading, head-reading, agreed-reading, proxy-reading, status-reading}
+use Rattle.layout.specs.Contents.{copies-reading, brick-reading, contents-reading}
 
 -- ---- rows fill their words
 two-exact : (w : List ℕ) → length w ≡ 2 → entry-row .write (entry-row .read w) ≡ w
@@ -81,7 +81,7 @@ module _ (c : Settings) where
   brick-law = via-law brick-reading (then-law status-law (then-law buffer-law (then-law all-copies-law log-law)))
 
   pub place-law : Lawful (place-codec c)
-  place-law = slot-law blank-brick brick-law
+  place-law = if-present-law blank-brick brick-law
 
   pub all-agreed-law : Lawful (all-agreed-codec c)
   all-agreed-law = many-law (buckets c) blank-agreed agreed-law
@@ -93,5 +93,5 @@ module _ (c : Settings) where
   pub all-places-law : Lawful (all-places-codec c)
   all-places-law = many-law (c .places) blank-place (place-law c)
 
-  pub disk-law : Lawful (disk-codec c)
-  disk-law = via-law disk-reading (then-law head-law (then-law (all-agreed-law c) (then-law all-proxies-law (then-law bag-law all-places-law))))
+  pub disk-law : Lawful (store-codec c)
+  disk-law = via-law contents-reading (then-law head-law (then-law (all-agreed-law c) (then-law all-proxies-law (then-law bag-law all-places-law))))

@@ -10,24 +10,25 @@ use Rattle.lists.specs.Runs.{Below, none, more}
 use Rattle.lists.proofs.Tests.{by, by-lt, clash}
 use Rattle.rules.specs.declared.settings.Settings.{Settings}
 use Rattle.rules.specs.Limits.{proxies, buckets, max-relays, max-items, max-waiting}
-use Rattle.rules.specs.Numbers.{blocks, bucket-of, home-of, is-data}
+use Rattle.rules.specs.Numbers.{block-count, bucket-of, home-of, is-data}
 use Rattle.rules.specs.Entries.{Entry}
 use Rattle.rules.specs.Chunks.{Chunk}
 use Rattle.rules.specs.State.{Relay, Bucket, State}
-use Rattle.rules.proofs.Limits.{Limits, limits}
+use Rattle.rules.specs.Limits.{Limits}
+use Rattle.rules.proofs.Limits.{limits}
 use Rattle.rules.proofs.Sound.{EntryOk, RelayOk, KeyOf, Sound}
 use Rattle.rules.proofs.SoundTest.{facts-sound}
 use Rattle.log.proofs.Codec.{log-back, log-small}
 use Rattle.codec.specs.Codec.{Fits, word-limit, word, flag, fixed, _&_, _then_}
 use Rattle.codec.proofs.Laws.{word-law, flag-law, fixed-law}
-use Rattle.codec.proofs.Round.{fits-word, fits-flag, fits-fixed, fits-via, fits-two, fits-many, fits-table, fits-slot}
-use Rattle.layout.specs.Disk.{Copies, Brick, Disk, blank-agreed, blank-proxy, blank-copies, blank-brick, blank-place}
-use Rattle.layout.specs.Disk.{relay-row, settings-reading, head-reading, agreed-reading, proxy-reading, status-reading}
-use Rattle.layout.specs.Disk.{copies-reading, brick-reading, disk-reading}
+use Rattle.codec.proofs.Round.{fits-word, fits-flag, fits-fixed, fits-via, fits-two, fits-many, fits-table, fits-if-present}
+use Rattle.layout.specs.Contents.{Copies, Brick, Contents, blank-agreed, blank-proxy, blank-copies, blank-brick, blank-place}
+use Rattle.layout.specs.Contents.{relay-row, settings-reading, head-reading, agreed-reading, proxy-reading, status-reading}
+use Rattle.layout.specs.Contents.{copies-reading, brick-reading, contents-reading}
 use Rattle.layout.specs.Layout.{layout-version, entries-codec, settings-codec, head-codec, agreed-codec, items-codec, proxy-codec, bag-codec}
 use Rattle.layout.specs.Layout.{status-codec, buffer-codec, copy-codec, copies-codec, all-copies-codec, log-codec, brick-codec, place-codec}
-use Rattle.layout.specs.Layout.{all-agreed-codec, all-proxies-codec, all-places-codec, disk-codec, settings-of, store-words}
-use Rattle.layout.specs.Store.{to-state, brick-in, agreed-in, to-disk, decode, render}
+use Rattle.layout.specs.Layout.{all-agreed-codec, all-proxies-codec, all-places-codec, store-codec, settings-of, store-words}
+use Rattle.layout.specs.Store.{to-state, brick-in, agreed-in, contents-of, decode, render}
 use Rattle.layout.proofs.Codecs.{entry-exact, relay-exact, settings-law, head-law, agreed-law, proxy-law, bag-law, status-law, buffer-law}
 use Rattle.layout.proofs.Codecs.{copy-law, copies-law, all-copies-law, place-law, all-agreed-law, all-proxies-law, disk-law}
 use Rattle.layout.proofs.Views.{Proper, state-back}
@@ -38,7 +39,7 @@ use Rattle.layout.proofs.Sound.{SoundWords}
 key-small : (k given : ℕ) → home-of k ≤ given → given ≤ 255 → k < word-limit
 key-small k given h g = omega arith
 
-bucket-small : (count b : ℕ) → b < blocks → bucket-of count b < word-limit
+bucket-small : (count b : ℕ) → b < block-count → bucket-of count b < word-limit
 unfolding bucket-of
 bucket-small count b h = omega (arith, mod-le (b / 1024) count)
 
@@ -63,10 +64,10 @@ module _ (s : State) (sd : Sound s) where
       (more {b = r .block} (omega (arith, k .small)) (more {b = r .key} (key-fits (r .key) (k .key)) none))))
 
   -- ---- the header, a bucket's record, a proxy
-  head-fits : Fits head-codec (to-disk s .head)
+  head-fits : Fits head-codec (contents-of s .head)
   head-fits =
       let l = lim in
-      fits-via head-reading (fixed layout-version then settings-codec then word then word then word) (to-disk s .head) refl
+      fits-via head-reading (fixed layout-version then settings-codec then word then word then word) (contents-of s .head) refl
       (fits-two (fixed-law layout-version) (fits-fixed layout-version (omega arith))
       (fits-two settings-law
       (fits-via settings-reading (word then word then word then word) (s .settings) refl
@@ -87,19 +88,19 @@ module _ (s : State) (sd : Sound s) where
       (fits-two word-law (fits-word _ (omega (arith, k .last .two-born)))
       (fits-two flag-law (fits-flag (s .bucket g .ready))
       (fits-two flag-law (fits-flag (s .bucket g .fetched))
-      (fits-two word-law (fits-word _ (omega (arith, k .order))) (fits-word _ (omega (arith, k .taken))))))))))
+      (fits-two word-law (fits-word _ (omega (arith, k .last-sent))) (fits-word _ (omega (arith, k .taken))))))))))
 
-  proxy-fits : (p : ℕ) → Fits proxy-codec (to-disk s .proxy p)
+  proxy-fits : (p : ℕ) → Fits proxy-codec (contents-of s .proxy p)
   proxy-fits p =
       let t = sd .items p in
-      fits-via proxy-reading (word then items-codec) (to-disk s .proxy p) refl
+      fits-via proxy-reading (word then items-codec) (contents-of s .proxy p) refl
       (fits-two word-law (fits-word (s .known p) (omega (arith, sd .known p))) (rows-fit _ max-items (s .items p) (omega arith) (t .room) (t .each)))
 
   -- ---- under an id that no place has, all is blank
-  not-up : (i : ℕ) → s .bricks .here i ≡ false → s .bricks .up i ≡ false
-  not-up i n = by (s .bricks .up i) (λ y. clash n (sd .bricks .up-here i y)) (λ z. z)
+  not-up : (i : ℕ) → s .bricks .present i ≡ false → s .bricks .up i ≡ false
+  not-up i n = by (s .bricks .up i) (λ y. clash n (sd .bricks .up-present i y)) (λ z. z)
 
-  no-copies : (i g : ℕ) → s .bricks .here i ≡ false → brick-in s i .copies g ≡ blank-copies
+  no-copies : (i g : ℕ) → s .bricks .present i ≡ false → brick-in s i .copies g ≡ blank-copies
   no-copies i g n =
       by-lt g (buckets (s .settings))
       (λ _ h. let k = sd .buckets-ok g h in
@@ -107,7 +108,7 @@ module _ (s : State) (sd : Sound s) where
       ∙ ap (λ (l : List Entry). record { memory = []; disk = l }) (k .blank-disk i n))
       (λ _ h. ap (λ (k : Bucket). record { memory = k .memory i; disk = k .disk i }) (sd .no-bucket g h))
 
-  blank : (i : ℕ) → s .bricks .here i ≡ false → brick-in s i ≡ blank-brick
+  blank : (i : ℕ) → s .bricks .present i ≡ false → brick-in s i ≡ blank-brick
   blank i n =
       let up = not-up i n in
       let member : s .bricks .member i ≡ false = by (s .bricks .member i) (λ y. clash up (sd .bricks .member-up i y)) (λ z. z) in
@@ -115,11 +116,11 @@ module _ (s : State) (sd : Sound s) where
       made n up member began (sd .numbers .blank-next i n) (sd .numbers .blank-ceiling i n) (sd .buffer-down i up) (fun-ext (λ g. no-copies i g n))
       (sd .log-blank i n)
     where
-      made : {here up member began : Bool} {next ceiling : ℕ} {buffer : List Entry} {copies : ℕ → Copies} {log : List Chunk}
-          → here ≡ false → up ≡ false → member ≡ false → began ≡ false → next ≡ 0 → ceiling ≡ 0 → buffer ≡ [] → copies ≡ (λ g. blank-copies) → log ≡ []
+      made : {present up member began : Bool} {next ceiling : ℕ} {buffer : List Entry} {copies : ℕ → Copies} {log : List Chunk}
+          → present ≡ false → up ≡ false → member ≡ false → began ≡ false → next ≡ 0 → ceiling ≡ 0 → buffer ≡ [] → copies ≡ (λ g. blank-copies) → log ≡ []
           → _≡_ {A = Brick}
           (record {
-            here = here;
+            present = present;
             status = record { up = up; member = member; began = began; next = next; ceiling = ceiling };
             buffer = buffer;
             copies = copies;
@@ -128,8 +129,8 @@ module _ (s : State) (sd : Sound s) where
           blank-brick
       made a b c d e f g h i = cc
 
-  gone : (i : ℕ) → ((p : ℕ) → p < s .settings .places → s .ids p ≡ i → 0 < i → ⊥) → s .bricks .here i ≡ false
-  gone i u = by (s .bricks .here i) (λ y. let z = sd .bricks .somewhere i y in absurd (u (z .0) (z .1) (z .2) (sd .bricks .first i y))) (λ n. n)
+  gone : (i : ℕ) → ((p : ℕ) → p < s .settings .places → s .ids p ≡ i → 0 < i → ⊥) → s .bricks .present i ≡ false
+  gone i u = by (s .bricks .present i) (λ y. let z = sd .bricks .somewhere i y in absurd (u (z .0) (z .1) (z .2) (sd .bricks .first i y))) (λ n. n)
 
   pub proper : Proper s
   proper i u = blank i (gone i u)
@@ -159,13 +160,13 @@ module _ (s : State) (sd : Sound s) where
         small = λ w h. log-small (s .settings .chunks) width (s .bricks .log i) w (omega (arith, l .chunks-to)) (sd .log-room i) each;
       }
 
-  brick-fits : (i : ℕ) → s .bricks .here i ≡ true → Fits (brick-codec (s .settings)) (brick-in s i)
+  brick-fits : (i : ℕ) → s .bricks .present i ≡ true → Fits (brick-codec (s .settings)) (brick-in s i)
   brick-fits i y =
       let n = sd .numbers in
       let b = sd .buffers i in
       fits-via brick-reading (status-codec then buffer-codec then all-copies-codec (s .settings) then log-codec (s .settings)) (brick-in s i)
       (ap (λ (h : Bool). record {
-        here = h;
+        present = h;
         status = brick-in s i .status;
         buffer = s .bricks .buffer i;
         copies = brick-in s i .copies;
@@ -185,47 +186,47 @@ module _ (s : State) (sd : Sound s) where
       (log-fits i))))
 
   -- ---- places and the store
-  place-fits : (p : ℕ) → Fits (place-codec (s .settings)) (to-disk s .place p)
+  place-fits : (p : ℕ) → Fits (place-codec (s .settings)) (contents-of s .place p)
   place-fits p =
-      fits-slot (brick-codec (s .settings)) blank-brick (to-disk s .place p) (omega (arith, sd .bricks .born p, sd .bricks .few))
+      fits-if-present (brick-codec (s .settings)) blank-brick (contents-of s .place p) (omega (arith, sd .bricks .born p, sd .bricks .few))
       (λ z. brick-fits (s .ids p) (sd .bricks .stands p z)) (λ z. proper (s .ids p) (λ q l e o. omega arith))
 
-  place-beyond : (p : ℕ) → s .settings .places ≤ p → to-disk s .place p ≡ blank-place
+  place-beyond : (p : ℕ) → s .settings .places ≤ p → contents-of s .place p ≡ blank-place
   place-beyond p h =
       ap (λ (i : ℕ). i & brick-in s i) (sd .bricks .beyond p h) ∙ ap (λ (b : Brick). 0 & b) (proper 0 (λ q l e o. omega arith))
 
-  pub disk-fits : Fits (disk-codec (s .settings)) (to-disk s)
+  pub disk-fits : Fits (store-codec (s .settings)) (contents-of s)
   disk-fits =
       let c = s .settings in
-      fits-via disk-reading (head-codec then all-agreed-codec c then all-proxies-codec then bag-codec then all-places-codec c) (to-disk s) refl
+      fits-via contents-reading (head-codec then all-agreed-codec c then all-proxies-codec then bag-codec then all-places-codec c) (contents-of s) refl
       (fits-two head-law head-fits
       (fits-two (all-agreed-law c)
-      (fits-many agreed-codec agreed-law (buckets c) blank-agreed (to-disk s .agreed) agreed-fits (λ g h. ap agreed-in (sd .no-bucket g h)))
+      (fits-many agreed-codec agreed-law (buckets c) blank-agreed (contents-of s .agreed) agreed-fits (λ g h. ap agreed-in (sd .no-bucket g h)))
       (fits-two all-proxies-law
-      (fits-many proxy-codec proxy-law proxies blank-proxy (to-disk s .proxy) (λ p h. proxy-fits p)
+      (fits-many proxy-codec proxy-law proxies blank-proxy (contents-of s .proxy) (λ p h. proxy-fits p)
       (λ p h. ap (λ (k : ℕ). record { known = k; items = s .items p }) (sd .no-known p h)
       ∙ ap (λ (l : List Entry). record { known = 0; items = l }) (sd .no-items p h)))
       (fits-two bag-law (fits-table relay-exact max-relays (s .bag) (omega arith) (sd .bag-room) (λ r m. relay-fits r (sd .relays r m)))
-      (fits-many (place-codec c) (place-law c) (c .places) blank-place (to-disk s .place) (λ p h. place-fits p) place-beyond)))))
+      (fits-many (place-codec c) (place-law c) (c .places) blank-place (contents-of s .place) (λ p h. place-fits p) place-beyond)))))
 
   -- ---- what is rendered is read back
   module _ (ws : List ℕ) (h : length ws ≡ store-words (s .settings)) where
     pub render-length : length (render s ws) ≡ store-words (s .settings)
     unfolding render
-    render-length = disk-law (s .settings) .keeps (to-disk s) ws h
+    render-length = disk-law (s .settings) .keeps (contents-of s) ws h
 
     pub settings-kept : settings-of (render s ws) ≡ s .settings
     unfolding settings-of render
-    settings-kept = ap (λ (d : Disk). d .head .settings) (disk-fits .back ws h)
+    settings-kept = ap (λ (d : Contents). d .head .settings) (disk-fits .back ws h)
 
-    disk-read : disk-codec (s .settings) .dec (render s ws) ≡ to-disk s
+    disk-read : store-codec (s .settings) .dec (render s ws) ≡ contents-of s
     unfolding render
     disk-read = disk-fits .back ws h
 
     pub read-back : decode (render s ws) ≡ s
     unfolding decode
     read-back =
-        ap (λ (c : Settings). to-state (disk-codec c .dec (render s ws))) settings-kept ∙ ap to-state disk-read ∙ state-back s proper
+        ap (λ (c : Settings). to-state (store-codec c .dec (render s ws))) settings-kept ∙ ap to-state disk-read ∙ state-back s proper
 
     -- what is rendered are words
     pub render-small : Below word-limit ws → Below word-limit (render s ws)
@@ -234,7 +235,7 @@ module _ (s : State) (sd : Sound s) where
 
     render-twice : render s (render s ws) ≡ render s ws
     unfolding render
-    render-twice = disk-law (s .settings) .idem (to-disk s) ws h
+    render-twice = disk-law (s .settings) .idem (contents-of s) ws h
 
     -- and they are sound again
     pub render-sound : SoundWords (render s ws)

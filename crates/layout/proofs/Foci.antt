@@ -7,11 +7,11 @@ use Rattle.rules.specs.Limits.{proxies, buckets}
 use Rattle.codec.specs.Codec.{word, flag, fixed, _then_}
 use Rattle.codec.proofs.Laws.{Lawful, word-law, flag-law, fixed-law, then-law}
 use Rattle.codec.proofs.Focus.{Focus, _through_, seen-as, at-offset, first, second, nth, filled}
-use Rattle.layout.specs.Disk.{blank-agreed, blank-proxy, blank-copies, blank-brick, blank-place}
-use Rattle.layout.specs.Disk.{head-reading, agreed-reading, proxy-reading, status-reading, copies-reading, brick-reading, disk-reading}
+use Rattle.layout.specs.Contents.{blank-agreed, blank-proxy, blank-copies, blank-brick, blank-place}
+use Rattle.layout.specs.Contents.{head-reading, agreed-reading, proxy-reading, status-reading, copies-reading, brick-reading, contents-reading}
 use Rattle.layout.specs.Layout.{layout-version, settings-codec, head-codec, agreed-codec, items-codec, proxy-codec, bag-codec, status-codec, buffer-codec}
 use Rattle.layout.specs.Layout.{copy-codec, copies-codec, all-copies-codec, log-codec, brick-codec, place-codec}
-use Rattle.layout.specs.Layout.{all-agreed-codec, all-proxies-codec, all-places-codec, disk-codec}
+use Rattle.layout.specs.Layout.{all-agreed-codec, all-proxies-codec, all-places-codec, store-codec}
 use Rattle.layout.specs.Layout.{agreed-at, proxies-at, proxy-at, bag-at, place-at, items-at, up-at, member-at, began-at, next-at, ceiling-at}
 use Rattle.layout.specs.Layout.{buffer-at, copies-at, log-at}
 use Rattle.layout.proofs.Codecs.{settings-law, head-law, agreed-law, items-law, proxy-law, bag-law, status-law, buffer-law, copy-law, copies-law}
@@ -67,28 +67,28 @@ module _ (c : Settings) where
   pub from-agreed : Lawful (all-agreed-codec c then all-proxies-codec then bag-codec then all-places-codec c)
   from-agreed = then-law (all-agreed-law c) from-proxies
 
-  abbrev pub head-in : Focus (disk-codec c) head-codec
-  head-in = seen-as disk-reading (λ t. refl) (first head-law from-agreed)
+  abbrev pub head-in : Focus (store-codec c) head-codec
+  head-in = seen-as contents-reading (λ t. refl) (first head-law from-agreed)
 
-  abbrev pub all-agreed-in : Focus (disk-codec c) (all-agreed-codec c)
-  all-agreed-in = seen-as disk-reading (λ t. refl) (second head-law from-agreed through first (all-agreed-law c) from-proxies)
+  abbrev pub all-agreed-in : Focus (store-codec c) (all-agreed-codec c)
+  all-agreed-in = seen-as contents-reading (λ t. refl) (second head-law from-agreed through first (all-agreed-law c) from-proxies)
 
-  abbrev pub all-proxies-in : Focus (disk-codec c) all-proxies-codec
+  abbrev pub all-proxies-in : Focus (store-codec c) all-proxies-codec
   all-proxies-in =
       at-offset (proxies-at c)
-      (seen-as disk-reading (λ t. refl)
+      (seen-as contents-reading (λ t. refl)
       (second head-law from-agreed through second (all-agreed-law c) from-proxies through first all-proxies-law from-bag)) (omega arith)
 
-  abbrev pub bag-in : Focus (disk-codec c) bag-codec
+  abbrev pub bag-in : Focus (store-codec c) bag-codec
   bag-in =
       at-offset (bag-at c)
-      (seen-as disk-reading (λ t. refl)
+      (seen-as contents-reading (λ t. refl)
       (second head-law from-agreed through second (all-agreed-law c) from-proxies through second all-proxies-law from-bag
       through first bag-law (all-places-law c))) (omega arith)
 
-  abbrev pub all-places-in : Focus (disk-codec c) (all-places-codec c)
+  abbrev pub all-places-in : Focus (store-codec c) (all-places-codec c)
   all-places-in =
-      seen-as disk-reading (λ t. refl)
+      seen-as contents-reading (λ t. refl)
       (second head-law from-agreed through second (all-agreed-law c) from-proxies through second all-proxies-law from-bag
       through second bag-law (all-places-law c))
 
@@ -216,22 +216,22 @@ module _ (c : Settings) where
   log-of = at-offset (log-at c) (brick-in-place through log-in) (omega arith)
 
   -- ---- in the store
-  abbrev pub agreed-focus : (g : ℕ) → g < buckets c → Focus (disk-codec c) agreed-codec
+  abbrev pub agreed-focus : (g : ℕ) → g < buckets c → Focus (store-codec c) agreed-codec
   agreed-focus g h = all-agreed-in c through nth agreed-law (buckets c) blank-agreed g h
 
-  abbrev pub proxy-focus : (p : ℕ) → p < proxies → Focus (disk-codec c) proxy-codec
+  abbrev pub proxy-focus : (p : ℕ) → p < proxies → Focus (store-codec c) proxy-codec
   proxy-focus p h = all-proxies-in c through nth proxy-law proxies blank-proxy p h
 
-  abbrev pub known-focus : (p : ℕ) → p < proxies → Focus (disk-codec c) word
+  abbrev pub known-focus : (p : ℕ) → p < proxies → Focus (store-codec c) word
   known-focus p h = at-offset (proxy-at c p) (proxy-focus p h through known-in) (omega arith)
 
-  abbrev pub items-focus : (p : ℕ) → p < proxies → Focus (disk-codec c) items-codec
+  abbrev pub items-focus : (p : ℕ) → p < proxies → Focus (store-codec c) items-codec
   items-focus p h = proxy-focus p h through items-in
 
-  abbrev pub place-focus : (p : ℕ) → p < c .places → Focus (disk-codec c) (place-codec c)
+  abbrev pub place-focus : (p : ℕ) → p < c .places → Focus (store-codec c) (place-codec c)
   place-focus p h = all-places-in c through nth (place-law c) (c .places) blank-place p h
 
-  abbrev pub brick-focus : (p : ℕ) → p < c .places → Focus (disk-codec c) (brick-codec c)
+  abbrev pub brick-focus : (p : ℕ) → p < c .places → Focus (store-codec c) (brick-codec c)
   brick-focus p h = place-focus p h through brick-in-place
 
 -- ---- the offsets of the parts are those that the layout names

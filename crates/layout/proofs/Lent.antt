@@ -6,7 +6,7 @@ use native.Mathlib.Numerals.{add-one}
 use native.Mathlib.Omega.{arith}
 use lib.ListN.{length, take, drop, length-append, length-drop}
 use lib.Seq.{length-take-le}
-use Rattle.lists.specs.Runs.{run, part}
+use Rattle.lists.specs.Runs.{run, nth-run}
 use Rattle.lists.proofs.Runs.{fits-in}
 use Rattle.words.specs.Words.{words}
 use Rattle.words.proofs.Laws.{lent-run, words-part}
@@ -41,9 +41,9 @@ module _ {A : Type 0} (c : Codec A) (law : Lawful c) (n : ℕ) (blank : A) (g : 
     inside = fits-in (c .size) p
 
     -- the part is as it was
-    pub turn-part : words (take k (drop o s)) ≡ part (c .size) i w
+    pub turn-part : words (take k (drop o s)) ≡ nth-run (c .size) i w
     turn-part =
-        words-part s o k (i * c .size) (c .size) eo ek (omega (arith, inside)) ∙ ap (part (c .size) i) es
+        words-part s o k (i * c .size) (c .size) eo ek (omega (arith, inside)) ∙ ap (nth-run (c .size) i) es
         ∙ loop-next c law n (each-changed c n blank g w) w h i p
 
     pub change-turn : (t : List ℕ) → length t ≡ k → words t ≡ c .enc (g i (c .dec (words (take k (drop o s))))) (words (take k (drop o s)))

@@ -9,11 +9,11 @@ use Rattle.lists.specs.Runs.{run}
 use Rattle.rules.specs.Limits.{proxies, buckets}
 use Rattle.codec.specs.Codec.{Codec}
 use Rattle.codec.proofs.Focus.{Focus, _through_, part-length, read-word}
-use Rattle.layout.specs.Places.{of, Apart}
-use Rattle.layout.specs.Disk.{Place, Disk, blank-brick}
-use Rattle.layout.specs.Layout.{head-words, head-codec, agreed-codec, proxy-codec, bag-codec, place-codec, disk-codec, settings-of, store-words}
+use Rattle.layout.specs.Places.{by-id, Apart}
+use Rattle.layout.specs.Contents.{Place, Contents, blank-brick}
+use Rattle.layout.specs.Layout.{head-words, head-codec, agreed-codec, proxy-codec, bag-codec, place-codec, store-codec, settings-of, store-words}
 use Rattle.layout.specs.Layout.{agreed-part, proxy-part, bag-part, place-part, view-at, given-at, started-at, next-at}
-use Rattle.layout.specs.Store.{brick-at, agreed-in, to-disk, decode}
+use Rattle.layout.specs.Store.{brick-at, agreed-in, contents-of, decode}
 use Rattle.layout.proofs.Foci.{view-in, given-in, started-in, head-in, bag-in, next-of, agreed-focus, proxy-focus, place-focus}
 use Rattle.layout.proofs.Places.{of-map, of-same}
 use Rattle.layout.proofs.Decoded.{tidy, as-decoded}
@@ -51,7 +51,7 @@ module _ (ws : List ℕ) (h : length ws ≡ store-words (settings-of ws)) where
   unfolding decode
   agreed-read g l = agreed-focus (settings-of ws) g l .read ws h ((refl, refl), λ j m z. refl)
 
-  pub proxy-read : (p : ℕ) → p < proxies → to-disk (decode ws) .proxy p ≡ proxy-codec .dec (proxy-part (settings-of ws) p ws)
+  pub proxy-read : (p : ℕ) → p < proxies → contents-of (decode ws) .proxy p ≡ proxy-codec .dec (proxy-part (settings-of ws) p ws)
   unfolding decode
   proxy-read p l = proxy-focus (settings-of ws) p l .read ws h (((refl, refl), refl), λ j m z. refl)
 
@@ -60,7 +60,7 @@ module _ (ws : List ℕ) (h : length ws ≡ store-words (settings-of ws)) where
   bag-read = bag-in (settings-of ws) .read ws h (((refl, refl), refl), refl)
 
   module _ (p : ℕ) (l : p < settings-of ws .places) where
-    disk-place : disk-codec (settings-of ws) .dec ws .place p ≡ place-codec (settings-of ws) .dec (place-part (settings-of ws) p ws)
+    disk-place : store-codec (settings-of ws) .dec ws .place p ≡ place-codec (settings-of ws) .dec (place-part (settings-of ws) p ws)
     disk-place = place-focus (settings-of ws) p l .read ws h ((((refl, refl), refl), refl), λ j m z. refl)
 
     -- the id at a place
@@ -70,19 +70,19 @@ module _ (ws : List ℕ) (h : length ws ≡ store-words (settings-of ws)) where
 
     -- a place: its id, and what stands under that id
     pub place-read : Apart (settings-of ws .places) (decode ws .ids)
-        → to-disk (decode ws) .place p ≡ place-codec (settings-of ws) .dec (place-part (settings-of ws) p ws)
-    place-read apart = ap (λ (d : Disk). d .place p) (as-decoded ws apart) ∙ disk-place
+        → contents-of (decode ws) .place p ≡ place-codec (settings-of ws) .dec (place-part (settings-of ws) p ws)
+    place-read apart = ap (λ (d : Contents). d .place p) (as-decoded ws apart) ∙ disk-place
 
     -- a part of a place that holds a brick, and that part of what stands under its id
     pub place-seen : Apart (settings-of ws .places) (decode ws .ids) → {B : Type 0} {d : Codec B} (φ : Focus (place-codec (settings-of ws)) d)
-        → φ .Else (to-disk (decode ws) .place p) (to-disk (decode ws) .place p)
-        → φ .see (to-disk (decode ws) .place p) ≡ d .dec (run (φ .off) (d .size) (place-part (settings-of ws) p ws))
+        → φ .Else (contents-of (decode ws) .place p) (contents-of (decode ws) .place p)
+        → φ .see (contents-of (decode ws) .place p) ≡ d .dec (run (φ .off) (d .size) (place-part (settings-of ws) p ws))
     place-seen apart φ e =
         let r = place-read apart in
         ap (φ .see) r ∙ φ .read (place-part (settings-of ws) p ws) (part-length (place-focus (settings-of ws) p l) ws h) (rw r at e)
 
     next-word : 0 < decode ws .ids p
-        → disk-codec (settings-of ws) .dec ws .place p .snd .status .next
+        → store-codec (settings-of ws) .dec ws .place p .snd .status .next
         ≡ getD (place-part (settings-of ws) p ws) next-at 0
     next-word o =
         let z : 0 < getD (place-part (settings-of ws) p ws) 0 0 = rw id-read at o in
@@ -91,18 +91,18 @@ module _ (ws : List ℕ) (h : length ws ≡ store-words (settings-of ws)) where
         ((refl, z), (refl, (((refl, refl), refl), refl)))
 
   -- ---- two columns, from the words of the places: what a key is held against
-  pub here-column : (i : ℕ) → decode ws .bricks .here i ≡ of (settings-of ws .places) (decode ws .ids) false (λ p. true) i
+  pub present-column : (i : ℕ) → decode ws .bricks .present i ≡ by-id (settings-of ws .places) (decode ws .ids) false (λ p. true) i
   unfolding decode brick-at settings-of
-  here-column i =
-      let d : Disk = disk-codec (settings-of ws) .dec ws in
-      of-map (settings-of ws .places) (decode ws .ids) blank-brick (λ p. d .place p .snd) (λ b. b .here) i
-      ∙ of-same (settings-of ws .places) (decode ws .ids) false (λ p. d .place p .snd .here) (λ p. true) i (λ p l e o. tidy ws .here p (omega arith))
+  present-column i =
+      let d : Contents = store-codec (settings-of ws) .dec ws in
+      of-map (settings-of ws .places) (decode ws .ids) blank-brick (λ p. d .place p .snd) (λ b. b .present) i
+      ∙ of-same (settings-of ws .places) (decode ws .ids) false (λ p. d .place p .snd .present) (λ p. true) i (λ p l e o. tidy ws .present p (omega arith))
 
   pub next-column : (i : ℕ)
       → decode ws .bricks .next i
-      ≡ of (settings-of ws .places) (decode ws .ids) 0 (λ p. getD (place-part (settings-of ws) p ws) next-at 0) i
+      ≡ by-id (settings-of ws .places) (decode ws .ids) 0 (λ p. getD (place-part (settings-of ws) p ws) next-at 0) i
   unfolding decode brick-at settings-of
   next-column i =
-      let d : Disk = disk-codec (settings-of ws) .dec ws in
+      let d : Contents = store-codec (settings-of ws) .dec ws in
       of-map (settings-of ws .places) (decode ws .ids) blank-brick (λ p. d .place p .snd) (λ b. b .status .next) i
       ∙ of-same (settings-of ws .places) (decode ws .ids) 0 (λ p. d .place p .snd .status .next) _ i (λ p l e o. next-word p l (omega arith))

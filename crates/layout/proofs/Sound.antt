@@ -15,8 +15,8 @@ use Rattle.rules.specs.State.{State}
 use Rattle.rules.specs.Sound.{alone, sound-brick, sound-place, sound}
 use Rattle.codec.specs.Codec.{Clean}
 use Rattle.layout.specs.Places.{Apart}
-use Rattle.layout.specs.Layout.{disk-codec, settings-of, store-words}
-use Rattle.layout.specs.Store.{to-disk, decode, render, sound-words}
+use Rattle.layout.specs.Layout.{store-codec, settings-of, store-words}
+use Rattle.layout.specs.Store.{contents-of, decode, render, sound-words}
 use Rattle.layout.proofs.Decoded.{settings-read, as-decoded}
 
 -- ---- sound words
@@ -68,19 +68,19 @@ module _ (ws : List ℕ) (sd : SoundWords ws) where
   pub words-apart : Apart (settings-of ws .places) (decode ws .ids)
   words-apart = rw (settings-read ws) at (sound-apart (decode ws) (sd .state))
 
-  pub by-place : to-disk (decode ws) ≡ disk-codec (settings-of ws) .dec ws
+  pub by-place : contents-of (decode ws) ≡ store-codec (settings-of ws) .dec ws
   by-place = as-decoded ws words-apart
 
   -- sound words are clean
-  pub sound-clean : Clean (disk-codec (settings-of ws)) ws
+  pub sound-clean : Clean (store-codec (settings-of ws)) ws
   unfolding render
   sound-clean =
-      ap (λ d. disk-codec (settings-of ws) .enc d ws) (sym by-place)
-      ∙ ap (λ (c : Settings). disk-codec c .enc (to-disk (decode ws)) ws) (sym (settings-read ws)) ∙ sd .still
+      ap (λ d. store-codec (settings-of ws) .enc d ws) (sym by-place)
+      ∙ ap (λ (c : Settings). store-codec c .enc (contents-of (decode ws)) ws) (sym (settings-read ws)) ∙ sd .still
 
 -- where no id stands at two places, clean words are what their own state renders
-pub clean-still : (ws : List ℕ) → Apart (settings-of ws .places) (decode ws .ids) → Clean (disk-codec (settings-of ws)) ws → render (decode ws) ws ≡ ws
+pub clean-still : (ws : List ℕ) → Apart (settings-of ws .places) (decode ws .ids) → Clean (store-codec (settings-of ws)) ws → render (decode ws) ws ≡ ws
 unfolding render
 clean-still ws apart clean =
-    ap (λ (c : Settings). disk-codec c .enc (to-disk (decode ws)) ws) (settings-read ws)
-    ∙ ap (λ d. disk-codec (settings-of ws) .enc d ws) (as-decoded ws apart) ∙ clean
+    ap (λ (c : Settings). store-codec c .enc (contents-of (decode ws)) ws) (settings-read ws)
+    ∙ ap (λ d. store-codec (settings-of ws) .enc d ws) (as-decoded ws apart) ∙ clean

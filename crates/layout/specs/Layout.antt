@@ -9,10 +9,10 @@ use Rattle.rules.specs.Entries.{Entry}
 use Rattle.rules.specs.Chunks.{Chunk}
 use Rattle.rules.specs.State.{Relay}
 use Rattle.log.specs.Log.{chunks-codec}
-use Rattle.codec.specs.Codec.{Codec, word, flag, fixed, via, _then_, many, table, slot}
-use Rattle.layout.specs.Disk.{Head, Agreed, Proxy, Status, Copies, Brick, Place, Disk, blank-agreed, blank-proxy, blank-copies, blank-brick, blank-place}
-use Rattle.layout.specs.Disk.{entry-row, relay-row, settings-reading, head-reading, agreed-reading, proxy-reading, status-reading}
-use Rattle.layout.specs.Disk.{copies-reading, brick-reading, disk-reading}
+use Rattle.codec.specs.Codec.{Codec, word, flag, fixed, via, _then_, many, table, if-present}
+use Rattle.layout.specs.Contents.{Head, Agreed, Proxy, Status, Copies, Brick, Place, Contents, blank-agreed, blank-proxy, blank-copies, blank-brick, blank-place}
+use Rattle.layout.specs.Contents.{entry-row, relay-row, settings-reading, head-reading, agreed-reading, proxy-reading, status-reading}
+use Rattle.layout.specs.Contents.{copies-reading, brick-reading, contents-reading}
 
 -- a word has 8 bytes, so a block is whole words
 abbrev pub word-bytes : ℕ
@@ -71,7 +71,7 @@ brick-codec c = via brick-reading (status-codec then buffer-codec then all-copie
 
 -- ---- a place: the id of its brick; 0 where it is empty, and then its other words are not in use
 abbrev pub place-codec : Settings → Codec Place
-place-codec c = slot blank-brick (brick-codec c)
+place-codec c = if-present blank-brick (brick-codec c)
 
 -- ---- the store
 abbrev pub all-agreed-codec : Settings → Codec (ℕ → Agreed)
@@ -83,8 +83,8 @@ all-proxies-codec = many proxies blank-proxy proxy-codec
 abbrev pub all-places-codec : Settings → Codec (ℕ → Place)
 all-places-codec c = many (c .places) blank-place (place-codec c)
 
-abbrev pub disk-codec : Settings → Codec Disk
-disk-codec c = via disk-reading (head-codec then all-agreed-codec c then all-proxies-codec then bag-codec then all-places-codec c)
+abbrev pub store-codec : Settings → Codec Contents
+store-codec c = via contents-reading (head-codec then all-agreed-codec c then all-proxies-codec then bag-codec then all-places-codec c)
 
 -- the settings that a store's words begin with
 unfoldable pub settings-of : List ℕ → Settings
@@ -119,7 +119,7 @@ abbrev pub place-words : Settings → ℕ
 place-words c = place-codec c .size
 
 abbrev pub store-words : Settings → ℕ
-store-words c = disk-codec c .size
+store-words c = store-codec c .size
 
 -- ---- offsets in the store
 abbrev pub version-at : ℕ
@@ -187,11 +187,11 @@ ready-at = last-backup-at + 1
 abbrev pub fetched-at : ℕ
 fetched-at = ready-at + 1
 
-abbrev pub order-at : ℕ
-order-at = fetched-at + 1
+abbrev pub last-sent-at : ℕ
+last-sent-at = fetched-at + 1
 
 abbrev pub taken-at : ℕ
-taken-at = order-at + 1
+taken-at = last-sent-at + 1
 
 -- ---- offsets in a proxy and in a place
 abbrev pub items-at : ℕ

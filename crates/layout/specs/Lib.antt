@@ -1,4 +1,4 @@
 pub mod Places
-pub mod Disk
+pub mod Contents
 pub mod Layout
 pub mod Store

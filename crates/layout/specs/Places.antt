@@ -5,10 +5,10 @@ use Prim.Native.Nat.{ℕ, zero, suc, _<_}
 use lib.Dec.{eqb}
 
 -- a column by place, seen by id: the value at a place below n that has the id; d where there is none, and for id 0
-unfoldable pub of {ℓ} : {A : Type ℓ} → ℕ → (ℕ → ℕ) → A → (ℕ → A) → ℕ → A
-of zero ids d f i = d
-of (suc n) ids d f zero = d
-of (suc n) ids d f (suc i) = cond (eqb (ids n) (suc i)) (f n) (of n ids d f (suc i))
+unfoldable pub by-id {ℓ} : {A : Type ℓ} → ℕ → (ℕ → ℕ) → A → (ℕ → A) → ℕ → A
+by-id zero ids d f i = d
+by-id (suc n) ids d f zero = d
+by-id (suc n) ids d f (suc i) = cond (eqb (ids n) (suc i)) (f n) (by-id n ids d f (suc i))
 
 -- no id at two places below n
 abbrev pub Apart : ℕ → (ℕ → ℕ) → Type 0

@@ -10,13 +10,13 @@ use Rattle.rules.specs.declared.settings.Settings.{Settings}
 use Rattle.rules.specs.State.{Bucket, State}
 use Rattle.rules.specs.Sound.{sound}
 use Rattle.codec.specs.Codec.{_&_}
-use Rattle.layout.specs.Places.{of}
-use Rattle.layout.specs.Disk.{Agreed, Brick, Disk, blank-brick}
-use Rattle.layout.specs.Layout.{word-bytes, disk-codec, settings-of, store-words}
+use Rattle.layout.specs.Places.{by-id}
+use Rattle.layout.specs.Contents.{Agreed, Brick, Contents, blank-brick}
+use Rattle.layout.specs.Layout.{word-bytes, store-codec, settings-of, store-words}
 
 -- ---- from places to ids
-unfoldable pub brick-at : Disk → ℕ → Brick
-brick-at d = of (d .head .settings .places) (λ p. d .place p .fst) blank-brick (λ p. d .place p .snd)
+unfoldable pub brick-at : Contents → ℕ → Brick
+brick-at d = by-id (d .head .settings .places) (λ p. d .place p .fst) blank-brick (λ p. d .place p .snd)
 
 abbrev pub bucket-with : Agreed → ℕ → (ℕ → Brick) → Bucket
 bucket-with k g bricks = record {
@@ -26,13 +26,13 @@ bucket-with k g bricks = record {
   last-backup = k .last-backup;
   ready = k .ready;
   fetched = k .fetched;
-  order = k .order;
+  last-sent = k .last-sent;
   taken = k .taken;
   memory = λ i. bricks i .copies g .memory;
   disk = λ i. bricks i .copies g .disk;
 }
 
-abbrev pub state-with : Disk → (ℕ → Brick) → State
+abbrev pub state-with : Contents → (ℕ → Brick) → State
 state-with d bricks = record {
   settings = d .head .settings;
   ids = λ p. d .place p .fst;
@@ -40,7 +40,7 @@ state-with d bricks = record {
   view = d .head .view;
   started = d .head .started;
   bricks = record {
-    here = λ i. bricks i .here;
+    present = λ i. bricks i .present;
     up = λ i. bricks i .status .up;
     member = λ i. bricks i .status .member;
     began = λ i. bricks i .status .began;
@@ -55,13 +55,13 @@ state-with d bricks = record {
   known = λ p. d .proxy p .known;
 }
 
-abbrev pub to-state : Disk → State
+abbrev pub to-state : Contents → State
 to-state d = state-with d (brick-at d)
 
 -- ---- from ids to places
 abbrev pub brick-in : State → ℕ → Brick
 brick-in s i = record {
-  here = s .bricks .here i;
+  present = s .bricks .present i;
   status = record {
     up = s .bricks .up i;
     member = s .bricks .member i;
@@ -82,12 +82,12 @@ agreed-in k = record {
   last-backup = k .last-backup;
   ready = k .ready;
   fetched = k .fetched;
-  order = k .order;
+  last-sent = k .last-sent;
   taken = k .taken;
 }
 
-abbrev pub to-disk : State → Disk
-to-disk s = record {
+abbrev pub contents-of : State → Contents
+contents-of s = record {
   head = record { settings = s .settings; view = s .view; given = s .given; started = s .started };
   agreed = λ g. agreed-in (s .bucket g);
   proxy = λ p. record { known = s .known p; items = s .items p };
@@ -97,10 +97,10 @@ to-disk s = record {
 
 -- ---- words
 unfoldable pub decode : List ℕ → State
-decode ws = to-state (disk-codec (settings-of ws) .dec ws)
+decode ws = to-state (store-codec (settings-of ws) .dec ws)
 
 unfoldable pub render : State → List ℕ → List ℕ
-render s ws = disk-codec (s .settings) .enc (to-disk s) ws
+render s ws = store-codec (s .settings) .enc (contents-of s) ws
 
 -- ---- sound
 -- the length is that of the settings; the words are what their own state renders (so the first word is the layout's version, flags are 0 or 1, and

@@ -2,7 +2,7 @@
 ghost use mathlib.Core.Path.{_≡_};
 ghost use Prim.Native.Nat.{_+_, _≤_, _<_};
 ghost use Rattle.rules.specs.Limits.{buckets, proxies};
-ghost use Rattle.rules.proofs.Limits.{Limits};
+ghost use Rattle.rules.specs.Limits.{Limits};
 ghost use Rattle.layout.specs.Layout.{agreed-words, proxy-words, copy-words, copies-words, log-words, log-at, place-words};
 ghost use Rattle.layout.specs.Layout.{agreed-at, proxies-at, proxy-at, bag-at, places-at, place-at, store-words};
 ghost use Rattle.layout.specs.Store.{store-bytes};
@@ -51,9 +51,9 @@ pub const READY_AT: usize = LAST_BACKUP_AT + 1;
 
 pub const FETCHED_AT: usize = READY_AT + 1;
 
-pub const ORDER_AT: usize = FETCHED_AT + 1;
+pub const LAST_SENT_AT: usize = FETCHED_AT + 1;
 
-pub const TAKEN_AT: usize = ORDER_AT + 1;
+pub const TAKEN_AT: usize = LAST_SENT_AT + 1;
 
 pub const AGREED_WORDS: usize = TAKEN_AT + 1;
 

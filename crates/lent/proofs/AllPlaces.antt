@@ -12,9 +12,9 @@ use Rattle.rules.specs.State.{State}
 use Rattle.codec.specs.Codec.{Clean, change}
 use Rattle.codec.proofs.Focus.{nth, clean-part}
 use Rattle.codec.proofs.Loops.{written, loop-start, loop-end}
-use Rattle.layout.specs.Disk.{Place, blank-place}
+use Rattle.layout.specs.Contents.{Place, blank-place}
 use Rattle.layout.specs.Layout.{place-codec, all-places-codec, place-words, places-at}
-use Rattle.layout.specs.Store.{to-disk, decode, render}
+use Rattle.layout.specs.Store.{contents-of, decode, render}
 use Rattle.layout.proofs.Codecs.{place-law}
 use Rattle.layout.proofs.Foci.{all-places-in}
 use Rattle.layout.proofs.Lent.{each-changed, turn-part, change-turn, lent-length}
@@ -70,7 +70,7 @@ module _ (f : Place → Place) (c : Settings) (bs : List ℕ) (h : CleanPlaces c
 
 -- ---- all places of a store, in bytes vs that other changes have led to
 module _ (c : Settings) (bs : List ℕ) (v : StoreOf c bs) (t : State) (a : t .settings ≡ decode (words bs) .settings)
-    (q : to-disk t .place ≡ to-disk (decode (words bs)) .place) (vs : List ℕ) (w : words vs ≡ render t (words bs)) (l : length vs ≡ length bs)
+    (q : contents-of t .place ≡ contents-of (decode (words bs)) .place) (vs : List ℕ) (w : words vs ≡ render t (words bs)) (l : length vs ≡ length bs)
     (o e : ℕ) (eo : o ≡ 8 * places-at c) (ee : e ≡ o + 8 * all-places-codec c .size) where
   pub places-lent : CleanPlaces c (words (take (e - o) (drop o vs))) (length (take (e - o) (drop o vs)))
   places-lent =
@@ -81,8 +81,8 @@ module _ (c : Settings) (bs : List ℕ) (v : StoreOf c bs) (t : State) (a : t .s
         clean = subst (λ (x : List ℕ). Clean (all-places-codec c) x) (sym same) (clean-in c bs v (all-places-in c) (((refl, refl), refl), refl));
       }
 
-  pub places-changed : (u : State) → u .settings ≡ decode (words bs) .settings → to-disk t .head ≡ to-disk u .head → to-disk t .agreed ≡ to-disk u .agreed
-      → to-disk t .proxy ≡ to-disk u .proxy → t .bag ≡ u .bag → (f : Place → Place) → to-disk u .place ≡ (λ (p : ℕ). f (to-disk (decode (words bs)) .place p))
+  pub places-changed : (u : State) → u .settings ≡ decode (words bs) .settings → contents-of t .head ≡ contents-of u .head → contents-of t .agreed ≡ contents-of u .agreed
+      → contents-of t .proxy ≡ contents-of u .proxy → t .bag ≡ u .bag → (f : Place → Place) → contents-of u .place ≡ (λ (p : ℕ). f (contents-of (decode (words bs)) .place p))
       → (part : List ℕ) → length part ≡ e - o → words part ≡ change (all-places-codec c) (λ places p. f (places p)) (words (take (e - o) (drop o vs)))
       → words (take o vs ++ (part ++ drop (e - o) (drop o vs))) ≡ render u (words bs)
   places-changed u b eh ea ep eb f new part lp et =

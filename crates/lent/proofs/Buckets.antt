@@ -6,7 +6,7 @@ use Rattle.words.specs.Words.{words}
 use Rattle.rules.specs.declared.settings.Settings.{Settings}
 use Rattle.rules.specs.Limits.{buckets}
 use Rattle.rules.specs.Numbers.{bucket-of}
-use Rattle.rules.specs.Parts.{bucket-no}
+use Rattle.rules.specs.Derived.{bucket-no}
 use Rattle.layout.specs.Layout.{agreed-codec, agreed-part}
 use Rattle.layout.specs.Store.{agreed-in, decode}
 use Rattle.layout.proofs.Parts.{agreed-read}

@@ -10,9 +10,9 @@ use Rattle.rules.specs.declared.settings.Settings.{Settings}
 use Rattle.rules.specs.State.{State}
 use Rattle.codec.specs.Codec.{change}
 use Rattle.layout.specs.Places.{Apart}
-use Rattle.layout.specs.Disk.{Place}
+use Rattle.layout.specs.Contents.{Place}
 use Rattle.layout.specs.Layout.{place-codec, place-words, place-at, place-part}
-use Rattle.layout.specs.Store.{to-disk, decode, render}
+use Rattle.layout.specs.Store.{contents-of, decode, render}
 use Rattle.layout.proofs.Foci.{place-focus}
 use Rattle.layout.proofs.Sound.{sound-apart}
 use Rattle.layout.proofs.Lent.{lent, lent-length}
@@ -27,12 +27,12 @@ use Rattle.lent.proofs.Parts.{holds-brick}
 -- ---- state t is state s with place p changed, whose words are then those of f
 pub record ChangesPlace (s t : State) (p : ℕ) (f : Place → Place) : Type 0 where
   pub settings : t .settings ≡ s .settings
-  pub head : to-disk s .head ≡ to-disk t .head
-  pub agreed : to-disk s .agreed ≡ to-disk t .agreed
-  pub proxy : to-disk s .proxy ≡ to-disk t .proxy
+  pub head : contents-of s .head ≡ contents-of t .head
+  pub agreed : contents-of s .agreed ≡ contents-of t .agreed
+  pub proxy : contents-of s .proxy ≡ contents-of t .proxy
   pub bag : s .bag ≡ t .bag
-  pub others : (q : ℕ) → q < s .settings .places → (q ≡ p → ⊥) → to-disk s .place q ≡ to-disk t .place q
-  pub place : (c : Settings) (w : List ℕ) → place-codec c .enc (to-disk t .place p) w ≡ place-codec c .enc (f (to-disk s .place p)) w
+  pub others : (q : ℕ) → q < s .settings .places → (q ≡ p → ⊥) → contents-of s .place q ≡ contents-of t .place q
+  pub place : (c : Settings) (w : List ℕ) → place-codec c .enc (contents-of t .place p) w ≡ place-codec c .enc (f (contents-of s .place p)) w
 
 -- a brick stands at place p, and its id at no other
 pub record Filled (s : State) (p : ℕ) : Type 0 where
@@ -42,7 +42,7 @@ pub record Filled (s : State) (p : ℕ) : Type 0 where
 
 -- a change of that brick
 pub brick-changes : (s t : State) (p : ℕ) (f : Place → Place) → Filled s p
-    → t .settings ≡ s .settings → OneBrick s t (s .ids p) → to-disk t .place p ≡ f (to-disk s .place p) → ChangesPlace s t p f
+    → t .settings ≡ s .settings → OneBrick s t (s .ids p) → contents-of t .place p ≡ f (contents-of s .place p) → ChangesPlace s t p f
 brick-changes s t p f at same one e =
     let else = only-brick (s .settings) s t p (at .inside) (at .apart) (at .filled) one in
     record {
@@ -82,7 +82,7 @@ module _ {bs : List ℕ} {c : Settings} {p from to : ℕ} (l : LentPlace bs c p 
   }
 
   -- what the part says
-  pub part-read : place-codec c .dec (words part) ≡ to-disk (decode (words bs)) .place p
+  pub part-read : place-codec c .dec (words part) ≡ contents-of (decode (words bs)) .place p
   part-read = sym (place-is c bs part (l .store) p (l .inside) place-lent)
 
   module _ (o : 0 < decode (words bs) .ids p) where
@@ -107,8 +107,8 @@ module _ {bs : List ℕ} {c : Settings} {p from to : ℕ} (l : LentPlace bs c p 
   part-changed {t} {f} new k same w =
       let φ = place-focus c p (l .inside) in
       let old = place-part c p (words bs) in
-      let else : φ .Else (to-disk (decode (words bs))) (to-disk t) =
+      let else : φ .Else (contents-of (decode (words bs))) (contents-of t) =
       ((((k .head, k .agreed), k .proxy), k .bag), λ q h x. k .others q (rw (settings-are c bs (l .store)) h) x) in
       written-part c bs (l .store) φ t (k .settings) else new from to (l .span .start) (l .span .size) (same ∙ part-length) (change (place-codec c) f)
-      (ap (λ (v : Place). place-codec c .enc (f v) old) (sym (seen-in c bs (l .store) φ (φ .same (to-disk (decode (words bs))) (to-disk t) else)))
+      (ap (λ (v : Place). place-codec c .enc (f v) old) (sym (seen-in c bs (l .store) φ (φ .same (contents-of (decode (words bs))) (contents-of t) else)))
       ∙ sym (k .place c old)) w

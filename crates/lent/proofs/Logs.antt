@@ -14,7 +14,7 @@ use Rattle.rules.specs.declared.settings.Settings.{Settings}
 use Rattle.rules.specs.Chunks.{Chunk}
 use Rattle.rules.specs.State.{State}
 use Rattle.log.specs.Log.{IsLog}
-use Rattle.layout.specs.Disk.{Brick}
+use Rattle.layout.specs.Contents.{Brick}
 use Rattle.layout.specs.Layout.{word-bytes, log-codec, settings-of, log-words, place-words, store-words, place-at, log-at}
 use Rattle.layout.specs.Store.{brick-in, decode, render}
 use Rattle.layout.proofs.Sound.{SoundWords}
@@ -78,7 +78,7 @@ one-log s id k = record {
 }
   where
     same-but : ℕ → List Chunk → Brick
-    same-but i m = record { here = s .bricks .here i; status = brick-in s i .status; buffer = s .bricks .buffer i; copies = brick-in s i .copies; log = m }
+    same-but i m = record { present = s .bricks .present i; status = brick-in s i .status; buffer = s .bricks .buffer i; copies = brick-in s i .copies; log = m }
 
 log-changed-by : (ws : List ℕ) → SoundWords ws → (p : ℕ) → p < settings-of ws .places → 0 < decode ws .ids p → (k : List Chunk)
     → render (with-chunks (decode ws) (decode ws .ids p) k) ws

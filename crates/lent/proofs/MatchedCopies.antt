@@ -6,7 +6,7 @@ use Prim.Native.Nat.{ℕ, _+_, _*_, _≤_, _<_}
 use native.Mathlib.Nat.{add-zero}
 use native.Mathlib.Omega.{arith}
 use lib.ListN.{length, getD, take, drop, length-drop}
-use Rattle.lists.specs.Runs.{run, on-run, part}
+use Rattle.lists.specs.Runs.{run, on-run, nth-run}
 use Rattle.lists.proofs.Runs.{fits-in, run-at, run-length, run-all}
 use Rattle.words.specs.Words.{words}
 use Rattle.rules.specs.declared.settings.Settings.{Settings}
@@ -15,12 +15,12 @@ use Rattle.codec.specs.Codec.{Clean, change}
 use Rattle.codec.proofs.Round.{clean-via, clean-two, clean-table}
 use Rattle.codec.proofs.Focus.{part-changed}
 use Rattle.codec.proofs.Loops.{written, loop-start, loop-end}
-use Rattle.layout.specs.Disk.{Copies, blank-copies, copies-reading}
+use Rattle.layout.specs.Contents.{Copies, blank-copies, copies-reading}
 use Rattle.layout.specs.Layout.{copy-codec, copies-codec, all-copies-codec, copy-words, copies-words}
 use Rattle.layout.proofs.Codecs.{entry-exact, copies-law}
 use Rattle.layout.proofs.Foci.{memory-in, disk-in}
 use Rattle.layout.proofs.Lent.{each-changed, turn-part, change-turn}
-use Rattle.entries.specs.Words.{copied-entries}
+use Rattle.entries.specs.Entries.{copied-entries}
 use Rattle.lent.specs.Parts.{CopiesFit, AllCopiesFit, matched, all-matched}
 
 -- ---- one bucket
@@ -60,7 +60,7 @@ module _ (saving : Bool) (c : Settings) (w : List ℕ) (h : length w ≡ buckets
     pub match-fit : (len : ℕ) → AllCopiesFit c w len → CopiesFit c (words (take k (drop o s))) (length (take k (drop o s)))
     match-fit len fit =
         let same = turn-part (copies-codec c) (copies-law c) (buckets c) blank-copies (λ g. matched saving) w h g l s o k eo ek ls es in
-        let first : getD (part (copies-words c) g w) 0 0 ≡ getD w (g * copies-words c) 0 =
+        let first : getD (nth-run (copies-words c) g w) 0 0 ≡ getD w (g * copies-words c) 0 =
         run-at (g * copies-words c) (copies-words c) 0 w (omega arith) ∙ rw (add-zero (g * copies-words c)) in
         record {
           limits = fit .limits;

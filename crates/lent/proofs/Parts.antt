@@ -19,7 +19,7 @@ use Rattle.log.proofs.Check.{is-log}
 use Rattle.log.proofs.Codec.{dec-length, good-of-clean}
 use Rattle.codec.specs.Codec.{Clean}
 use Rattle.codec.proofs.Focus.{Focus, _through_, at-offset, part-length, clean-part}
-use Rattle.layout.specs.Disk.{entry-row, Place}
+use Rattle.layout.specs.Contents.{entry-row, Place}
 use Rattle.layout.specs.Layout.{entries-codec, buffer-codec, copy-codec, log-codec, place-codec, copy-words, log-words}
 use Rattle.layout.specs.Layout.{buffer-at, copies-at, log-at}
 use Rattle.layout.specs.Store.{decode}

@@ -13,7 +13,7 @@ use Rattle.log.specs.Log.{IsLog}
 use Rattle.codec.specs.Codec.{Codec, change}
 use Rattle.codec.proofs.Focus.{Focus, _through_}
 use Rattle.codec.proofs.Changes.{part-stays, value-changed}
-use Rattle.layout.specs.Disk.{Place}
+use Rattle.layout.specs.Contents.{Place}
 use Rattle.layout.specs.Layout.{all-copies-codec, place-codec, copy-words, copies-words, log-words, place-words, all-copies-at, copies-at, log-at}
 use Rattle.layout.proofs.Foci.{brick-in-place, all-copies-in, log-of}
 use Rattle.lent.specs.Places.{HoldsBrick}

@@ -12,15 +12,15 @@ use Rattle.lists.proofs.Tests.{by, both, no-second, and-l}
 use Rattle.words.specs.Words.{words}
 use Rattle.words.proofs.Laws.{length-words}
 use Rattle.rules.specs.declared.settings.Settings.{Settings}
-use Rattle.rules.specs.Parts.{up-member, is-up}
+use Rattle.rules.specs.Derived.{up-member, is-up}
 use Rattle.rules.specs.Question.{first-no, is-place}
 use Rattle.rules.specs.State.{State}
 use Rattle.rules.proofs.Questions.{all-yes}
 use Rattle.codec.specs.Codec.{Codec}
 use Rattle.codec.proofs.Focus.{Focus}
-use Rattle.layout.specs.Disk.{Place, Disk, blank-brick}
-use Rattle.layout.specs.Layout.{place-codec, disk-codec, settings-of, place-part, place-words}
-use Rattle.layout.specs.Store.{brick-at, brick-in, to-disk, decode}
+use Rattle.layout.specs.Contents.{Place, Contents, blank-brick}
+use Rattle.layout.specs.Layout.{place-codec, store-codec, settings-of, place-part, place-words}
+use Rattle.layout.specs.Store.{brick-at, brick-in, contents-of, decode}
 use Rattle.layout.proofs.Parts.{place-read}
 use Rattle.layout.proofs.Sound.{words-apart}
 use Rattle.layout.proofs.Places.{of-none}
@@ -37,9 +37,9 @@ pub record UpPlace (c : Settings) (s : State) (p : ℕ) : Type 0 where
 
 -- ---- a place
 module _ (c : Settings) (bs part : List ℕ) (v : StoreOf c bs) (p : ℕ) (l : p < c .places) (h : PlacePart c p bs part) where
-  pub place-is : to-disk (decode (words bs)) .place p ≡ place-codec c .dec (words part)
+  pub place-is : contents-of (decode (words bs)) .place p ≡ place-codec c .dec (words part)
   place-is =
-      subst (λ (x : Settings). p < x .places → words part ≡ place-part x p (words bs) → to-disk (decode (words bs)) .place p ≡ place-codec x .dec (words part))
+      subst (λ (x : Settings). p < x .places → words part ≡ place-part x p (words bs) → contents-of (decode (words bs)) .place p ≡ place-codec x .dec (words part))
       (sym (v .same))
       (λ m e. place-read (words bs) (v .sound .size) p m (words-apart (words bs) (v .sound)) ∙ ap (place-codec (settings-of (words bs)) .dec) (sym e)) l
       (h .same)
@@ -51,8 +51,8 @@ module _ (c : Settings) (bs part : List ℕ) (v : StoreOf c bs) (p : ℕ) (l : p
   part-words = length-words part ∙ omega (arith, h .size)
 
   -- a part of what stands there
-  pub seen : {B : Type 0} {d : Codec B} (φ : Focus (place-codec c) d) → φ .Else (to-disk (decode (words bs)) .place p) (to-disk (decode (words bs)) .place p)
-      → φ .see (to-disk (decode (words bs)) .place p) ≡ d .dec (run (φ .off) (d .size) (words part))
+  pub seen : {B : Type 0} {d : Codec B} (φ : Focus (place-codec c) d) → φ .Else (contents-of (decode (words bs)) .place p) (contents-of (decode (words bs)) .place p)
+      → φ .see (contents-of (decode (words bs)) .place p) ≡ d .dec (run (φ .off) (d .size) (words part))
   seen φ e = ap (φ .see) place-is ∙ φ .read (words part) part-words (rw place-is at e)
 
 -- ---- under an id that stands nowhere all is blank
@@ -63,7 +63,7 @@ nowhere c bs v id u = blank (words bs) id (λ p l. u p (rw (v .same) l))
     blank : (ws : List ℕ) (id : ℕ) → ((p : ℕ) → p < settings-of ws .places → decode ws .ids p ≡ id → 0 < id → ⊥) → brick-in (decode ws) id ≡ blank-brick
     blank ws id u =
         unfold decode settings-of brick-at in
-        let d : Disk = disk-codec (settings-of ws) .dec ws in
+        let d : Contents = store-codec (settings-of ws) .dec ws in
         of-none (d .head .settings .places) (λ p. d .place p .fst) blank-brick (λ p. d .place p .snd) id u
 
 module _ (c : Settings) (bs : List ℕ) (v : StoreOf c bs) where
@@ -90,7 +90,7 @@ module _ (c : Settings) (bs : List ℕ) (v : StoreOf c bs) where
 
   -- a brick that is up is there
   pub up-filled : (p : ℕ) → is-up (decode (words bs)) p ≡ true → 0 < decode (words bs) .ids p
-  up-filled p y = let id = decode (words bs) .ids p in facts c bs v .bricks .first id (facts c bs v .bricks .up-here id y)
+  up-filled p y = let id = decode (words bs) .ids p in facts c bs v .bricks .first id (facts c bs v .bricks .up-present id y)
 
   -- all of them answered yes
   pub place-yes : (p : ℕ) → first-no (place-asks (decode (words bs)) p) ≡ 0 → UpPlace c (decode (words bs)) p

@@ -10,7 +10,7 @@ use Rattle.lists.proofs.Columns.{upd-same, upd-other}
 use Rattle.words.specs.Words.{words}
 use Rattle.rules.specs.declared.settings.Settings.{Settings}
 use Rattle.rules.specs.Limits.{proxies, max-items}
-use Rattle.rules.specs.Numbers.{blocks, proxy-of}
+use Rattle.rules.specs.Numbers.{block-count, proxy-of}
 use Rattle.rules.specs.Entries.{Entry, remove}
 use Rattle.rules.specs.Maps.{item-goes}
 use Rattle.rules.specs.Question.{first-no, belongs}
@@ -60,7 +60,7 @@ known-read c bs v p h =
 -- ---- what is asked first of a proxy and a block
 pub record OwnBlock (p b : ℕ) : Type 0 where
   pub proxy : p < proxies
-  pub block : b < blocks
+  pub block : b < block-count
   pub own : belongs p b ≡ true
 
 pub block-yes : (p b : ℕ) → first-no (block-asks p b) ≡ 0 → OwnBlock p b
@@ -75,12 +75,12 @@ module _ (p b : ℕ) where
   no-proxy h = sym (first-stop 3 _ (le-ltb p proxies h))
 
   module _ (h : p < proxies) where
-    pub no-block : blocks ≤ b → 3 ≡ first-no (block-asks p b)
-    no-block i = sym (first-yes 3 _ (lt-ltb p proxies h) ∙ first-stop 3 _ (le-ltb b blocks i))
+    pub no-block : block-count ≤ b → 3 ≡ first-no (block-asks p b)
+    no-block i = sym (first-yes 3 _ (lt-ltb p proxies h) ∙ first-stop 3 _ (le-ltb b block-count i))
 
-    module _ (i : b < blocks) where
+    module _ (i : b < block-count) where
       pub is-own : proxy-of b ≡ p → 0 ≡ first-no (block-asks p b)
-      is-own e = sym (first-yes 3 _ (lt-ltb p proxies h) ∙ first-yes 3 _ (lt-ltb b blocks i) ∙ first-yes 4 [] (eq-eqb (proxy-of b) p e) ∙ none-asked)
+      is-own e = sym (first-yes 3 _ (lt-ltb p proxies h) ∙ first-yes 3 _ (lt-ltb b block-count i) ∙ first-yes 4 [] (eq-eqb (proxy-of b) p e) ∙ none-asked)
 
       pub not-own : (proxy-of b ≡ p → ⊥) → 4 ≡ first-no (block-asks p b)
-      not-own n = sym (first-yes 3 _ (lt-ltb p proxies h) ∙ first-yes 3 _ (lt-ltb b blocks i) ∙ first-stop 4 [] (ne-eqb (proxy-of b) p n))
+      not-own n = sym (first-yes 3 _ (lt-ltb p proxies h) ∙ first-yes 3 _ (lt-ltb b block-count i) ∙ first-stop 4 [] (ne-eqb (proxy-of b) p n))

@@ -12,7 +12,7 @@ use Rattle.rules.specs.Limits.{max-relays}
 use Rattle.rules.proofs.Limits.{limits}
 use Rattle.rules.proofs.Sound.{Sound}
 use Rattle.rules.proofs.SoundTest.{sound-facts}
-use Rattle.layout.specs.Disk.{relay-row}
+use Rattle.layout.specs.Contents.{relay-row}
 use Rattle.layout.specs.Layout.{settings-of, store-words, bag-words, bag-at, bag-part}
 use Rattle.layout.specs.Store.{decode, store-bytes}
 use Rattle.layout.proofs.Decoded.{settings-read, decoded-placed}

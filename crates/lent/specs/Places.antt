@@ -10,11 +10,11 @@ use Rattle.rules.specs.declared.settings.Settings.{Settings}
 use Rattle.rules.specs.Limits.{buckets}
 use Rattle.rules.specs.Chunks.{Chunk}
 use Rattle.rules.specs.State.{State, set-bricks, with-log}
-use Rattle.rules.specs.Parts.{up-member}
-use Rattle.rules.proofs.Limits.{Limits}
+use Rattle.rules.specs.Derived.{up-member}
+use Rattle.rules.specs.Limits.{Limits}
 use Rattle.log.specs.Log.{IsLog}
 use Rattle.codec.specs.Codec.{Clean, _&_}
-use Rattle.layout.specs.Disk.{Place, blank-brick}
+use Rattle.layout.specs.Contents.{Place, blank-brick}
 use Rattle.layout.specs.Layout.{word-bytes, place-codec, all-places-codec, copy-words, log-words, place-words, place-at, copies-at, log-at, place-part}
 use Rattle.layout.specs.Store.{brick-in, store-bytes}
 use Rattle.lent.specs.declared.brick.Found.{Found}
@@ -83,7 +83,7 @@ pub record CleanPlaces (c : Settings) (w : List ℕ) (len : ℕ) : Type 0 where
 
 -- the log of the place's brick changed, all else as it was
 abbrev pub on-log : (List Chunk → List Chunk) → Place → Place
-on-log f p = p .fst & record { here = p .snd .here; status = p .snd .status; buffer = p .snd .buffer; copies = p .snd .copies; log = f (p .snd .log) }
+on-log f p = p .fst & record { present = p .snd .present; status = p .snd .status; buffer = p .snd .buffer; copies = p .snd .copies; log = f (p .snd .log) }
 
 -- ---- a log of the store
 -- the word at which that of a place begins

@@ -2,7 +2,7 @@
 ghost use mathlib.Core.Path.{_≡_};
 ghost use Prim.Native.Nat.{_<_};
 ghost use Rattle.words.specs.Words.{words};
-ghost use Rattle.rules.specs.Parts.{up-member};
+ghost use Rattle.rules.specs.Derived.{up-member};
 ghost use Rattle.layout.specs.Store.{decode};
 ghost use Rattle.lent.specs.Stores.{StoreOf};
 ghost use Rattle.lent.specs.Places.{PlaceOf, MemberOf};

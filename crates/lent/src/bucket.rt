@@ -8,10 +8,10 @@ ghost use Rattle.rules.specs.Limits.{buckets};
 ghost use Rattle.rules.specs.Numbers.{bucket-of};
 ghost use Rattle.layout.specs.Layout.{agreed-codec, agreed-words, agreed-at};
 ghost use Rattle.layout.specs.Store.{agreed-in, decode, store-bytes};
-ghost use Rattle.parts.specs.Parts.{agreed-of};
+ghost use Rattle.records.specs.Records.{agreed-of};
 ghost use Rattle.lent.specs.Stores.{StoreOf};
 use layout::sizes;
-use parts::agreed::Agreed;
+use records::agreed::Agreed;
 use rules::numbers::BlockNumber;
 use rules::settings::Settings;
 
@@ -28,7 +28,7 @@ pub fn agreed(store: &[u8], settings: Settings, bucket: usize) -> Agreed
     ensures { λ r. ⌜ agreed-of r ≡ agreed-in (decode (words (now (store .entry))) .bucket bucket) ⌝ }
 {
     let at = 8 * sizes::agreed_at(settings, bucket);
-    parts::agreed::read(&store[at..at + 8 * sizes::AGREED_WORDS])
+    records::agreed::read(&store[at..at + 8 * sizes::AGREED_WORDS])
 }
 
 // It is written.
@@ -37,5 +37,5 @@ pub fn write(store: &mut [u8], settings: Settings, bucket: usize, agreed: Agreed
     ensures { λ _. ⌜ words (now (store .exit)) ≡ on-run (agreed-at bucket) agreed-words (agreed-codec .enc (agreed-of agreed)) (words (now (store .entry))) ⌝ }
 {
     let at = 8 * sizes::agreed_at(settings, bucket);
-    parts::agreed::write(&mut store[at..at + 8 * sizes::AGREED_WORDS], agreed);
+    records::agreed::write(&mut store[at..at + 8 * sizes::AGREED_WORDS], agreed);
 }

@@ -4,18 +4,18 @@ ghost use Prim.Native.Nat.{_+_, _≤_, _<_};
 ghost use Rattle.words.specs.Words.{words};
 ghost use Rattle.rules.specs.Limits.{buckets};
 ghost use lib.ListN.{length};
-ghost use Rattle.rules.specs.Parts.{up-member, is-up};
+ghost use Rattle.rules.specs.Derived.{up-member, is-up};
 ghost use Rattle.rules.specs.Question.{first-no};
-ghost use Rattle.rules.proofs.Limits.{Limits};
+ghost use Rattle.rules.specs.Limits.{Limits};
 ghost use Rattle.layout.specs.Layout.{copy-words, copies-words, copies-at, log-at};
 ghost use Rattle.layout.specs.Store.{brick-in, decode};
-ghost use Rattle.parts.specs.Parts.{status-of};
+ghost use Rattle.records.specs.Records.{status-of};
 ghost use Rattle.lent.specs.Stores.{StoreOf};
 ghost use Rattle.lent.specs.Asks.{place-asks};
 ghost use Rattle.lent.specs.Places.{PlacePart, SpanOf};
 ghost use Rattle.lent.specs.Parts.{CopyPart, BufferPart, LogPart};
 use layout::sizes;
-use parts::status::Status;
+use records::status::Status;
 use rules::settings::Settings;
 
 // The bytes of a place.
@@ -50,7 +50,7 @@ pub fn id(store: &[u8], settings: Settings, place: usize) -> u64
     requires { ⌜ StoreOf settings (now store) × (place < settings .places) ⌝ }
     ensures { λ r. ⌜ r ≡ decode (words (now (store .entry))) .ids place ⌝ }
 {
-    parts::place::id(part(store, settings, place), settings)
+    records::place::id(part(store, settings, place), settings)
 }
 
 // The status of the brick at a place.
@@ -59,7 +59,7 @@ pub fn status(store: &[u8], settings: Settings, place: usize) -> Status
     ensures { λ r. ⌜ status-of r
         ≡ brick-in (decode (words (now (store .entry)))) (decode (words (now (store .entry))) .ids place) .status ⌝ }
 {
-    parts::place::read_status(part(store, settings, place), settings)
+    records::place::read_status(part(store, settings, place), settings)
 }
 
 // Is the brick at a place up? An empty place has none.

@@ -7,11 +7,11 @@ ghost use Rattle.words.specs.Words.{words};
 ghost use Rattle.rules.specs.Entries.{insert, takes};
 ghost use Rattle.rules.specs.Limits.{proxies, max-items};
 ghost use Rattle.rules.specs.Maps.{item-goes};
-ghost use Rattle.rules.specs.Parts.{item};
+ghost use Rattle.rules.specs.Derived.{item};
 ghost use Rattle.rules.specs.Question.{first-no, knows-view, has-item};
 ghost use Rattle.layout.specs.Layout.{items-codec, items-at, proxy-at, store-words};
 ghost use Rattle.layout.specs.Store.{decode, render};
-ghost use Rattle.rules.proofs.Limits.{Limits};
+ghost use Rattle.rules.specs.Limits.{Limits};
 ghost use Rattle.lent.specs.Asks.{block-asks};
 ghost use Rattle.lent.specs.Parts.{CopyPart};
 ghost use Rattle.lent.specs.Stores.{StoreOf};
@@ -78,7 +78,7 @@ pub fn item(store: &[u8], settings: Settings, proxy: usize, block: BlockNumber) 
     requires { ⌜ StoreOf settings (now store) × (proxy < proxies) ⌝ }
     ensures { λ r. ⌜ r .0 ≡ item (decode (words (now (store .entry)))) proxy (block .0) ⌝ }
 {
-    entries::look(items(store, settings, proxy), constants::MAX_ITEMS, block)
+    entries::key_for(items(store, settings, proxy), constants::MAX_ITEMS, block)
 }
 
 // How many items it has.

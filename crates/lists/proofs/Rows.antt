@@ -7,8 +7,8 @@ use native.Mathlib.Numerals.{add-one}
 use native.Mathlib.Omega.{arith}
 use lib.ListN.{length, take, drop, getD, length-drop, length-map}
 use lib.Seq.{drop-append-add, take-add, take-at, drop-at, drop-drop, drop-cons, drop-length, length-take-le}
-use Rattle.lists.specs.Runs.{part, enc-all, Sized, none, more}
-use Rattle.lists.specs.Rows.{table-words, rows, table-dec, table-enc, row}
+use Rattle.lists.specs.Runs.{nth-run, enc-all, Sized, none, more}
+use Rattle.lists.specs.Rows.{table-words, rows, table-dec, table-enc, row-words}
 use Rattle.lists.proofs.Runs.{length-enc-all}
 
 -- ---- rows by place
@@ -32,7 +32,7 @@ module _ {A : Type 0} (w : ℕ) (read : List ℕ → A) where
       let e : suc n - suc p ≡ n - p = omega arith in
       rw (rows-drop p n (drop w ws) (le-of-suc-le-suc h), drop-drop (p * w) w ws, e, suc-mul p w, add-comm (p * w) w)
 
-  pub row-at : (n j : ℕ) (ws : List ℕ) (d : A) → j < n → getD (rows w read n ws) j d ≡ read (part w j ws)
+  pub row-at : (n j : ℕ) (ws : List ℕ) (d : A) → j < n → getD (rows w read n ws) j d ≡ read (nth-run w j ws)
   unfolding rows
   row-at zero j ws d h = absurd (not-suc-le-zero h)
   row-at (suc n) zero ws d h = rw zero-mul
@@ -40,7 +40,7 @@ module _ {A : Type 0} (w : ℕ) (read : List ℕ → A) where
       row-at n j (drop w ws) d (le-of-suc-le-suc h) ∙ rw (drop-drop (j * w) w ws, suc-mul j w, add-comm (j * w) w)
 
   -- from row j on: that row, and the rows after it; past the last none
-  pub rows-from : (n j : ℕ) (ws : List ℕ) → j < n → drop j (rows w read n ws) ≡ read (part w j ws) ∷ drop (j + 1) (rows w read n ws)
+  pub rows-from : (n j : ℕ) (ws : List ℕ) → j < n → drop j (rows w read n ws) ≡ read (nth-run w j ws) ∷ drop (j + 1) (rows w read n ws)
   rows-from n j ws h =
       let d = read [] in
       let l : j < length (rows w read n ws) = rw (length-rows n ws) h in
@@ -73,7 +73,7 @@ module _ {A : Type 0} (w : ℕ) (read : List ℕ → A) (write : A → List ℕ)
       more {x = read (take w ws)} (rw (exact (take w ws) l) l) (sized-rows n (drop w ws) (rw length-drop (omega arith)))
 
   -- as lists of words
-  pub rows-raw : (n : ℕ) (ws : List ℕ) → n * w ≤ length ws → map write (rows w read n ws) ≡ rows w row n ws
+  pub rows-raw : (n : ℕ) (ws : List ℕ) → n * w ≤ length ws → map write (rows w read n ws) ≡ rows w row-words n ws
   unfolding rows
   rows-raw zero ws h = refl
   rows-raw (suc n) ws h =
@@ -99,12 +99,12 @@ pub count-cons : (ws : List ℕ) → 0 < length ws → ws ≡ getD ws 0 0 ∷ dr
 count-cons ws h = drop-cons ws 0 0 h
 
 -- rows of any type, written as lists of words
-pub enc-all-raw : {A : Type 0} (write : A → List ℕ) (l : List A) → enc-all row (map write l) ≡ enc-all write l
+pub enc-all-raw : {A : Type 0} (write : A → List ℕ) (l : List A) → enc-all row-words (map write l) ≡ enc-all write l
 unfolding enc-all
 enc-all-raw write [] = refl
 enc-all-raw write (x ∷ l) = rw (enc-all-raw write l)
 
-pub enc-raw : {A : Type 0} (w : ℕ) (write : A → List ℕ) (l : List A) (ws : List ℕ) → table-enc w row (map write l) ws ≡ table-enc w write l ws
+pub enc-raw : {A : Type 0} (w : ℕ) (write : A → List ℕ) (l : List A) (ws : List ℕ) → table-enc w row-words (map write l) ws ≡ table-enc w write l ws
 unfolding table-enc
 enc-raw w write l ws = rw (length-map, enc-all-raw write l)
 
@@ -117,7 +117,7 @@ module _ (w most : ℕ) (ws : List ℕ) (hl : length ws ≡ table-words w most) 
 
   module _ {A : Type 0} (read : List ℕ → A) (write : A → List ℕ) where
     -- the rows read, as lists of words
-    pub dec-raw : ((r : List ℕ) → length r ≡ w → write (read r) ≡ r) → getD ws 0 0 ≤ most → map write (table-dec w read ws) ≡ table-dec w row ws
+    pub dec-raw : ((r : List ℕ) → length r ≡ w → write (read r) ≡ r) → getD ws 0 0 ≤ most → map write (table-dec w read ws) ≡ table-dec w row-words ws
     unfolding table-dec
     dec-raw exact few = rows-raw w read write exact (getD ws 0 0) (drop 1 ws) (in-rows few)
 

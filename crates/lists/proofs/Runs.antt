@@ -13,7 +13,7 @@ use mathlib.Core.Bool.{Bool, true}
 use borrow.Author.Tests.{ltb-true, lt-ltb}
 use Rattle.lists.specs.Tests.{every, only}
 use Rattle.lists.proofs.Tests.{by, and-l, and-r, both}
-use Rattle.lists.specs.Runs.{run, on-run, part, enc-all, Sized, none, more, Below}
+use Rattle.lists.specs.Runs.{run, on-run, nth-run, enc-all, Sized, none, more, Below}
 
 -- record i of n lies within n records: the one fact on products that offsets need
 pub fits-in : (size : ℕ) {i n : ℕ} → i < n → i * size + size ≤ n * size
@@ -195,7 +195,7 @@ module _ {A : Type 0} (enc : A → List ℕ) (size : ℕ) where
         ap (drop (i * size)) parted ∙ drop-at (enc-all enc (take i xs)) (enc-all enc (drop i xs)) (i * size) (length-front i r h)
 
   -- part i is record i's encoding
-  pub part-enc-all : (i : ℕ) (d : A) {xs : List A} → Sized enc size xs → i < length xs → part size i (enc-all enc xs) ≡ enc (getD xs i d)
+  pub part-enc-all : (i : ℕ) (d : A) {xs : List A} → Sized enc size xs → i < length xs → nth-run size i (enc-all enc xs) ≡ enc (getD xs i d)
   unfolding enc-all
   part-enc-all i d {xs} r h =
       rw (drop-enc-all i r (le-of-lt h), drop-cons xs i d h)

@@ -11,7 +11,7 @@ use mir.Val.{boolByte}
 use lib.Dec.{ltb, eqb}
 use lib.ListN.{length, getD}
 use borrow.Author.Tests.{eqb-true, eqb-false, eq-eqb, ltb-true, ltb-false}
-use Rattle.lists.specs.Tests.{_and_, _or_, all-below, some-below, count-below, every, some, same-numbers, only}
+use Rattle.lists.specs.Tests.{_and_, _or_, all-below, any-below, count-below, every, any, same-numbers, only}
 
 -- ---- cases on a test, keeping the equation
 pub by {ℓ} : {P : Type ℓ} (b : Bool) → (b ≡ true → P) → (b ≡ false → P) → P
@@ -141,8 +141,8 @@ all-same zero f g e = refl
 all-same (suc n) f g e = rw (all-same n f g (λ k h. e k (omega arith)), e n (omega arith))
 
 -- ---- some index below a bound
-pub some-at : (n : ℕ) (test : ℕ → Bool) (k : ℕ) → k < n → test k ≡ true → some-below n test ≡ true
-unfolding some-below
+pub some-at : (n : ℕ) (test : ℕ → Bool) (k : ℕ) → k < n → test k ≡ true → any-below n test ≡ true
+unfolding any-below
 some-at zero test k l y = absurd (omega arith)
 some-at (suc n) test k l y = by-eq k n (λ _ e. or-r _ _ (rw (← e) y)) (λ _ e. or-l _ _ (some-at n test k (omega arith) y))
 
@@ -192,8 +192,8 @@ every-at test [] d y i h = absurd (not-suc-le-zero h)
 every-at test (x ∷ l) d y zero h = and-l _ _ y
 every-at test (x ∷ l) d y (suc i) h = every-at test l d (and-r _ _ y) i (le-of-suc-le-suc h)
 
-pub some-of : {A : Type 0} (test : A → Bool) (l : List A) (x : A) → List·Memᴰ x l → test x ≡ true → some test l ≡ true
-unfolding some
+pub some-of : {A : Type 0} (test : A → Bool) (l : List A) (x : A) → List·Memᴰ x l → test x ≡ true → any test l ≡ true
+unfolding any
 some-of test [] x m y = absurd (List·Memᴰ·not-nil m)
 some-of test (z ∷ l) x m y = elim (List·Memᴰ·cases-cons m) [ inl e ↦ or-l _ _ (rw (← e) y) | inr t ↦ or-r _ _ (some-of test l x t y) ]
 

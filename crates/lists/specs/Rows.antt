@@ -26,5 +26,5 @@ unfoldable pub table-enc : {A : Type 0} → ℕ → (A → List ℕ) → List A 
 table-enc width write l ws = length l ∷ over-rows width write l (drop 1 ws)
 
 -- a row as the list of its words
-abbrev pub row : List ℕ → List ℕ
-row r = r
+abbrev pub row-words : List ℕ → List ℕ
+row-words r = r

@@ -13,8 +13,8 @@ unfoldable pub on-run : ℕ → ℕ → (List ℕ → List ℕ) → List ℕ →
 on-run a n f ws = take a ws ++ (f (run a n ws) ++ drop n (drop a ws))
 
 -- part i of a list seen as parts of one size
-abbrev pub part : ℕ → ℕ → List ℕ → List ℕ
-part size i ws = run (i * size) size ws
+abbrev pub nth-run : ℕ → ℕ → List ℕ → List ℕ
+nth-run size i ws = run (i * size) size ws
 
 -- an array of records: their encodings one after the other
 unfoldable pub enc-all : {A : Type 0} → (A → List ℕ) → List A → List ℕ

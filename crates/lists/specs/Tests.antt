@@ -23,9 +23,9 @@ all-below zero test = true
 all-below (suc n) test = all-below n test and test n
 
 -- the test holds of one of 0, 1, .., n - 1
-unfoldable pub some-below : ℕ → (ℕ → Bool) → Bool
-some-below zero test = false
-some-below (suc n) test = some-below n test or test n
+unfoldable pub any-below : ℕ → (ℕ → Bool) → Bool
+any-below zero test = false
+any-below (suc n) test = any-below n test or test n
 
 -- how many of 0, 1, .., n - 1 the test holds of
 unfoldable pub count-below : ℕ → (ℕ → Bool) → ℕ
@@ -38,9 +38,9 @@ every test [] = true
 every test (x ∷ l) = test x and every test l
 
 -- the test holds of some element
-unfoldable pub some : {A : Type 0} → (A → Bool) → List A → Bool
-some test [] = false
-some test (x ∷ l) = test x or some test l
+unfoldable pub any : {A : Type 0} → (A → Bool) → List A → Bool
+any test [] = false
+any test (x ∷ l) = test x or any test l
 
 -- the same numbers in the same order
 unfoldable pub same-numbers : List ℕ → List ℕ → Bool

@@ -10,7 +10,7 @@ use Rattle.lists.specs.Runs.{enc-all, Sized, none, more}
 use Rattle.lists.proofs.Runs.{fits-in, enc-all-append}
 use Rattle.log.specs.Positions.{positions}
 use Rattle.log.specs.Log.{Stored, stored, row-of, cell-of, stored-at, key-at, positions-of, rows-in, positions-in, cells-in, lay, over, write-log}
-use Rattle.log.specs.Log.{KeyPlace, Fits}
+use Rattle.log.specs.Log.{KeyBound, Fits}
 use Rattle.log.specs.Steps.{with-saved, put-saved, tag, entered}
 use Rattle.log.proofs.Positions as order
 use Rattle.log.proofs.Regions.{over-two, over-next, over-paste, over-hides, over-insert, over-set, lay-row, lay-rows, lay-position, lay-positions}
@@ -66,7 +66,7 @@ entered-lay L m p k s n R I C hr hi hp hm =
 
 module _ (L w : ℕ) (ys : List Stored) (ws : List ℕ) (hl : length ws ≡ 1 + 3 * L + L * w) (fit : Fits L w ys) (room : length ys < L)
     (x : Stored) (hx : length (x .cell) ≡ w) where
-  module _ (p : ℕ) (pl : KeyPlace L (length ys) (write-log L ys ws) (x .key) p) where
+  module _ (p : ℕ) (pl : KeyBound L (length ys) (write-log L ys ws) (x .key) p) where
     position-in : positions-of (ys ++ x ∷ []) ≡ take p (positions-of ys) ++ length ys ∷ drop p (positions-of ys)
     position-in =
         position-more ys x p (pl .within)

@@ -14,14 +14,14 @@ use Rattle.lists.specs.Tests.{_and_}
 use Rattle.lists.proofs.Tests.{all-at, all-true, and-l, and-r, both, same-test}
 use Rattle.lists.proofs.Ascending.{rising-from}
 use Rattle.log.specs.Log.{Stored, key-at, write-log, read-log}
-use Rattle.log.specs.Log.{row-key, row-saved, position-at, key-by, flag-at, below-at, rises-at, good-log, Ordered, LogWith, IsLog, KeyPlace, Fits, Good}
+use Rattle.log.specs.Log.{row-key, row-saved, position-at, key-by, flag-at, below-at, rises-at, good-log, Ordered, LogWith, IsLog, KeyBound, Fits, Good}
 use Rattle.log.specs.Log.{Lacks}
 use Rattle.log.specs.Steps.{row-good, good-order}
 use Rattle.log.proofs.Positions as order
 use Rattle.log.proofs.Chunks.{length-read, read-key, reach, log-write}
 
 module _ (L w : ℕ) (ws : List ℕ) (hl : length ws ≡ 1 + 3 * L + L * w) (few : getD ws 0 0 ≤ L) (ix : Ordered L (getD ws 0 0) ws)
-    (k r : ℕ) (pl : KeyPlace L (getD ws 0 0) ws k r) where
+    (k r : ℕ) (pl : KeyBound L (getD ws 0 0) ws k r) where
   pub found-at : r < getD ws 0 0 → key-by L ws r ≡ k → (position-at L ws r < length (read-log L w ws)) × (key-at (read-log L w ws) (position-at L ws r) ≡ k)
   found-at h e =
       (rw (length-read L w ws hl few) (ix .below r h), read-key L w ws hl few (position-at L ws r) (ix .below r h) ∙ e)

@@ -17,10 +17,10 @@ use Rattle.lists.proofs.Runs.{below-append, below-take, below-drop, below-repli
 use Rattle.words.specs.Words.{words}
 use Rattle.words.proofs.Laws.{length-words, words-below, words-unwords, unwords-words, length-unwords, unwords-below}
 use Rattle.rules.specs.Numbers.{is-data}
-use Rattle.rules.specs.Chunks.{Chunk, chunk}
+use Rattle.rules.specs.Chunks.{Chunk, new-chunk}
 use Rattle.rules.specs.Sound.{keys-apart}
 use Rattle.log.specs.Log.{Stored, stored, row-of, cell-of, stored-at, key-at, positions-of, rows-in, cells-in, lay, over, write-log, read-rows, read-log}
-use Rattle.log.specs.Log.{log-words, to-chunk, from-chunk, fixed, chunk-at, log-dec, log-enc, good-log, Ordered, IsLog, Fits, Good}
+use Rattle.log.specs.Log.{log-size, to-chunk, from-chunk, fixed, chunk-at, log-dec, log-enc, good-log, Ordered, IsLog, Fits, Good}
 use Rattle.log.proofs.Positions as order
 use Rattle.log.proofs.Rules.{apart-at, apart-of}
 use Rattle.log.proofs.Regions.{length-cells, row-word}
@@ -44,8 +44,8 @@ sized-from w (c ∷ cs) = more (length-fixed w (words (c .bytes))) (sized-from w
 pub fits-from : (L w : ℕ) (cs : List Chunk) → Fits L w (map (from-chunk w) (take L cs))
 fits-from L w cs = record { few = rw (length-map, length-take) (omega arith); sized = sized-from w (take L cs) }
 
-module _ (L w : ℕ) (cs : List Chunk) (ws : List ℕ) (hl : length ws ≡ log-words L w) where
-  pub log-keeps : length (log-enc L w cs ws) ≡ log-words L w
+module _ (L w : ℕ) (cs : List Chunk) (ws : List ℕ) (hl : length ws ≡ log-size L w) where
+  pub log-keeps : length (log-enc L w cs ws) ≡ log-size L w
   unfolding log-enc
   log-keeps = length-write L w (map (from-chunk w) (take L cs)) ws hl (fits-from L w cs)
 
@@ -79,7 +79,7 @@ rows-back w (suc n) r c h f b =
     λ i q. let e : 2 + (2 * i + 1) ≡ 2 * suc i + 1 = omega arith in rw (getD-drop 2 r (2 * i + 1) 0, e) (f (suc i) (suc-le-suc q)) in
     same-cons one (rows-back w n (drop 2 r) (drop w c) (rw length-drop (omega arith)) next (below-drop w b))
 
-module _ (L w : ℕ) (ws : List ℕ) (hl : length ws ≡ log-words L w) where
+module _ (L w : ℕ) (ws : List ℕ) (hl : length ws ≡ log-size L w) where
   pub dec-length : length (log-dec L w ws) ≡ getD ws 0 0
   unfolding log-dec read-log
   dec-length = length-map (read-log L w ws) to-chunk ∙ length-read-rows w (getD ws 0 0) (rows-in L ws) (cells-in L ws)
@@ -118,7 +118,7 @@ to-from-all w [] d = refl
 to-from-all w (c ∷ cs) d =
     rw (to-from-all w cs (λ x m. d x (List·Memᴰ·tail m))) (ap (λ (x : Chunk). x ∷ cs) (to-from w c (d c (List·Memᴰ·head refl))))
 
-module _ (L w : ℕ) (cs : List Chunk) (ws : List ℕ) (hl : length ws ≡ log-words L w) (few : length cs ≤ L)
+module _ (L w : ℕ) (cs : List Chunk) (ws : List ℕ) (hl : length ws ≡ log-size L w) (few : length cs ≤ L)
     (each : (c : Chunk) → List·Memᴰ c cs → is-data (8 * w) (c .bytes) ≡ true) where
   pub log-back : log-dec L w (log-enc L w cs ws) ≡ cs
   unfolding log-dec log-enc
@@ -177,15 +177,15 @@ good-from w cs a =
     flag-small false = omega arith
 
     at : (i : ℕ) → i < length cs → stored-at (map (from-chunk w) cs) i ≡ from-chunk w (chunk-at cs i)
-    at i h = getD-map-in (from-chunk w) cs i (stored 0 0 []) (chunk 0 false []) h
+    at i h = getD-map-in (from-chunk w) cs i (stored 0 0 []) (new-chunk 0 false []) h
 
-pub log-good : (L w : ℕ) (cs : List Chunk) (ws : List ℕ) → length ws ≡ log-words L w → length cs ≤ L → keys-apart cs ≡ true
+pub log-good : (L w : ℕ) (cs : List Chunk) (ws : List ℕ) → length ws ≡ log-size L w → length cs ≤ L → keys-apart cs ≡ true
     → good-log L (log-enc L w cs ws) ≡ true
 log-good L w cs ws hl few a =
     rw (log-enc-is L w cs ws few)
     (good-write L w (map (from-chunk w) cs) ws hl (record { few = rw length-map few; sized = sized-from w cs }) (good-from w cs a))
 
-module _ (L w : ℕ) (ws : List ℕ) (hl : length ws ≡ log-words L w) (few : getD ws 0 0 ≤ L) where
+module _ (L w : ℕ) (ws : List ℕ) (hl : length ws ≡ log-size L w) (few : getD ws 0 0 ≤ L) where
   pub good-of-clean : log-enc L w (log-dec L w ws) ws ≡ ws → keys-apart (log-dec L w ws) ≡ true → good-log L ws ≡ true
   good-of-clean e a = rw e at (log-good L w (log-dec L w ws) ws hl (rw (dec-length L w ws hl) few) a)
 
@@ -196,7 +196,7 @@ module _ (L w : ℕ) (ws : List ℕ) (hl : length ws ≡ log-words L w) (few : g
       distinct-read L w ws hl few o i j p q2 (sym (key i (omega arith)) ∙ e ∙ key j q2))
     where
       key : (i : ℕ) → i < length (read-log L w ws) → chunk-at (map to-chunk (read-log L w ws)) i .key ≡ key-at (read-log L w ws) i
-      key i h = ap (λ (c : Chunk). c .key) (getD-map-in to-chunk (read-log L w ws) i (chunk 0 false []) (stored 0 0 []) h)
+      key i h = ap (λ (c : Chunk). c .key) (getD-map-in to-chunk (read-log L w ws) i (new-chunk 0 false []) (stored 0 0 []) h)
 
 -- each chunk read has data of its size
 rows-data : (w n : ℕ) (r c : List ℕ) → n * w ≤ length c → (x : Chunk) → List·Memᴰ x (map to-chunk (read-rows w n r c)) → is-data (8 * w) (x .bytes) ≡ true
@@ -209,7 +209,7 @@ rows-data w (suc n) r c h x m =
       | inr t ↦ rows-data w n (drop 2 r) (drop w c) (rw length-drop (omega arith)) x t
     ]
 
-pub dec-data : (L w : ℕ) (ws : List ℕ) → length ws ≡ log-words L w → getD ws 0 0 ≤ L → (x : Chunk) → List·Memᴰ x (log-dec L w ws)
+pub dec-data : (L w : ℕ) (ws : List ℕ) → length ws ≡ log-size L w → getD ws 0 0 ≤ L → (x : Chunk) → List·Memᴰ x (log-dec L w ws)
     → is-data (8 * w) (x .bytes) ≡ true
 unfolding log-dec read-log
 dec-data L w ws hl few x m =

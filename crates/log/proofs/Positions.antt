@@ -221,7 +221,7 @@ module _ (f : ℕ → ℕ) where
   positions-asc (suc n) h =
       asc-insert n (all-map (λ q l. h q n l (omega arith)) (positions-below n)) (positions-asc n (λ i j p q. h i j p (omega arith)))
 
-  -- where the keys before place p are below the new one's and the next is not
+  -- where the keys before index p are below the new one's and the next is not
   pub insert-at : (q : ℕ) (xs : List ℕ) (p : ℕ) → p ≤ length xs → ((j : ℕ) → j < p → f (getD xs j 0) < f q)
       → (p < length xs → f q ≤ f (getD xs p 0)) → insert-position f q xs ≡ take p xs ++ q ∷ drop p xs
   unfolding insert-position
@@ -253,7 +253,7 @@ distinct f n xs e b a i j h l =
     let u = unique f n xs e b a in
     asc-apart f a (rw u (positions-has f n i (lt-trans h l))) (rw u (positions-has f n j l)) (λ k. omega arith)
 
--- one key more, at the end of the keys: its position goes in at the place of its key
+-- one key more, at the end of the keys: its position goes in at the index of its key
 pub grow : (f g : ℕ → ℕ) (m k p : ℕ) → ((i : ℕ) → i < m → g i ≡ f i) → g m ≡ k → p ≤ m
     → ((j : ℕ) → j < p → f (getD (positions f m) j 0) < k) → (p < m → k ≤ f (getD (positions f m) p 0))
     → positions g (suc m) ≡ take p (positions f m) ++ m ∷ drop p (positions f m)

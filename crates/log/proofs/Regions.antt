@@ -44,7 +44,7 @@ over-two A R a b m e h =
         let l : length (A ++ a ∷ []) ≡ m + 1 = rw length-append (omega arith) in
         rw (set-at A y (z ∷ Z) a m e, ← flat Z z, set-at (A ++ a ∷ []) z Z b (m + 1) l) (flat2 Z)
 
--- a word goes in at place p of the front
+-- a word goes in at index p of the front
 set-mid : (T D Z : List ℕ) (y q p : ℕ) → length T ≡ p → set ((T ++ y ∷ []) ++ D ++ Z) p q ≡ (T ++ q ∷ D) ++ Z
 set-mid T D Z y q p e = simp append-assoc (set-at T y (D ++ Z) q p e)
 
@@ -204,7 +204,7 @@ module _ (n : ℕ) (r i c : List ℕ) where
       let d : drop (q + k) (lay n r i c) ≡ drop (b + k) c = rw (lay-split, g2) (drop-append-add (n ∷ (r ++ i)) c (b + k)) in
       rw (t, d) (regroup n r i (take b c) (take k s) (drop (b + k) c))
 
-  -- positions from place p on moved up by one
+  -- positions from index p on moved up by one
   pub lay-shift : (q q′ p k : ℕ) → q ≡ suc (length r + p) → q′ ≡ suc (length r + (p + 1)) → p + 1 + k ≤ length i
       → paste (lay n r i c) q′ (drop q (lay n r i c)) k ≡ lay n r (paste i (p + 1) (drop p i) k) c
   unfolding lay

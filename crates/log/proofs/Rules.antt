@@ -1,4 +1,4 @@
--- The rules' chunk lists by place: what the chunk found at a place says of the list, and a change of one chunk.
+-- The rules' chunk lists by index: what the chunk found at a index says of the list, and a change of one chunk.
 use mathlib.Core.Path.{_≡_, refl, sym, ap, _∙_}
 use mathlib.Core.Logic.{_≢_, inl, inr}
 use mathlib.Core.Bool.{Bool, true, false}
@@ -9,22 +9,22 @@ use native.Mathlib.Omega.{arith}
 use lib.Dec.{eqb}
 use lib.ListN.{length, set}
 use borrow.Author.Tests.{eq-eqb, ne-eqb, eqb-true}
-use Rattle.lists.specs.Tests.{_and_, _or_, some}
+use Rattle.lists.specs.Tests.{_and_, _or_, any}
 use Rattle.lists.proofs.Lists.{same-cons}
 use Rattle.lists.proofs.Tests.{by, impossible, no, is-no, and-l, and-r, both, or-l, or-r, or-cases}
-use Rattle.rules.specs.Chunks.{Chunk, chunk, held, saved-in, bytes-in, save, save-key}
+use Rattle.rules.specs.Chunks.{Chunk, new-chunk, held, saved-in, bytes-in, save, save-key}
 use Rattle.rules.specs.Sound.{keys-apart}
 use Rattle.log.specs.Log.{chunk-at}
 
 -- ---- held, by places
 pub held-at : (cs : List Chunk) (k i : ℕ) → i < length cs → chunk-at cs i .key ≡ k → held cs k ≡ true
-unfolding held some
+unfolding held any
 held-at [] k i h e = absurd (not-suc-le-zero h)
 held-at (c ∷ cs) k zero h e = or-l _ _ (eq-eqb k (c .key) (sym e))
 held-at (c ∷ cs) k (suc i) h e = or-r _ _ (held-at cs k i (le-of-suc-le-suc h) e)
 
 at-held : (cs : List Chunk) (k : ℕ) → held cs k ≡ true → (i : ℕ) × (i < length cs) × (chunk-at cs i .key ≡ k)
-unfolding held some
+unfolding held any
 at-held [] k h = impossible h
 at-held (c ∷ cs) k h = elim (or-cases _ _ h) [
   | inl q ↦ (0, omega arith, sym (eqb-true k (c .key) q))
@@ -59,17 +59,17 @@ rest-apart c cs a = and-r _ _ a
 
 -- ---- a key that none has is saved nowhere, and saving it changes nothing
 pub none-saved : (cs : List Chunk) (k : ℕ) → held cs k ≡ false → saved-in cs k ≡ false
-unfolding held saved-in some _or_ _and_
+unfolding held saved-in any _or_ _and_
 none-saved [] k h = refl
 none-saved (c ∷ cs) k h = by (eqb k (c .key)) (λ q. impossible (sym (rw q at h))) (λ q. rw q (none-saved cs k (rw q at h)))
 
 pub none-to-save : (cs : List Chunk) (k : ℕ) → held cs k ≡ false → save-key cs k ≡ cs
-unfolding held save-key some _or_
+unfolding held save-key any _or_
 none-to-save [] k h = refl
 none-to-save (c ∷ cs) k h =
     by (eqb k (c .key)) (λ q. impossible (sym (rw q at h))) (λ q. rw q (ap (λ (l : List Chunk). c ∷ l) (none-to-save cs k (rw q at h))))
 
--- ---- what the chunk found at a place says
+-- ---- what the chunk found at a index says
 one-flag : (t s r : Bool) → t ≡ true → r ≡ false → (t and s) or r ≡ s
 unfolding _and_ _or_
 one-flag t s r e f = rw (e, f) (by s (λ q. rw q) (λ q. rw q))
@@ -83,7 +83,7 @@ module _ (k : ℕ) where
   other c cs p a h e = ne-eqb k (c .key) (λ q. apart-at (c ∷ cs) a 0 (suc p) (omega arith) (suc-le-suc h) (sym q ∙ sym e))
 
   pub found-saved : (cs : List Chunk) (p : ℕ) → keys-apart cs ≡ true → p < length cs → chunk-at cs p .key ≡ k → saved-in cs k ≡ chunk-at cs p .saved
-  unfolding saved-in some
+  unfolding saved-in any
   found-saved [] p a h e = absurd (not-suc-le-zero h)
   found-saved (c ∷ cs) zero a h e =
       one-flag (eqb k (c .key)) (c .saved) (saved-in cs k) (eq-eqb k (c .key) (sym e)) (none-saved cs k (rw e at (first-apart c cs a)))
@@ -103,6 +103,6 @@ module _ (k : ℕ) where
   unfolding save-key _or_
   found-save [] p a h e = absurd (not-suc-le-zero h)
   found-save (c ∷ cs) zero a h e =
-      same-cons (ap (λ (t : Bool). chunk (c .key) (t or c .saved) (c .bytes)) (eq-eqb k (c .key) (sym e))) (none-to-save cs k (rw e at (first-apart c cs a)))
+      same-cons (ap (λ (t : Bool). new-chunk (c .key) (t or c .saved) (c .bytes)) (eq-eqb k (c .key) (sym e))) (none-to-save cs k (rw e at (first-apart c cs a)))
   found-save (c ∷ cs) (suc p) a h e =
       rw (other c cs p a (le-of-suc-le-suc h) e) (ap (λ (l : List Chunk). c ∷ l) (found-save cs p (rest-apart c cs a) (le-of-suc-le-suc h) e))

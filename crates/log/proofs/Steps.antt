@@ -17,9 +17,9 @@ use Rattle.lists.proofs.Lists.{getD-map-in}
 use Rattle.lists.proofs.Runs.{fits-in, run-length, paste-run, on-by, on-same, below-take, below-drop}
 use Rattle.words.specs.Words.{words, unwords}
 use Rattle.words.proofs.Laws.{length-words, lent-run, words-part, words-below, words-unwords, unwords-words}
-use Rattle.rules.specs.Chunks.{Chunk, chunk, append, held, saved-in, save, save-all, save-key}
+use Rattle.rules.specs.Chunks.{Chunk, new-chunk, append, held, saved-in, save, save-all, save-key}
 use Rattle.codec.specs.Codec.{change}
-use Rattle.log.specs.Log.{Stored, stored, stored-at, write-log, read-log, LogWith, IsLog, KeyPlace, Fits, log-words, to-chunk, from-chunk, chunk-at, log-dec}
+use Rattle.log.specs.Log.{Stored, stored, stored-at, write-log, read-log, LogWith, IsLog, KeyBound, Fits, log-size, to-chunk, from-chunk, chunk-at, log-dec}
 use Rattle.log.specs.Log.{log-enc, chunks-codec, row-saved, position-at, key-by}
 use Rattle.log.specs.Steps.{cell-in, with-next, entered, put-saved, with-saved, tag}
 use Rattle.log.specs.Answers.{FoundAt}
@@ -38,12 +38,12 @@ pub enter-steps : (L m p k s : ℕ) (w0 w1 w2 w3 w4 w5 : List ℕ)
 unfolding entered
 enter-steps L m p k s w0 w1 w2 w3 w4 w5 e1 e2 e3 e4 e5 = rw (e5, e4, e3, e2, e1)
 
-pub no-chunks : (L w : ℕ) (s : List ℕ) → length s ≡ 8 * log-words L w → set (words s) 0 0 ≡ log-enc L w [] (words s)
-no-chunks L w s e = cleared L w (words s) (counted s (log-words L w) e) ∙ sym (log-enc-is L w [] (words s) (omega arith))
+pub no-chunks : (L w : ℕ) (s : List ℕ) → length s ≡ 8 * log-size L w → set (words s) 0 0 ≡ log-enc L w [] (words s)
+no-chunks L w s e = cleared L w (words s) (counted s (log-size L w) e) ∙ sym (log-enc-is L w [] (words s) (omega arith))
 
 module _ {top : ℕ} (L w : ℕ) (s : List ℕ) (o : LogWith top L w (words s) (length s)) where
-  pub sizes : length (words s) ≡ log-words L w
-  sizes = counted s (log-words L w) (o .size)
+  pub sizes : length (words s) ≡ log-size L w
+  sizes = counted s (log-size L w) (o .size)
 
   pub same : write-log L (read-log L w (words s)) (words s) ≡ words s
   same = write-read L w (words s) sizes (o .few) (o .order)
@@ -53,10 +53,10 @@ module _ {top : ℕ} (L w : ℕ) (s : List ℕ) (o : LogWith top L w (words s) (
 
   pub dec-at : (p : ℕ) → p < length (read-log L w (words s)) → chunk-at (log-dec L w (words s)) p ≡ to-chunk (stored-at (read-log L w (words s)) p)
   unfolding log-dec
-  dec-at p h = getD-map-in to-chunk (read-log L w (words s)) p (chunk 0 false []) (stored 0 0 []) h
+  dec-at p h = getD-map-in to-chunk (read-log L w (words s)) p (new-chunk 0 false []) (stored 0 0 []) h
 
   -- ---- look-up
-  module _ (k r : ℕ) (pl : KeyPlace L (getD (words s) 0 0) (words s) k r) where
+  module _ (k r : ℕ) (pl : KeyBound L (getD (words s) 0 0) (words s) k r) where
     pub found : r < getD (words s) 0 0 → key-by L (words s) r ≡ k → FoundAt (log-dec L w (words s)) k (position-at L (words s) r)
     found h e =
         let f = found-at L w (words s) sizes (o .few) (o .order) k r pl h e in
@@ -71,7 +71,7 @@ module _ {top : ℕ} (L w : ℕ) (s : List ℕ) (o : LogWith top L w (words s) (
         let q : i < length (read-log L w (words s)) = rw (dec-length L w (words s) sizes, ← count-is) at h in
         found-none L w (words s) sizes (o .few) (o .order) k r pl f i q (sym (ap (λ (c : Chunk). c .key) (dec-at i q)) ∙ e))
 
-  -- the place where a key is found is that of a row in use
+  -- the index where a key is found is that of a row in use
   pub found-row : (k p : ℕ) → FoundAt (log-dec L w (words s)) k p → p < getD (words s) 0 0
   found-row k p f = rw (← dec-length L w (words s) sizes) (f .in-use)
 
@@ -107,7 +107,7 @@ module _ {top : ℕ} (L w : ℕ) (s : List ℕ) (o : LogWith top L w (words s) (
   tag-start g = sym same
 
 -- ---- words d come into the cell after the last, at q, which is not in use
-module _ (L w : ℕ) (ws : List ℕ) (len : ℕ) (o : IsLog L w ws len) (hl : length ws ≡ log-words L w) (room : getD ws 0 0 < L) (d : List ℕ) (q : ℕ)
+module _ (L w : ℕ) (ws : List ℕ) (len : ℕ) (o : IsLog L w ws len) (hl : length ws ≡ log-size L w) (room : getD ws 0 0 < L) (d : List ℕ) (q : ℕ)
     (eq : q ≡ 1 + 3 * L + getD ws 0 0 * w) (ld : w ≤ length d) where
   abbrev after : List ℕ
   after = paste ws q d w
@@ -126,7 +126,7 @@ module _ (L w : ℕ) (ws : List ℕ) (len : ℕ) (o : IsLog L w ws len) (hl : le
       ap (λ (l : List ℕ). paste l q d w) (sym (write-read L w ws hl (o .few) (o .order)))
       ∙ write-leaves L w ws hl (getD ws 0 0 * w) w q d eq (omega (arith, inside)) (read-log L w ws) fits (rw many)
 
-  pub placed-length : length after ≡ log-words L w
+  pub placed-length : length after ≡ log-size L w
   placed-length = length-paste ws q d w (omega (arith, inside)) ld ∙ hl
 
   -- the chunks are the same
@@ -154,14 +154,14 @@ module _ (L w : ℕ) (ws : List ℕ) (len : ℕ) (o : IsLog L w ws len) (hl : le
 
   -- appended there, the chunk has these bytes
   pub placed : (k : ℕ) (saved : Bool)
-      → with-next L w k saved after ≡ change (chunks-codec L w) (λ l. append l (chunk k saved (unwords (take w d)))) ws
+      → with-next L w k saved after ≡ change (chunks-codec L w) (λ l. append l (new-chunk k saved (unwords (take w d)))) ws
   placed k saved =
-      let cs : List Chunk = append (log-dec L w ws) (chunk k saved (unwords (take w d))) in
+      let cs : List Chunk = append (log-dec L w ws) (new-chunk k saved (unwords (take w d))) in
       let few : length cs ≤ L = rw (length-append, dec-length L w ws hl) (omega arith) in
       let long : length (map (from-chunk w) cs) ≡ getD ws 0 0 + 1 = rw (length-map, length-append, dec-length L w ws hl) (omega arith) in
       let z : (getD ws 0 0 + 1) * w ≡ getD ws 0 0 * w + w = rw (add-one (getD ws 0 0), suc-mul) in
-      ap (λ (b : List ℕ). log-enc L w (append (log-dec L w after) (chunk k saved (unwords b))) after) cell-placed
-      ∙ ap (λ (l : List Chunk). log-enc L w (append l (chunk k saved (unwords (take w d)))) after) dec-placed
+      ap (λ (b : List ℕ). log-enc L w (append (log-dec L w after) (new-chunk k saved (unwords b))) after) cell-placed
+      ∙ ap (λ (l : List Chunk). log-enc L w (append l (new-chunk k saved (unwords (take w d)))) after) dec-placed
       ∙ log-enc-is L w cs after few
       ∙ write-hides L w ws hl (getD ws 0 0 * w) w q d eq (omega (arith, inside)) (map (from-chunk w) cs) (sized-from w cs) (rw (long, z) (le-refl _)) ld
       ∙ sym (log-enc-is L w cs ws few)
@@ -189,7 +189,7 @@ module _ (L w : ℕ) (s : List ℕ) (o : IsLog L w (words s) (length s)) (b : Be
 
   -- its row is entered, and its bytes stand in its cell
   pub append-leaves : (n p k : ℕ) (saved : Bool) (v : ℕ) (s1 : List ℕ) → v ≡ cond saved 1 0 → getD (words s) 0 0 < L → n ≡ getD (words s) 0 0
-      → KeyPlace L n (words s) k p → words s1 ≡ entered L n p k v (words s) → words s1 ≡ with-next L w k saved (words s)
+      → KeyBound L n (words s) k p → words s1 ≡ entered L n p k v (words s) → words s1 ≡ with-next L w k saved (words s)
   append-leaves n p k saved v s1 ev room en pl e1 =
       let xs : List Stored = read-log L w (words s) in
       let cs : List Chunk = log-dec L w (words s) in
@@ -199,13 +199,13 @@ module _ (L w : ℕ) (s : List ℕ) (o : IsLog L w (words s) (length s)) (b : Be
       let lc : length cell ≡ w = run-length (1 + 3 * L + getD (words s) 0 0 * w) w (words s) (omega (arith, sizes L w s o)) in
       let there : cell ≡ take w (drop (length xs * w) (drop (1 + 3 * L) (words s))) =
       rw (drop-drop (length xs * w) (1 + 3 * L) (words s), count-is L w s o) in
-      let pl2 : KeyPlace L (length xs) (write-log L xs (words s)) k p = rw (same L w s o, e) pl in
+      let pl2 : KeyBound L (length xs) (write-log L xs (words s)) k p = rw (same L w s o, e) pl in
       let g = pushed L w xs (words s) (sizes L w s o) (fits-read L w (words s) (sizes L w s o) (o .few)) (rw (count-is L w s o) room)
       (stored k v cell) lc p pl2 there in
       e1 ∙ (rw (same L w s o, e) at g)
-      ∙ as-chunks (xs ++ stored k v cell ∷ []) (append cs (chunk k saved (unwords cell)))
+      ∙ as-chunks (xs ++ stored k v cell ∷ []) (append cs (new-chunk k saved (unwords cell)))
       (rw (length-append, dec-length L w (words s) (sizes L w s o)) (omega arith))
-      (map-more cs (chunk k saved (unwords cell))
+      (map-more cs (new-chunk k saved (unwords cell))
       ∙ rw (chunks-back, words-unwords (below-take w (below-drop (1 + 3 * L + getD (words s) 0 0 * w) (words-below b))), fixed-same w cell lc, ev))
 
   -- its bytes d are copied into its cell first: t are the bytes q to q + z then
@@ -234,11 +234,11 @@ module _ (L w : ℕ) (s : List ℕ) (o : IsLog L w (words s) (length s)) (b : Be
         rw (copied-is, l) (log, rw count room)
 
     pub copied-leaves : (k : ℕ) (saved : Bool) → Below 256 d
-        → with-next L w k saved (words copied) ≡ log-enc L w (append (log-dec L w (words s)) (chunk k saved d)) (words s)
+        → with-next L w k saved (words copied) ≡ log-enc L w (append (log-dec L w (words s)) (new-chunk k saved d)) (words s)
     copied-leaves k saved bd =
         ap (with-next L w k saved) copied-is
         ∙ placed L w (words s) (length s) o (sizes L w s o) room (words d) (1 + 3 * L + at) start (omega (arith, lw)) k saved
-        ∙ ap (λ (x : List ℕ). log-enc L w (append (log-dec L w (words s)) (chunk k saved x)) (words s))
+        ∙ ap (λ (x : List ℕ). log-enc L w (append (log-dec L w (words s)) (new-chunk k saved x)) (words s))
         (ap unwords (take-all w (words d) (omega (arith, lw))) ∙ unwords-words d w bd ld)
 
   -- ---- chunks that become saved

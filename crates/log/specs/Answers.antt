@@ -9,7 +9,7 @@ use Rattle.log.specs.Log.{chunk-at}
 use Rattle.log.specs.declared.Found.{Found}
 use Rattle.log.specs.declared.Found.the-variants.{At, Nothing}
 
--- the chunk at place p has the key
+-- the chunk at index p has the key
 pub record FoundAt (cs : List Chunk) (k p : ℕ) : Type 0 where
   pub in-use : p < length cs
   pub same : chunk-at cs p .key ≡ k

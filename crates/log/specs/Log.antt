@@ -11,13 +11,13 @@ use Rattle.lists.specs.Tests.{_and_, all-below}
 use Rattle.lists.specs.Runs.{run, enc-all, Sized}
 use Rattle.lists.specs.Ascending.{FirstNotBelow}
 use Rattle.words.specs.Words.{words, unwords}
-use Rattle.rules.specs.Chunks.{Chunk, chunk}
+use Rattle.rules.specs.Chunks.{Chunk, new-chunk}
 use Rattle.codec.specs.Codec.{Codec}
 use Rattle.log.specs.Positions.{positions}
 
 -- so many words has a log
-abbrev pub log-words : ℕ → ℕ → ℕ
-log-words chunks width = 1 + 3 * chunks + chunks * width
+abbrev pub log-size : ℕ → ℕ → ℕ
+log-size chunks width = 1 + 3 * chunks + chunks * width
 
 -- ---- chunks as words: the saved word is 0 or 1, and more only while chunks are marked
 pub record Stored : Type 0 where
@@ -80,7 +80,7 @@ read-log chunks width ws = read-rows width (getD ws 0 0) (rows-in chunks ws) (ce
 
 -- ---- the same as the rules' chunks: read from words, and written over words (at most so many, each cell of its size)
 abbrev pub to-chunk : Stored → Chunk
-to-chunk x = chunk (x .key) (eqb (x .saved) 1) (unwords (x .cell))
+to-chunk x = new-chunk (x .key) (eqb (x .saved) 1) (unwords (x .cell))
 
 unfoldable pub fixed : ℕ → List ℕ → List ℕ
 fixed width ws = take width (ws ++ replicate width 0)
@@ -89,7 +89,7 @@ abbrev pub from-chunk : ℕ → Chunk → Stored
 from-chunk width c = stored (c .key) (cond (c .saved) 1 0) (fixed width (words (c .bytes)))
 
 abbrev pub chunk-at : List Chunk → ℕ → Chunk
-chunk-at cs i = getD cs i (chunk 0 false [])
+chunk-at cs i = getD cs i (new-chunk 0 false [])
 
 unfoldable pub log-dec : ℕ → ℕ → List ℕ → List Chunk
 log-dec chunks width ws = map to-chunk (read-log chunks width ws)
@@ -99,7 +99,7 @@ log-enc chunks width cs ws = write-log chunks (map (from-chunk width) (take chun
 
 -- a log as one codec of a list of chunks
 abbrev pub chunks-codec : ℕ → ℕ → Codec (List Chunk)
-chunks-codec chunks width = record { size = log-words chunks width; dec = log-dec chunks width; enc = log-enc chunks width }
+chunks-codec chunks width = record { size = log-size chunks width; dec = log-dec chunks width; enc = log-enc chunks width }
 
 -- ---- the check
 abbrev pub row-key : List ℕ → ℕ → ℕ
@@ -140,16 +140,16 @@ pub record Ordered (chunks n : ℕ) (ws : List ℕ) : Type 0 where
 -- len bytes, with the words ws, are a log whose saved words are at most top
 pub record LogWith (top chunks width : ℕ) (ws : List ℕ) (len : ℕ) : Type 0 where
   pub few : getD ws 0 0 ≤ chunks
-  pub size : len ≡ 8 * log-words chunks width
+  pub size : len ≡ 8 * log-size chunks width
   pub flags : (i : ℕ) → i < getD ws 0 0 → row-saved ws i ≤ top
   pub order : Ordered chunks (getD ws 0 0) ws
 
 abbrev pub IsLog : ℕ → ℕ → List ℕ → ℕ → Type 0
 IsLog chunks width ws len = LogWith 1 chunks width ws len
 
--- r is the first place of the order whose key is not below k
-abbrev pub KeyPlace : ℕ → ℕ → List ℕ → ℕ → ℕ → Type 0
-KeyPlace chunks n ws k r = FirstNotBelow (key-by chunks ws) n k r
+-- r is the first index of the order whose key is not below k
+abbrev pub KeyBound : ℕ → ℕ → List ℕ → ℕ → ℕ → Type 0
+KeyBound chunks n ws k r = FirstNotBelow (key-by chunks ws) n k r
 
 -- chunks that a log's words can hold
 pub record Fits (chunks width : ℕ) (xs : List Stored) : Type 0 where

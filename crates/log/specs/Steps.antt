@@ -7,7 +7,7 @@ use lib.Seq.{paste}
 use Rattle.lists.specs.Tests.{_and_, all-below}
 use Rattle.lists.specs.Runs.{run}
 use Rattle.words.specs.Words.{unwords}
-use Rattle.rules.specs.Chunks.{chunk, append}
+use Rattle.rules.specs.Chunks.{new-chunk, append}
 use Rattle.codec.specs.Codec.{change}
 use Rattle.log.specs.Log.{chunks-codec, Stored, stored, stored-at, position-at, flag-at, below-at, rises-at}
 
@@ -20,7 +20,7 @@ next-bytes chunks width ws = unwords (cell-in chunks width (getD ws 0 0) ws)
 
 -- a chunk more: the one whose bytes stand there
 abbrev pub with-next : ℕ → ℕ → ℕ → Bool → List ℕ → List ℕ
-with-next chunks width k saved ws = change (chunks-codec chunks width) (λ l. append l (chunk k saved (next-bytes chunks width ws))) ws
+with-next chunks width k saved ws = change (chunks-codec chunks width) (λ l. append l (new-chunk k saved (next-bytes chunks width ws))) ws
 
 -- the check in one pass along the positions: each is that of a row in use whose flag is in range, and keys ascend
 abbrev pub row-good : ℕ → ℕ → List ℕ → ℕ → Bool
@@ -43,7 +43,7 @@ tag g zero xs = xs
 tag g (suc i) [] = []
 tag g (suc i) (x ∷ xs) = with-saved (g 0) x ∷ tag (λ j. g (suc j)) i xs
 
--- ---- one more row: row n written, its position in at place p of the order, and counted
+-- ---- one more row: row n written, its position in at index p of the order, and counted
 unfoldable pub entered : ℕ → ℕ → ℕ → ℕ → ℕ → List ℕ → List ℕ
 entered chunks n p k s ws =
     let o = 1 + 2 * chunks in

@@ -5,16 +5,16 @@ ghost use mathlib.Core.List.{[]};
 ghost use Prim.Native.Nat.{_+_, _*_, _<_, _≤_};
 ghost use lib.ListN.{length, getD};
 ghost use Rattle.words.specs.Words.{words};
-ghost use Rattle.rules.specs.Chunks.{chunk, append, held, saved-in, save-all, save-key};
+ghost use Rattle.rules.specs.Chunks.{new-chunk, append, held, saved-in, save-all, save-key};
 ghost use Rattle.codec.specs.Codec.{change};
-ghost use Rattle.log.specs.Log.{chunks-codec, log-words, chunk-at, position-at, key-by, Ordered, LogWith, IsLog, KeyPlace};
+ghost use Rattle.log.specs.Log.{chunks-codec, log-size, chunk-at, position-at, key-by, Ordered, LogWith, IsLog, KeyBound};
 ghost use Rattle.log.specs.Steps.{with-next, entered};
 ghost use Rattle.log.specs.Answers.{FoundIn};
 use rules::numbers::ChunkKey;
 
 // ---- look-up
 
-// The key of the row at place j of the order.
+// The key of the row at index j of the order.
 fn key_by(log: &[u8], chunks: usize, j: usize) -> u64
     requires { ⌜ (j < chunks) × (position-at chunks (words (now log)) j < chunks) × (8 * (1 + 3 * chunks) ≤ length (now log)) ⌝ }
     ensures { λ r. ⌜ r ≡ key-by chunks (words (now (log .entry))) j ⌝ }
@@ -23,11 +23,11 @@ fn key_by(log: &[u8], chunks: usize, j: usize) -> u64
     words::read(log, 1 + 2 * p)
 }
 
-// The first place among the first n of the order whose key is not below k.
-fn place(log: &[u8], chunks: usize, n: usize, k: u64) -> usize
+// The first index among the first n of the order whose key is not below k.
+fn lower_bound(log: &[u8], chunks: usize, n: usize, k: u64) -> usize
     requires { ⌜ (n ≤ chunks) × (8 * (1 + 3 * chunks) ≤ length (now log)) ⌝ }
     requires { ⌜ Ordered chunks n (words (now log)) ⌝ }
-    ensures { λ r. ⌜ KeyPlace chunks n (words (now (log .entry))) k r ⌝ }
+    ensures { λ r. ⌜ KeyBound chunks n (words (now (log .entry))) k r ⌝ }
 {
     let mut lo = 0;
     let mut hi = n;
@@ -42,7 +42,7 @@ fn place(log: &[u8], chunks: usize, n: usize, k: u64) -> usize
     lo
 }
 
-// The chunk that has a key, by its place in the log.
+// The chunk that has a key, by its index in the log.
 pub enum Found {
     At(usize),
     Nothing,
@@ -54,7 +54,7 @@ pub fn find(log: &[u8], chunks: usize, width: usize, k: ChunkKey) -> Found
     ensures { λ r. ⌜ FoundIn (chunks-codec chunks width .dec (words (now (log .entry)))) (k .0) r ⌝ }
 {
     let n = words::read(log, 0) as usize;
-    let p = place(log, chunks, n, k.0);
+    let p = lower_bound(log, chunks, n, k.0);
     if p < n {
         if key_by(log, chunks, p) == k.0 {
             return Found::At(words::read(log, 1 + 2 * chunks + p) as usize);
@@ -86,7 +86,7 @@ pub fn holds_saved(log: &[u8], chunks: usize, width: usize, k: ChunkKey) -> bool
     }
 }
 
-// The bytes of the chunk at a place: a part of the log.
+// The bytes of the chunk at a index: a part of the log.
 pub fn bytes_at<'a>(log: &'a [u8], chunks: usize, width: usize, p: usize) -> &'a [u8]
     requires { ⌜ LogWith 3 chunks width (words (now log)) (length (now log)) ⌝ }
     requires { ⌜ p < getD (words (now log)) 0 0 ⌝ }
@@ -101,13 +101,13 @@ pub fn bytes_at<'a>(log: &'a [u8], chunks: usize, width: usize, p: usize) -> &'a
 
 // No chunks.
 pub fn clear(log: &mut [u8], chunks: usize, width: usize)
-    requires { ⌜ length (now log) ≡ 8 * log-words chunks width ⌝ }
+    requires { ⌜ length (now log) ≡ 8 * log-size chunks width ⌝ }
     ensures { λ _. ⌜ words (now (log .exit)) ≡ change (chunks-codec chunks width) (λ l. []) (words (now (log .entry))) ⌝ }
 {
     words::write(log, 0, 0);
 }
 
-// Row n becomes (key, saved), its position goes to place p of the order, and it counts.
+// Row n becomes (key, saved), its position goes to index p of the order, and it counts.
 fn enter(log: &mut [u8], chunks: usize, n: usize, p: usize, key: u64, saved: u64)
     requires { ⌜ (p ≤ n) × (n < chunks) × (8 * (1 + 3 * chunks) ≤ length (now log)) ⌝ }
     ensures { λ _. ⌜ words (now (log .exit)) ≡ entered chunks n p key saved (words (now (log .entry))) ⌝ }
@@ -125,7 +125,7 @@ pub fn append_in_place(log: &mut [u8], chunks: usize, width: usize, key: ChunkKe
     ensures { λ _. ⌜ words (now (log .exit)) ≡ with-next chunks width (key .0) saved (words (now (log .entry))) ⌝ }
 {
     let n = words::read(log, 0) as usize;
-    let p = place(log, chunks, n, key.0);
+    let p = lower_bound(log, chunks, n, key.0);
     enter(log, chunks, n, p, key.0, saved as u64);
 }
 
@@ -134,7 +134,7 @@ pub fn append(log: &mut [u8], chunks: usize, width: usize, key: ChunkKey, saved:
     requires { ⌜ IsLog chunks width (words (now log)) (length (now log)) ⌝ }
     requires { ⌜ (getD (words (now log)) 0 0 < chunks) × (length (now bytes) ≡ 8 * width) ⌝ }
     ensures { λ _. ⌜ words (now (log .exit))
-        ≡ change (chunks-codec chunks width) (λ l. append l (chunk (key .0) saved (now (bytes .entry)))) (words (now (log .entry))) ⌝ }
+        ≡ change (chunks-codec chunks width) (λ l. append l (new-chunk (key .0) saved (now (bytes .entry)))) (words (now (log .entry))) ⌝ }
 {
     let n = words::read(log, 0) as usize;
     let at = words::offset(n, width, chunks);

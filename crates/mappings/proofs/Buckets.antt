@@ -11,8 +11,8 @@ use Rattle.rules.specs.Limits.{buckets}
 use Rattle.rules.specs.Numbers.{bucket-of}
 use Rattle.rules.specs.Entries.{Entry, takes}
 use Rattle.rules.specs.State.{State}
-use Rattle.rules.specs.Parts.{up-member, bucket-no, bucket-at}
-use Rattle.layout.specs.Disk.{Agreed, Brick, blank-brick}
+use Rattle.rules.specs.Derived.{up-member, bucket-no, bucket-at}
+use Rattle.layout.specs.Contents.{Agreed, Brick, blank-brick}
 use Rattle.layout.specs.Store.{brick-in, agreed-in, decode}
 use Rattle.lent.specs.Stores.{StoreOf}
 use Rattle.lent.proofs.Stores.{settings-are}

@@ -13,7 +13,7 @@ use Rattle.rules.specs.Entries.{Entry, insert}
 use Rattle.rules.specs.State.{State, Bucket, with-copies}
 use Rattle.codec.specs.Codec.{change}
 use Rattle.codec.proofs.Focus.{Focus, _through_}
-use Rattle.layout.specs.Disk.{Copies, Brick}
+use Rattle.layout.specs.Contents.{Copies, Brick}
 use Rattle.layout.specs.Layout.{brick-codec, copy-codec, copy-words, copies-at, place-at}
 use Rattle.layout.specs.Store.{brick-in, agreed-in, decode, render}
 use Rattle.layout.proofs.Changes.{OneBrick}
@@ -31,7 +31,7 @@ both-copies k i = record { memory = k .memory i; disk = k .disk i }
 
 -- a brick with other copies, the rest as it is
 abbrev pub set-brick-copies : Brick → (ℕ → Copies) → Brick
-set-brick-copies b f = record { here = b .here; status = b .status; buffer = b .buffer; copies = f; log = b .log }
+set-brick-copies b f = record { present = b .present; status = b .status; buffer = b .buffer; copies = f; log = b .log }
 
 -- ---- the change is one of that brick's copy alone
 module _ (s : State) (g id block key : ℕ) where

@@ -12,12 +12,12 @@ use Rattle.rules.specs.Entries.{Entry, entry}
 use Rattle.rules.specs.State.{State}
 use Rattle.tables.specs.Tables.{IsTable}
 use Rattle.codec.specs.Codec.{change}
-use Rattle.layout.specs.Disk.{entry-row}
+use Rattle.layout.specs.Contents.{entry-row}
 use Rattle.layout.specs.Layout.{buffer-codec, buffer-at, place-at}
 use Rattle.layout.specs.Store.{brick-in, decode, render}
 use Rattle.layout.proofs.Changes.{OneBrick}
 use Rattle.layout.proofs.Foci.{buffer-in}
-use Rattle.entries.specs.Words.{entry-words}
+use Rattle.entries.specs.Entries.{entry-words}
 use Rattle.lent.specs.Stores.{StoreOf}
 use Rattle.lent.proofs.Stores.{facts}
 use Rattle.entries.proofs.Tables.{count-is, is-table}
@@ -33,7 +33,7 @@ waiting-one s id block key = record {
   bag = refl;
   ids = refl;
   others = λ i q. ap (λ (l : List Entry). record {
-    here = brick-in s i .here;
+    present = brick-in s i .present;
     status = brick-in s i .status;
     buffer = l;
     copies = brick-in s i .copies;

@@ -3,7 +3,7 @@ ghost use mathlib.Core.Path.{_≡_};
 ghost use mathlib.Core.Bool.{true};
 ghost use Prim.Native.Nat.{_<_};
 ghost use Rattle.words.specs.Words.{words};
-ghost use Rattle.rules.specs.Entries.{look, has, takes};
+ghost use Rattle.rules.specs.Entries.{key-for, has, takes};
 ghost use Rattle.rules.specs.Limits.{buckets};
 ghost use Rattle.layout.specs.Store.{decode, render};
 ghost use Rattle.lent.specs.Stores.{StoreOf};
@@ -47,10 +47,10 @@ pub fn in_memory(
     guess: usize,
 ) -> ChunkKey
     requires { ⌜ StoreOf settings (now store) × (bucket < buckets settings) ⌝ }
-    ensures { λ r. ⌜ r .0 ≡ look (decode (words (now (store .entry))) .bucket bucket .memory id) (block .0) ⌝ }
+    ensures { λ r. ⌜ r .0 ≡ key-for (decode (words (now (store .entry))) .bucket bucket .memory id) (block .0) ⌝ }
 {
     match brick::place_of(store, settings, id) {
-        Found::At(place) => entries::look_near(
+        Found::At(place) => entries::key_near(
             place::memory(store, settings, place, bucket),
             settings.entries,
             block,
@@ -69,10 +69,10 @@ pub fn on_disk(
     guess: usize,
 ) -> ChunkKey
     requires { ⌜ StoreOf settings (now store) × (bucket < buckets settings) ⌝ }
-    ensures { λ r. ⌜ r .0 ≡ look (decode (words (now (store .entry))) .bucket bucket .disk id) (block .0) ⌝ }
+    ensures { λ r. ⌜ r .0 ≡ key-for (decode (words (now (store .entry))) .bucket bucket .disk id) (block .0) ⌝ }
 {
     match brick::place_of(store, settings, id) {
-        Found::At(place) => entries::look_near(
+        Found::At(place) => entries::key_near(
             place::disk(store, settings, place, bucket),
             settings.entries,
             block,

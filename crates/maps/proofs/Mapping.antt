@@ -12,10 +12,10 @@ use Rattle.rules.specs.Limits.{proxies, max-waiting}
 use Rattle.rules.specs.Entries.{takes}
 use Rattle.rules.specs.State.{State}
 use Rattle.rules.specs.Maps.{map-asks, map-effect}
-use Rattle.rules.specs.Parts.{up-member, bucket-no, bucket-at, item}
+use Rattle.rules.specs.Derived.{up-member, bucket-no, bucket-at, item}
 use Rattle.rules.specs.Question.{_asks_, first-no}
 use Rattle.rules.proofs.Questions.{first-yes, none-asked, all-yes, front-none}
-use Rattle.layout.specs.Disk.{Agreed, blank-brick}
+use Rattle.layout.specs.Contents.{Agreed, blank-brick}
 use Rattle.layout.specs.Store.{brick-in}
 use Rattle.mappings.specs.Asks.{access-asks}
 use Rattle.mappings.specs.Copies.{with-entry, with-waiting}

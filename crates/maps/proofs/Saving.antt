@@ -12,7 +12,7 @@ use Rattle.rules.specs.Entries.{Entry}
 use Rattle.rules.specs.State.{State}
 use Rattle.rules.specs.Maps.{savemap-effect}
 use Rattle.codec.specs.Codec.{change, _&_}
-use Rattle.layout.specs.Disk.{Copies, Place}
+use Rattle.layout.specs.Contents.{Copies, Place}
 use Rattle.layout.specs.Layout.{all-copies-codec, place-codec, all-copies-at, log-at}
 use Rattle.layout.specs.Store.{brick-in}
 use Rattle.layout.proofs.Changes.{OneBrick}

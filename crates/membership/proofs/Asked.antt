@@ -11,7 +11,7 @@ use Rattle.words.specs.Words.{words}
 use Rattle.rules.specs.declared.settings.Settings.{Settings}
 use Rattle.rules.specs.Limits.{max-id}
 use Rattle.rules.specs.State.{State}
-use Rattle.rules.specs.Parts.{is-empty}
+use Rattle.rules.specs.Derived.{is-empty}
 use Rattle.rules.specs.Question.{first-no, is-place}
 use Rattle.rules.specs.Membership.{crash-asks, lose-asks, rise-asks, join-asks}
 use Rattle.rules.proofs.Questions.{all-yes}

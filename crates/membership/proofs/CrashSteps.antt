@@ -13,10 +13,10 @@ use Rattle.codec.specs.Codec.{_&_}
 use Rattle.codec.proofs.Focus.{part-length}
 use Rattle.codec.proofs.Changes.{part-written}
 use Rattle.codec.proofs.Loops.{table-cleared}
-use Rattle.layout.specs.Disk.{Place, entry-row}
+use Rattle.layout.specs.Contents.{Place, entry-row}
 use Rattle.layout.specs.Layout.{buffer-codec, place-codec, place-words, buffer-at}
 use Rattle.layout.proofs.Foci.{buffer-of, brick-in-place}
-use Rattle.parts.specs.Parts.{with-status}
+use Rattle.records.specs.Records.{with-status}
 use Rattle.lent.specs.Places.{HoldsBrick}
 use Rattle.lent.proofs.PlaceSteps.{place-wide}
 use Rattle.membership.specs.Places.{fallen}
@@ -26,7 +26,7 @@ abbrev pub down : Place → Place
 down p = with-status (fallen (p .snd .status)) p
 
 abbrev pub unbuffered : Place → Place
-unbuffered p = p .fst & record { here = p .snd .here; status = fallen (p .snd .status); buffer = []; copies = p .snd .copies; log = p .snd .log }
+unbuffered p = p .fst & record { present = p .snd .present; status = fallen (p .snd .status); buffer = []; copies = p .snd .copies; log = p .snd .log }
 
 -- the buffer's count becomes 0
 module _ (c : Settings) (s : List ℕ) (k : HoldsBrick c (words s) (length s)) where

@@ -10,16 +10,16 @@ use Rattle.lists.proofs.Columns.{upd-same, upd-other}
 use Rattle.rules.specs.declared.settings.Settings.{Settings}
 use Rattle.rules.specs.Chunks.{only-saved}
 use Rattle.rules.specs.State.{State, set-bricks, set-buckets}
-use Rattle.rules.specs.Membership.{blank-brick, blank-copies, rise-effect, crash-effect, lose-effect, join-effect}
+use Rattle.rules.specs.Membership.{blanked-brick, blanked-copies, rise-effect, crash-effect, lose-effect, join-effect}
 use Rattle.codec.specs.Codec.{_&_}
-use Rattle.codec.proofs.Focus.{_through_, slot-none}
-use Rattle.layout.specs.Disk.{Brick, Place}
+use Rattle.codec.proofs.Focus.{_through_, if-present-none}
+use Rattle.layout.specs.Contents.{Brick, Place}
 use Rattle.layout.specs.Layout.{brick-codec, place-codec, settings-of, given-at}
-use Rattle.layout.specs.Store.{brick-in, to-disk, decode, render}
+use Rattle.layout.specs.Store.{brick-in, contents-of, decode, render}
 use Rattle.layout.proofs.Foci.{head-in, given-in}
 use Rattle.layout.proofs.Sound.{SoundWords}
 use Rattle.layout.proofs.Changes.{again-word}
-use Rattle.parts.specs.Parts.{with-id}
+use Rattle.records.specs.Records.{with-id}
 use Rattle.format.specs.First.{new-brick}
 use Rattle.lent.proofs.LentPlace.{ChangesPlace, Filled, brick-changes}
 use Rattle.membership.specs.Places.{risen, crashed, joined-status}
@@ -27,15 +27,15 @@ use Rattle.membership.specs.Places.{risen, crashed, joined-status}
 -- ---- an empty place's words are those past its id, whatever stood there
 empty-written : (c : Settings) (w : List ℕ) (x : Place) → x .fst ≡ 0 → place-codec c .enc x w ≡ 0 ∷ drop 1 w
 empty-written c w x e =
-    ap (λ (v : List ℕ). x .fst ∷ v) (slot-none (brick-codec c) (x .fst) (x .snd) (drop 1 w) e) ∙ ap (λ (i : ℕ). i ∷ drop 1 w) e
+    ap (λ (v : List ℕ). x .fst ∷ v) (if-present-none (brick-codec c) (x .fst) (x .snd) (drop 1 w) e) ∙ ap (λ (i : ℕ). i ∷ drop 1 w) e
 
 -- ---- a blank brick under an id leaves the others
 abbrev blanked : State → ℕ → Bool → State
-blanked s id there = set-buckets (set-bricks s (blank-brick (s .bricks) id there)) (λ g. blank-copies id (s .bucket g))
+blanked s id there = set-buckets (set-bricks s (blanked-brick (s .bricks) id there)) (λ g. blanked-copies id (s .bucket g))
 
 blank-others : (s : State) (id : ℕ) (there : Bool) (i : ℕ) → (i ≡ id → ⊥) → brick-in (blanked s id there) i ≡ brick-in s i
 blank-others s id there i n = λ k. record {
-  here = upd-other (s .bricks .here) id i there n k;
+  here = upd-other (s .bricks .present) id i there n k;
   status = record {
     up = upd-other (s .bricks .up) id i there n k;
     member = upd-other (s .bricks .member) id i false n k;
@@ -77,7 +77,7 @@ module _ (s : State) (p : ℕ) (at : Filled s p) where
   crash-others : (i : ℕ) → (i ≡ id → ⊥) → brick-in (crash-effect s id) i ≡ brick-in s i
   unfolding crash-effect
   crash-others i n = λ k. record {
-    here = s .bricks .here i;
+    here = s .bricks .present i;
     status = record {
       up = upd-other (s .bricks .up) id i false n k;
       member = upd-other (s .bricks .member) id i false n k;
@@ -93,10 +93,10 @@ module _ (s : State) (p : ℕ) (at : Filled s p) where
     log = upd-other (s .bricks .log) id i (only-saved (s .bricks .log id)) n k;
   }
 
-  crash-there : to-disk (crash-effect s id) .place p ≡ crashed (to-disk s .place p)
+  crash-there : contents-of (crash-effect s id) .place p ≡ crashed (contents-of s .place p)
   unfolding crash-effect
   crash-there = λ k. id & record {
-    here = s .bricks .here id;
+    here = s .bricks .present id;
     status = record {
       up = upd-same (s .bricks .up) id false k;
       member = upd-same (s .bricks .member) id false k;
@@ -129,8 +129,8 @@ module _ (s : State) (p : ℕ) (at : Filled s p) where
     proxy = refl;
     bag = refl;
     others = λ q l x. blank-places s p 0 id false q x (λ e. x (at .apart q p l (at .inside) e (omega (arith, at .filled, e))));
-    place = λ c w. empty-written c w (to-disk (lose-effect s p id) .place p) (upd-same (s .ids) p 0)
-        ∙ sym (empty-written c w (with-id 0 (to-disk s .place p)) refl);
+    place = λ c w. empty-written c w (contents-of (lose-effect s p id) .place p) (upd-same (s .ids) p 0)
+        ∙ sym (empty-written c w (with-id 0 (contents-of s .place p)) refl);
   }
 
 -- ---- join: a blank brick at an empty place, and then its id counts as given
@@ -142,8 +142,8 @@ module _ (s : State) (p : ℕ) where
     given = s .given;
     view = s .view;
     started = s .started;
-    bricks = blank-brick (s .bricks) (suc (s .given)) true;
-    bucket = λ g. blank-copies (suc (s .given)) (s .bucket g);
+    bricks = blanked-brick (s .bricks) (suc (s .given)) true;
+    bucket = λ g. blanked-copies (suc (s .given)) (s .bucket g);
     bag = s .bag;
     items = s .items;
     known = s .known;
@@ -151,7 +151,7 @@ module _ (s : State) (p : ℕ) where
 
   joined : (id : ℕ) → brick-in (blanked s id true) id ≡ new-brick joined-status
   joined id = λ k. record {
-    here = upd-same (s .bricks .here) id true k;
+    here = upd-same (s .bricks .present) id true k;
     status = record {
       up = upd-same (s .bricks .up) id true k;
       member = upd-same (s .bricks .member) id false k;
@@ -164,7 +164,7 @@ module _ (s : State) (p : ℕ) where
     log = upd-same (s .bricks .log) id [] k;
   }
 
-  seated-there : to-disk seated .place p ≡ suc (s .given) & new-brick joined-status
+  seated-there : contents-of seated .place p ≡ suc (s .given) & new-brick joined-status
   seated-there =
       ap (λ (i : ℕ). i & brick-in seated i) (upd-same (s .ids) p (suc (s .given)))
       ∙ ap (λ (b : Brick). suc (s .given) & b) (joined (suc (s .given)))

@@ -17,7 +17,7 @@ use lent::Answer;
 use lent::copies;
 use lent::place;
 use lent::place::Span;
-use parts::status::Status;
+use records::status::Status;
 use rules::settings::Settings;
 
 // Is there such a place, and is its brick up? The number of the first no, or 0.
@@ -41,7 +41,7 @@ fn crash_place(part: &mut [u8], settings: Settings)
 {
     let log = 8 * sizes::log_at(settings);
     let end = part.len();
-    let old = parts::place::read_status(part, settings);
+    let old = records::place::read_status(part, settings);
     let new = Status {
         up: false,
         member: false,
@@ -49,7 +49,7 @@ fn crash_place(part: &mut [u8], settings: Settings)
         next: old.ceiling,
         ceiling: old.ceiling,
     };
-    parts::place::write_status(part, settings, new);
+    records::place::write_status(part, settings, new);
     words::write(part, sizes::BUFFER_AT, 0);
     copies::match_all(&mut part[8 * sizes::COPIES_AT..log], settings, false);
     sweep::keep_saved(

@@ -11,7 +11,7 @@ use layout::sizes;
 use lent::Answer;
 use lent::place;
 use lent::place::Span;
-use parts::status::Status;
+use records::status::Status;
 use rules::constants;
 use rules::settings::Settings;
 

@@ -35,6 +35,6 @@ pub fn lose(store: &mut [u8], settings: Settings, place: u64) -> Answer
         return Answer::No(no);
     }
     let Span { from, to } = place::span_of(settings, place as usize);
-    parts::place::set_id(&mut store[from..to], settings, 0);
+    records::place::set_id(&mut store[from..to], settings, 0);
     Answer::Yes(0)
 }

@@ -15,7 +15,7 @@ ghost use Rattle.membership.specs.Places.{risen};
 use lent::Answer;
 use lent::place;
 use lent::place::Span;
-use parts::status::Status;
+use records::status::Status;
 use rules::settings::Settings;
 
 // Is there such a place, and a brick at it that is down? The number of the first no, or 0.
@@ -39,7 +39,7 @@ fn rise_place(part: &mut [u8], settings: Settings)
     requires { ⌜ HoldsBrick settings (words (now part)) (length (now part)) ⌝ }
     ensures { λ _. ⌜ words (now (part .exit)) ≡ change (place-codec settings) risen (words (now (part .entry))) ⌝ }
 {
-    let old = parts::place::read_status(part, settings);
+    let old = records::place::read_status(part, settings);
     let new = Status {
         up: true,
         member: old.member,
@@ -47,7 +47,7 @@ fn rise_place(part: &mut [u8], settings: Settings)
         next: old.next,
         ceiling: old.ceiling,
     };
-    parts::place::write_status(part, settings, new);
+    records::place::write_status(part, settings, new);
 }
 
 pub fn rise(store: &mut [u8], settings: Settings, place: u64) -> Answer

@@ -11,11 +11,11 @@ use Rattle.lists.proofs.Tests.{by, by-eq, impossible, clash, and-l, and-r, both
 use Rattle.lists.proofs.Columns.{upd-same, upd-other}
 use Rattle.rules.specs.Numbers.{home-of}
 use Rattle.rules.specs.Entries.{Entry}
-use Rattle.rules.specs.Chunks.{Chunk, chunk, held, bytes-in, append}
+use Rattle.rules.specs.Chunks.{Chunk, new-chunk, held, bytes-in, append}
 use Rattle.rules.specs.State.{State}
-use Rattle.rules.specs.Parts.{circle, seek, holder}
+use Rattle.rules.specs.Derived.{members-from, first-holder, holder}
 use Rattle.rules.specs.Upkeep.{of-first-two, mend-key, mend-keys}
-use Rattle.rules.proofs.Parts.{ids-in, circle-in, seek-held, seek-found}
+use Rattle.rules.proofs.Derived.{ids-in, members-from-in, first-holder-held, first-holder-found}
 use Rattle.lent.specs.Places.{with-chunks}
 use Rattle.mend.specs.Keys.{wants}
 use Rattle.mend.proofs.Mending.{key-none, key-saved, key-added, key-held, Sofar}
@@ -32,7 +32,7 @@ first-two-in id (one ∷ two ∷ rest) y = elim (or-cases _ _ y) [
 
 module _ (s : State) (id k : ℕ) where
   abbrev turn : Bool
-  turn = of-first-two id (circle s (home-of k))
+  turn = of-first-two id (members-from s (home-of k))
 
   pub wants-not : turn ≡ false → wants s id k ≡ false
   unfolding wants
@@ -51,8 +51,8 @@ module _ (s : State) (id k : ℕ) where
   wants-held y u h = wants-some y found
     where
       found : 0 < holder s k
-      found = unfold holder in seek-found (s .bricks) k id (circle s (home-of k)) (λ j m. ids-in _ _ j (circle-in s (home-of k) j m) .0)
-          (first-two-in id (circle s (home-of k)) y) u h
+      found = unfold holder in first-holder-found (s .bricks) k id (members-from s (home-of k)) (λ j m. ids-in _ _ j (members-from-in s (home-of k) j m) .0)
+          (first-two-in id (members-from s (home-of k)) y) u h
 
 -- ---- the log on the way
 module _ (s : State) (id : ℕ) (u : s .bricks .up id ≡ true) (l : List Chunk) (seen : ℕ → Bool) (o : Sofar s id l seen) where
@@ -70,26 +70,26 @@ module _ (s : State) (id : ℕ) (u : s .bricks .up id ≡ true) (l : List Chunk)
         ∙ sym (ap (λ (j : ℕ). held (s .bricks .log j) k) e ∙ was-not n))
         (λ _ e. ap (λ (m : List Chunk). held m k) (upd-other (s .bricks .log) id i l e))
 
-    seek-now : (ids : List ℕ) → held l k ≡ false → seek (now .bricks) k ids ≡ seek (s .bricks) k ids
-    unfolding seek
-    seek-now [] n = refl
-    seek-now (i ∷ ids) n = rw (held-now i n, seek-now ids n)
+    first-holder-now : (ids : List ℕ) → held l k ≡ false → first-holder (now .bricks) k ids ≡ first-holder (s .bricks) k ids
+    unfolding first-holder
+    first-holder-now [] n = refl
+    first-holder-now (i ∷ ids) n = rw (held-now i n, first-holder-now ids n)
 
     holder-now : held l k ≡ false → holder now k ≡ holder s k
-    unfolding holder circle
-    holder-now n = seek-now (circle s (home-of k)) n
+    unfolding holder members-from
+    holder-now n = first-holder-now (members-from s (home-of k)) n
 
     -- the chunk comes from another log
     bytes-now : held l k ≡ false → 0 < holder s k
         → bytes-in (now .bricks .log (holder now k)) k ≡ bytes-in (s .bricks .log (holder s k)) k
     bytes-now n h =
-        let it : held (s .bricks .log (holder s k)) k ≡ true = unfold holder in seek-held (s .bricks) k (circle s (home-of k)) h in
+        let it : held (s .bricks .log (holder s k)) k ≡ true = unfold holder in first-holder-held (s .bricks) k (members-from s (home-of k)) h in
         let other : holder s k ≡ id → ⊥ = λ e. clash (was-not n) (ap (λ (j : ℕ). held (s .bricks .log j) k) (sym e) ∙ it) in
         ap (λ (j : ℕ). bytes-in (now .bricks .log j) k) (holder-now n)
         ∙ ap (λ (m : List Chunk). bytes-in m k) (upd-other (s .bricks .log) id (holder s k) l other)
 
     same-turn : turn now id k ≡ turn s id k
-    unfolding circle
+    unfolding members-from
     same-turn = refl
 
     wants-now : wants now id k ≡ wants s id k
@@ -97,7 +97,7 @@ module _ (s : State) (id : ℕ) (u : s .bricks .up id ≡ true) (l : List Chunk)
         by (turn s id k)
         (λ y. by (held l k)
         (λ h. wants-held now id k (same-turn ∙ y) u (ap (λ (m : List Chunk). held m k) (upd-same (s .bricks .log) id l) ∙ h) ∙ sym (once h y))
-        (λ n. unfold wants circle in ap (λ (i : ℕ). of-first-two id (circle s (home-of k)) and ltb 0 i) (holder-now n)))
+        (λ n. unfold wants members-from in ap (λ (i : ℕ). of-first-two id (members-from s (home-of k)) and ltb 0 i) (holder-now n)))
         (λ z. wants-not now id k (same-turn ∙ z) ∙ sym (wants-not s id k z))
       where
         once : held l k ≡ true → turn s id k ≡ true → wants s id k ≡ true
@@ -113,7 +113,7 @@ module _ (s : State) (id : ℕ) (u : s .bricks .up id ≡ true) (l : List Chunk)
         (λ w. by (held m k)
         (λ h. key-saved now id m k (wants-now ∙ w) h ∙ sym (key-saved s id m k w h))
         (λ n. key-added now id m k (wants-now ∙ w) n
-        ∙ ap (λ (b : List ℕ). append m (chunk k true b)) (bytes-now (by (held l k) (λ y. clash n (grown y)) (λ z. z)) (some w))
+        ∙ ap (λ (b : List ℕ). append m (new-chunk k true b)) (bytes-now (by (held l k) (λ y. clash n (grown y)) (λ z. z)) (some w))
         ∙ sym (key-added s id m k w n)))
         (λ w. key-none now id m k (wants-now ∙ w) ∙ sym (key-none s id m k w))
 

@@ -17,7 +17,7 @@ use Rattle.rules.specs.declared.settings.Settings.{Settings}
 use Rattle.rules.specs.Chunks.{held}
 use Rattle.rules.specs.State.{State}
 use Rattle.rules.specs.Limits.{max-places, max-chunks}
-use Rattle.rules.specs.Parts.{holder}
+use Rattle.rules.specs.Derived.{holder}
 use Rattle.log.specs.Log.{chunk-at}
 use Rattle.log.specs.Answers.{FoundAt}
 use Rattle.log.proofs.Rules.{apart-at}

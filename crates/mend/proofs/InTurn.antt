@@ -21,7 +21,7 @@ use Rattle.rules.specs.Upkeep.{mend-key, mend-keys}
 use Rattle.log.proofs.Codec.{log-keeps}
 use Rattle.layout.specs.Layout.{word-bytes, log-codec, copy-codec, copy-words, log-words, store-words}
 use Rattle.layout.specs.Store.{decode}
-use Rattle.entries.specs.Words.{entry-at}
+use Rattle.entries.specs.Entries.{entry-at}
 use Rattle.lent.proofs.Stores.{facts}
 use Rattle.named.specs.Tables.{TableAt, AtCopies}
 use Rattle.named.proofs.Runs.{on-at-after}

@@ -8,15 +8,15 @@ use native.Mathlib.Omega.{arith}
 use lib.Dec.{eqb}
 use lib.ListN.{length, take, length-append}
 use lib.Seq.{take-length}
-use Rattle.lists.specs.Tests.{_and_, _or_, some, some-below, count-below}
+use Rattle.lists.specs.Tests.{_and_, _or_, any, any-below, count-below}
 use Rattle.lists.proofs.Tests.{by, by-eq, or-l, no-first, no-second, yes-first}
 use Rattle.rules.specs.Entries.{Entry, names}
-use Rattle.rules.specs.Chunks.{Chunk, chunk, held, bytes-in, append, save-key}
+use Rattle.rules.specs.Chunks.{Chunk, new-chunk, held, bytes-in, append, save-key}
 use Rattle.rules.specs.State.{State}
-use Rattle.rules.specs.Parts.{holder}
+use Rattle.rules.specs.Derived.{holder}
 use Rattle.rules.specs.Upkeep.{mend-key, mend-keys, mend-buckets}
 use Rattle.rules.proofs.Chunks.{held-append, held-save, length-save}
-use Rattle.entries.specs.Words.{entry-at}
+use Rattle.entries.specs.Entries.{entry-at}
 use Rattle.named.specs.Tables.{named}
 use Rattle.named.proofs.Names.{or-none, or-both, names-more}
 use Rattle.mend.specs.Keys.{key-at, mended-to, before, wants, lacks, adds, added-in, added}
@@ -33,7 +33,7 @@ saved-length l k = length-save (eqb k) l
 -- ---- one key
 module _ (s : State) (id : ℕ) (l : List Chunk) (k : ℕ) where
   abbrev new : Chunk
-  new = chunk k true (bytes-in (s .bricks .log (holder s k)) k)
+  new = new-chunk k true (bytes-in (s .bricks .log (holder s k)) k)
 
   pub key-none : wants s id k ≡ false → mend-key s id l k ≡ l
   unfolding mend-key wants
@@ -133,7 +133,7 @@ module _ (s : State) (id : ℕ) where
 -- ---- what is named before an entry
 module _ (s : State) where
   pub before-start : (k : ℕ) → before s 0 0 k ≡ false
-  unfolding before names some some-below _or_
+  unfolding before names any any-below _or_
   before-start k = refl
 
   pub before-more : (g i k : ℕ) → i < length (named s g) → before s g (suc i) k ≡ (before s g i k or eqb k (key-at s g i))
@@ -141,7 +141,7 @@ module _ (s : State) where
   before-more g i k p = rw (names-more (named s g) i k p) (or-both _ (names (take i (named s g)) k) (eqb k (key-at s g i)))
 
   pub before-bucket : (g k : ℕ) → before s (suc g) 0 k ≡ before s g (length (named s g)) k
-  unfolding before names some some-below
+  unfolding before names any any-below
   before-bucket g k = rw take-length (or-none _)
 
 abbrev one : Bool → ℕ

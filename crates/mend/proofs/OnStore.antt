@@ -25,7 +25,7 @@ use Rattle.mend.specs.Fit.{change-log, with-log-at, log-of, UpAt}
 
 module _ (c : Settings) (bs : List ℕ) (p : ℕ) (u : UpAt c bs p) where
   pub stands : 0 < decode (words bs) .ids p
-  stands = let b = facts c bs (u .store) .bricks in b .first _ (b .up-here _ (and-l _ _ (u .up)))
+  stands = let b = facts c bs (u .store) .bricks in b .first _ (b .up-present _ (and-l _ _ (u .up)))
 
   pub store-long : length (words bs) ≡ store-words c
   store-long = u .store .sound .size ∙ ap store-words (sym (u .store .same))

@@ -16,9 +16,9 @@ use Rattle.rules.specs.Numbers.{home-of}
 use Rattle.rules.specs.Entries.{Entry}
 use Rattle.rules.specs.Chunks.{Chunk, held, save-key}
 use Rattle.rules.specs.State.{State}
-use Rattle.rules.specs.Parts.{up-member, circle, holder}
+use Rattle.rules.specs.Derived.{up-member, members-from, holder}
 use Rattle.rules.specs.Upkeep.{mend-key, mend-keys}
-use Rattle.rules.proofs.Parts.{seek-held}
+use Rattle.rules.proofs.Derived.{first-holder-held}
 use Rattle.rules.proofs.Sound.{Sound, LogOk, KeyOf}
 use Rattle.history.proofs.Sound.Groups.{log-sound}
 use Rattle.history.proofs.Sound.Lists.{log-append, log-save}
@@ -54,7 +54,7 @@ module _ {s : State} (v : Sound s) (id : ℕ) where
       (λ w. subst Ok (sym (key-none s id l k w)) o)
     where
       it : wants s id k ≡ true → held (s .bricks .log (holder s k)) k ≡ true
-      it w = unfold wants holder in seek-held (s .bricks) k (circle s (home-of k)) (ltb-true 0 _ (and-r _ _ w))
+      it w = unfold wants holder in first-holder-held (s .bricks) k (members-from s (home-of k)) (ltb-true 0 _ (and-r _ _ w))
 
   pub keys-ok : (es : List Entry) (l : List Chunk) → Ok l → Ok (mend-keys s id l es)
   unfolding mend-keys

@@ -9,10 +9,10 @@ use Rattle.lists.specs.Runs.{Below}
 use Rattle.words.specs.Words.{words}
 use Rattle.rules.specs.declared.settings.Settings.{Settings}
 use Rattle.rules.specs.Numbers.{home-of}
-use Rattle.rules.specs.Chunks.{Chunk, chunk, held, bytes-in, append, save-key}
+use Rattle.rules.specs.Chunks.{Chunk, new-chunk, held, bytes-in, append, save-key}
 use Rattle.rules.specs.State.{State}
-use Rattle.rules.specs.Parts.{circle, holder}
-use Rattle.rules.proofs.Parts.{seek-held}
+use Rattle.rules.specs.Derived.{members-from, holder}
+use Rattle.rules.proofs.Derived.{first-holder-held}
 use Rattle.log.specs.Log.{chunk-at}
 use Rattle.layout.specs.Store.{decode}
 use Rattle.holders.proofs.Contents.{bytes-at-holder, held-size}
@@ -42,11 +42,11 @@ module _ (c : Settings) (bs : List ℕ) (p k : ℕ) (m : Mends c bs p k) where
     abbrev bytes : List ℕ
     bytes = bytes-in (s .bricks .log (holder s k)) k
 
-    grown : key-mended p k (words bs) ≡ append log (chunk k true bytes)
+    grown : key-mended p k (words bs) ≡ append log (new-chunk k true bytes)
     grown = key-added s (s .ids p) log k (o .wanted) (o .missing)
 
     pub some-room : length log < c .chunks
-    some-room = omega (arith, m .room, ap length grown ∙ length-append log (chunk k true bytes ∷ []))
+    some-room = omega (arith, m .room, ap length grown ∙ length-append log (new-chunk k true bytes ∷ []))
 
     pub row-lies : (from < c .places) × (0 < s .ids from) × (row < length (log-of from (words bs)))
     row-lies =
@@ -60,9 +60,9 @@ module _ (c : Settings) (bs : List ℕ) (p k : ℕ) (m : Mends c bs p k) where
     pub row-whole : length (chunk-at (log-of from (words bs)) row .bytes) ≡ c .size
     row-whole =
         ap length row-bytes
-        ∙ held-size c bs (m .there .store) (holder s k) k (unfold holder in seek-held (s .bricks) k (circle s (home-of k)) (o .from .stands .some))
+        ∙ held-size c bs (m .there .store) (holder s k) k (unfold holder in first-holder-held (s .bricks) k (members-from s (home-of k)) (o .from .stands .some))
 
-    pub added : (d vs : List ℕ) → d ≡ chunk-at (log-of from (words bs)) row .bytes → vs ≡ with-log-at c p (append log (chunk k true d)) (words bs)
+    pub added : (d vs : List ℕ) → d ≡ chunk-at (log-of from (words bs)) row .bytes → vs ≡ with-log-at c p (append log (new-chunk k true d)) (words bs)
         → vs ≡ with-log-at c p (key-mended p k (words bs)) (words bs)
     added d vs e q =
-        q ∙ ap (λ (l : List Chunk). with-log-at c p l (words bs)) (ap (λ (x : List ℕ). append log (chunk k true x)) (e ∙ row-bytes) ∙ sym grown)
+        q ∙ ap (λ (l : List Chunk). with-log-at c p l (words bs)) (ap (λ (x : List ℕ). append log (new-chunk k true x)) (e ∙ row-bytes) ∙ sym grown)

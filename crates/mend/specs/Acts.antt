@@ -5,7 +5,7 @@ use Prim.Native.Nat.{ℕ}
 use Rattle.rules.specs.declared.settings.Settings.{Settings}
 use Rattle.rules.specs.Chunks.{held}
 use Rattle.rules.specs.State.{State}
-use Rattle.rules.specs.Parts.{holder}
+use Rattle.rules.specs.Derived.{holder}
 use Rattle.holders.specs.Members.{LiesAt}
 use Rattle.mend.specs.declared.act.Act.{Act}
 use Rattle.mend.specs.declared.act.Act.the-variants.{Nothing, Save, Bring}

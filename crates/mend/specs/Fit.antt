@@ -10,7 +10,7 @@ use Rattle.rules.specs.declared.settings.Settings.{Settings}
 use Rattle.rules.specs.Limits.{buckets}
 use Rattle.rules.specs.Entries.{Entry}
 use Rattle.rules.specs.Chunks.{Chunk}
-use Rattle.rules.specs.Parts.{up-member}
+use Rattle.rules.specs.Derived.{up-member}
 use Rattle.rules.specs.Upkeep.{mend-key, mend-keys, mended}
 use Rattle.codec.specs.Codec.{change}
 use Rattle.layout.specs.Layout.{log-codec, copy-codec, copy-words, log-words, log-at}

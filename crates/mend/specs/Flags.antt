@@ -9,7 +9,7 @@ use Rattle.lists.specs.Tests.{_and_, _or_}
 use Rattle.rules.specs.declared.settings.Settings.{Settings}
 use Rattle.rules.specs.Limits.{max-chunks}
 use Rattle.rules.specs.State.{State}
-use Rattle.rules.specs.Parts.{holder}
+use Rattle.rules.specs.Derived.{holder}
 use Rattle.holders.specs.Members.{LiesAt}
 use Rattle.mend.specs.Keys.{lacks}
 

@@ -4,14 +4,14 @@ use mathlib.Core.Bool.{Bool, not}
 use Prim.Native.Nat.{ℕ, zero, suc, _+_}
 use lib.Dec.{ltb}
 use lib.ListN.{length, take}
-use Rattle.lists.specs.Tests.{_and_, _or_, some-below, count-below}
+use Rattle.lists.specs.Tests.{_and_, _or_, any-below, count-below}
 use Rattle.rules.specs.Numbers.{home-of}
 use Rattle.rules.specs.Entries.{names}
 use Rattle.rules.specs.Chunks.{Chunk, held}
 use Rattle.rules.specs.State.{State}
-use Rattle.rules.specs.Parts.{circle, holder}
+use Rattle.rules.specs.Derived.{members-from, holder}
 use Rattle.rules.specs.Upkeep.{of-first-two, mend-keys, mend-buckets}
-use Rattle.entries.specs.Words.{entry-at}
+use Rattle.entries.specs.Entries.{entry-at}
 use Rattle.named.specs.Tables.{named}
 
 abbrev pub key-at : State → ℕ → ℕ → ℕ
@@ -23,11 +23,11 @@ mended-to s id g i = mend-keys s id (mend-buckets s id g) (take i (named s g))
 
 -- is the key named before entry i of bucket g?
 unfoldable pub before : State → ℕ → ℕ → ℕ → Bool
-before s g i key = some-below g (λ h. names (named s h) key) or names (take i (named s g)) key
+before s g i key = any-below g (λ h. names (named s h) key) or names (take i (named s g)) key
 
 -- does the place get the key's chunk saved, and is that a chunk more?
 unfoldable pub wants : State → ℕ → ℕ → Bool
-wants s id key = of-first-two id (circle s (home-of key)) and ltb 0 (holder s key)
+wants s id key = of-first-two id (members-from s (home-of key)) and ltb 0 (holder s key)
 
 unfoldable pub lacks : State → ℕ → ℕ → Bool
 lacks s id key = wants s id key and not (held (s .bricks .log id) key)

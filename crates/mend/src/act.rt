@@ -4,7 +4,7 @@ ghost use Rattle.words.specs.Words.{words};
 ghost use Rattle.layout.specs.Store.{decode};
 ghost use Rattle.mend.specs.Fit.{UpAt};
 ghost use Rattle.mend.specs.Acts.{ActOf};
-use holders::Lies;
+use holders::Location;
 use lent::place;
 use rules::numbers::ChunkKey;
 use rules::settings::Settings;
@@ -29,7 +29,7 @@ pub fn for_key(store: &[u8], settings: Settings, place: usize, key: ChunkKey) ->
         return Act::Save;
     }
     match holders::holder(store, settings, key) {
-        Lies::At(from, row) => Act::Bring(from, row),
-        Lies::Nowhere => Act::Nothing,
+        Location::At(from, row) => Act::Bring(from, row),
+        Location::Nowhere => Act::Nothing,
     }
 }

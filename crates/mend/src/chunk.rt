@@ -5,7 +5,7 @@ ghost use Prim.Native.Nat.{_<_};
 ghost use lib.ListN.{length, getD};
 ghost use Rattle.lists.specs.Runs.{run};
 ghost use Rattle.words.specs.Words.{words};
-ghost use Rattle.rules.specs.Chunks.{chunk, append, save-key};
+ghost use Rattle.rules.specs.Chunks.{new-chunk, append, save-key};
 ghost use Rattle.layout.specs.Layout.{log-words, log-at};
 ghost use Rattle.lent.specs.Places.{PlaceLog};
 ghost use Rattle.mend.specs.Fit.{change-log};
@@ -33,7 +33,7 @@ pub fn append_saved(part: &mut [u8], settings: Settings, key: ChunkKey, bytes: &
     requires { ⌜ PlaceLog settings (words (now part)) (length (now part)) ⌝ }
     requires { ⌜ (getD (run (log-at settings) (log-words settings) (words (now part))) 0 0 < settings .chunks) × (length (now bytes) ≡ settings .size) ⌝ }
     ensures { λ _. ⌜ words (now (part .exit))
-        ≡ change-log settings (λ l. append l (chunk (key .0) true (now (bytes .entry)))) (words (now (part .entry))) ⌝ }
+        ≡ change-log settings (λ l. append l (new-chunk (key .0) true (now (bytes .entry)))) (words (now (part .entry))) ⌝ }
 {
     let a = 8 * sizes::log_at(settings);
     let e = a + 8 * sizes::log_words(settings);

@@ -11,11 +11,11 @@ pub fn move_up(s: &mut [u8], from: usize, to: usize, n: usize)
     ensures { λ _. ⌜ words (now (s .exit)) ≡ paste (words (now (s .entry))) to (drop from (words (now (s .entry)))) n ⌝ }
 {
     let mut left = n;
-    while blocks::BLOCK_WORDS < left {
-        left -= blocks::BLOCK_WORDS;
-        blocks::move_block(s, from + left, to + left, blocks::BLOCK_WORDS);
+    while spans::BLOCK_WORDS < left {
+        left -= spans::BLOCK_WORDS;
+        spans::move_block(s, from + left, to + left, spans::BLOCK_WORDS);
     }
-    blocks::move_block(s, from, to, left)
+    spans::move_block(s, from, to, left)
 }
 
 // The n words from `from` go to `to`, which is not above; the first block first.
@@ -24,11 +24,11 @@ pub fn move_down(s: &mut [u8], from: usize, to: usize, n: usize)
     ensures { λ _. ⌜ words (now (s .exit)) ≡ paste (words (now (s .entry))) to (drop from (words (now (s .entry)))) n ⌝ }
 {
     let mut moved = 0;
-    while blocks::BLOCK_WORDS < n - moved {
-        blocks::move_block(s, from + moved, to + moved, blocks::BLOCK_WORDS);
-        moved += blocks::BLOCK_WORDS;
+    while spans::BLOCK_WORDS < n - moved {
+        spans::move_block(s, from + moved, to + moved, spans::BLOCK_WORDS);
+        moved += spans::BLOCK_WORDS;
     }
-    blocks::move_block(s, from + moved, to + moved, n - moved)
+    spans::move_block(s, from + moved, to + moved, n - moved)
 }
 
 // The n words from `from` go to `to`, as if all were read before any is written.
@@ -75,9 +75,9 @@ pub fn copy_bytes(d: &mut [u8], src: &[u8])
 {
     let n = src.len();
     let mut copied = 0;
-    while blocks::BLOCK_BYTES < n - copied {
-        blocks::copy_block(d, src, copied, blocks::BLOCK_BYTES);
-        copied += blocks::BLOCK_BYTES;
+    while spans::BLOCK_BYTES < n - copied {
+        spans::copy_block(d, src, copied, spans::BLOCK_BYTES);
+        copied += spans::BLOCK_BYTES;
     }
-    blocks::copy_block(d, src, copied, n - copied)
+    spans::copy_block(d, src, copied, n - copied)
 }

@@ -10,7 +10,7 @@ use lib.Dec.{eqb}
 use lib.ListN.{length, getD, set, drop}
 use lib.Seq.{getD-set-same, getD-set-other}
 use Rattle.lists.specs.Runs.{run}
-use Rattle.lists.specs.Tests.{some-below}
+use Rattle.lists.specs.Tests.{any-below}
 use Rattle.lists.specs.Rows.{table-dec}
 use Rattle.lists.proofs.Tests.{by-eq, by-lt}
 use Rattle.lists.proofs.Rows.{length-rows}
@@ -20,16 +20,16 @@ use Rattle.rules.specs.declared.settings.Settings.{Settings}
 use Rattle.rules.specs.Limits.{buckets}
 use Rattle.rules.specs.Entries.{Entry, names}
 use Rattle.rules.specs.State.{State}
-use Rattle.rules.specs.Parts.{primary-memory}
+use Rattle.rules.specs.Derived.{primary-memory}
 use Rattle.codec.proofs.Focus.{_through_}
-use Rattle.layout.specs.Disk.{entry-row, Brick, blank-brick}
+use Rattle.layout.specs.Contents.{entry-row, Brick, blank-brick}
 use Rattle.layout.specs.Layout.{entries-codec, copy-codec, settings-of, copy-words, copies-words, log-words, place-words, store-words, place-at, copies-at}
 use Rattle.layout.specs.Layout.{log-at}
 use Rattle.layout.specs.Store.{brick-in, decode}
 use Rattle.layout.proofs.Sound.{SoundWords}
 use Rattle.layout.proofs.Changes.{seen}
 use Rattle.layout.proofs.Foci.{place-focus, copies-of, memory-in}
-use Rattle.entries.specs.Words.{entry-at}
+use Rattle.entries.specs.Entries.{entry-at}
 use Rattle.entries.proofs.Words.{key-word}
 use Rattle.lent.specs.Stores.{StoreOf}
 use Rattle.lent.specs.Places.{Stands}
@@ -148,6 +148,6 @@ module _ (c : Settings) (bs : List ℕ) (v : StoreOf c bs) (g from : ℕ) (p : g
         (λ q e. rw q (sym (ap (λ (l : List Entry). names l k) (a .none e) ∙ names-none k)))
         (λ q e. let z : 0 < from = omega arith in
         let h = entries-inside z in
-        rw q (ap (λ (n : ℕ). some-below n (λ i. eqb k (key-in (words bs) from i)))
+        rw q (ap (λ (n : ℕ). any-below n (λ i. eqb k (key-in (words bs) from i)))
         (sym (table-length c (words bs) (named (decode (words bs)) g) from (a .table z) h))
         ∙ sym (names-all (named (decode (words bs)) g) (key-in (words bs) from) (table-key c (words bs) (named (decode (words bs)) g) from (a .table z) h) k)))

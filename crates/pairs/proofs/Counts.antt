@@ -9,15 +9,15 @@ use lib.Dec.{eqb}
 use lib.ListN.{length, set, length-append}
 use borrow.Author.Tests.{eq-eqb, ne-eqb}
 use Rattle.lists.proofs.Tests.{by, by-eq, impossible}
-use Rattle.rules.specs.Pairs.{Slots, at, among, load, share, slots-of}
+use Rattle.rules.specs.Pairs.{Assignments, id-in, among, load, share, assignments-of}
 use Rattle.pairs.specs.Claims.{Distinct, Buckets}
 use Rattle.pairs.proofs.Least.{among-cases, among-head, among-tail, among-not}
 
 abbrev pub one : ℕ → ℕ → ℕ
 one x i = cond (eqb x i) 1 0
 
--- ---- one slot changed
-pub load-set : (s : Slots) (k x i : ℕ) → k < length s → load (set s k x) i + one (at s k) i ≡ load s i + one x i
+-- ---- one position changed
+pub load-set : (s : Assignments) (k x i : ℕ) → k < length s → load (set s k x) i + one (id-in s k) i ≡ load s i + one x i
 unfolding load
 load-set [] k x i h = absurd (omega arith)
 load-set (y ∷ s) zero x i h = omega arith
@@ -32,15 +32,15 @@ one-other x i n = cc (ne-eqb x i n)
 pub one-le : (x i : ℕ) → one x i ≤ 1
 one-le x i = by (eqb x i) (λ q. rw q (omega arith)) (λ q. rw q (omega arith))
 
--- ---- a brick with an assignment is in some slot
-pub holds : (s : Slots) (i : ℕ) → 0 < load s i → (k : ℕ) × (k < length s) × (at s k ≡ i)
+-- ---- a brick with an assignment is in some position
+pub holds : (s : Assignments) (i : ℕ) → 0 < load s i → (k : ℕ) × (k < length s) × (id-in s k ≡ i)
 unfolding load
 holds [] i h = absurd (omega arith)
 holds (x ∷ s) i h =
     by-eq x i (λ q e. (0, omega arith, e)) (λ q n. let h′ = rw q at h in let r = holds s i (omega arith) in (suc (r .0), omega (arith, r .1), r .2))
 
--- ---- the loads of distinct members add up to no more than the slots
-total : List ℕ → Slots → ℕ
+-- ---- the loads of distinct members add up to no more than the assigned
+total : List ℕ → Assignments → ℕ
 total [] s = 0
 total (m ∷ ms) s = load s m + total ms s
 
@@ -63,21 +63,21 @@ unfolding total load
 total-nil [] = refl
 total-nil (m ∷ ms) = rw (total-nil ms)
 
-total-cons : (ms : List ℕ) (v : ℕ) (s : Slots) → total ms (v ∷ s) ≡ ones ms v + total ms s
+total-cons : (ms : List ℕ) (v : ℕ) (s : Assignments) → total ms (v ∷ s) ≡ ones ms v + total ms s
 unfolding total ones load
 total-cons [] v s = refl
 total-cons (m ∷ ms) v s = omega (arith, total-cons ms v s)
 
-total-le : (ms : List ℕ) → Distinct ms → (s : Slots) → total ms s ≤ length s
+total-le : (ms : List ℕ) → Distinct ms → (s : Assignments) → total ms s ≤ length s
 total-le ms d [] = omega (arith, total-nil ms)
 total-le ms d (v ∷ s) = omega (arith, total-cons ms v s, ones-le ms v d, total-le ms d s)
 
-total-ge : (ms : List ℕ) (s : Slots) (c : ℕ) → ((z : ℕ) → among ms z ≡ true → c ≤ load s z) → length ms * c ≤ total ms s
+total-ge : (ms : List ℕ) (s : Assignments) (c : ℕ) → ((z : ℕ) → among ms z ≡ true → c ≤ load s z) → length ms * c ≤ total ms s
 unfolding total
 total-ge [] s c h = rw zero-mul (omega arith)
 total-ge (m ∷ ms) s c h = rw suc-mul (omega (arith, total-ge ms s c (λ z p. h z (among-tail m z ms p)), h m (among-head m ms)))
 
-total-gt : (ms : List ℕ) (s : Slots) (c x : ℕ) → ((z : ℕ) → among ms z ≡ true → c ≤ load s z) → among ms x ≡ true → c < load s x → length ms * c < total ms s
+total-gt : (ms : List ℕ) (s : Assignments) (c x : ℕ) → ((z : ℕ) → among ms z ≡ true → c ≤ load s z) → among ms x ≡ true → c < load s x → length ms * c < total ms s
 unfolding total among
 total-gt [] s c x h p l = impossible p
 total-gt (m ∷ ms) s c x h p l =
@@ -85,8 +85,8 @@ total-gt (m ∷ ms) s c x h p l =
     (λ e. let l′ : c < load s m = rw e l in omega (arith, total-ge ms s c (λ z q. h z (among-tail m z ms q))))
     (λ n q. omega (arith, total-gt ms s c x (λ z r. h z (among-tail m z ms r)) q l, h m (among-head m ms))))
 
--- so not every member has c or more, and one more than c, where the members' shares cover the slots
-pub not-all-full : (ms : List ℕ) → Distinct ms → (s : Slots) (c x : ℕ) → length s ≤ length ms * c → ((z : ℕ) → among ms z ≡ true → c ≤ load s z)
+-- so not every member has c or more, and one more than c, where the members' shares cover the assigned
+pub not-all-full : (ms : List ℕ) → Distinct ms → (s : Assignments) (c x : ℕ) → length s ≤ length ms * c → ((z : ℕ) → among ms z ≡ true → c ≤ load s z)
     → among ms x ≡ true → c < load s x → ⊥
 not-all-full ms d s c x hs h p l = omega (arith, total-gt ms s c x h p l, total-le ms d s)
 
@@ -106,7 +106,7 @@ share-covers n (suc m) h =
     rw (mul-comm (suc m) ((2 * n + m) / suc m)) (omega (arith, div-add-mod' (2 * n + m) (suc m), mod-lt (2 * n + m) {m = suc m} (omega arith)))
 
 -- ---- where x always has y beside it, x has no more than y
-pub beside : (n : ℕ) (s : Slots) (x y : ℕ) → length s ≡ 2 * n → (x ≡ y → ⊥) → Buckets n (λ _ a b. (a ≡ x → b ≡ y) × (b ≡ x → a ≡ y)) s → load s x ≤ load s y
+pub beside : (n : ℕ) (s : Assignments) (x y : ℕ) → length s ≡ 2 * n → (x ≡ y → ⊥) → Buckets n (λ _ a b. (a ≡ x → b ≡ y) × (b ≡ x → a ≡ y)) s → load s x ≤ load s y
 unfolding load
 beside zero [] x y hl d h = omega arith
 beside zero (a ∷ s) x y hl d h = absurd (omega arith)
@@ -123,8 +123,8 @@ beside (suc n) (a ∷ b ∷ s) x y hl d h =
     rw (t, ne-eqb b x v, eq-eqb b y u) (omega (arith, one-le a y)))
     (λ t e. by-eq b x (λ v w. let u = q .1 w in rw (t, v, eq-eqb a y u) (omega (arith, one-le b y))) (λ v w. rw (t, v) (omega (arith, one-le a y, one-le b y))))
 
--- ---- slots from columns
-pub slots-length : (n : ℕ) (p b : ℕ → ℕ) → length (slots-of n p b) ≡ 2 * n
-unfolding slots-of
-slots-length zero p b = refl
-slots-length (suc n) p b = length-append (slots-of n p b) (p n ∷ b n ∷ []) ∙ omega (arith, slots-length n p b)
+-- ---- assigned from columns
+pub assigned-length : (n : ℕ) (p b : ℕ → ℕ) → length (assignments-of n p b) ≡ 2 * n
+unfolding assignments-of
+assigned-length zero p b = refl
+assigned-length (suc n) p b = length-append (assignments-of n p b) (p n ∷ b n ∷ []) ∙ omega (arith, assigned-length n p b)

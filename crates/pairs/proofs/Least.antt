@@ -8,7 +8,7 @@ use lib.Dec.{eqb}
 use borrow.Author.Tests.{eq-eqb, ne-eqb}
 use Rattle.lists.specs.Tests.{_and_, _or_}
 use Rattle.lists.proofs.Tests.{by, by-eq, by-lt, either, eqb-self, impossible, clash}
-use Rattle.rules.specs.Pairs.{Slots, at, among, load, preferred, choose, least-loaded}
+use Rattle.rules.specs.Pairs.{Assignments, id-in, among, load, preferred, choose, least-loaded}
 use Rattle.pairs.specs.Claims.{Members}
 
 -- ---- membership
@@ -41,11 +41,11 @@ another (a ∷ b ∷ ms) y o =
 
 -- ---- the order of preference
 -- r has no more than z, and is no higher where it has as many
-pub record Leads (s : Slots) (r z : ℕ) : Type 0 where
+pub record Leads (s : Assignments) (r z : ℕ) : Type 0 where
   pub fewest : load s r ≤ load s z
   pub lowest : load s r ≡ load s z → r ≤ z
 
-leads-trans : (s : Slots) (x y z : ℕ) → Leads s x y → Leads s y z → Leads s x z
+leads-trans : (s : Assignments) (x y z : ℕ) → Leads s x y → Leads s y z → Leads s x z
 leads-trans s x y z p q =
     record {
       fewest = omega (arith, p .fewest, q .fewest);
@@ -55,12 +55,12 @@ leads-trans s x y z p q =
           omega (arith, p .lowest f, q .lowest g);
     }
 
-pub leads-same : (s : Slots) (x y : ℕ) → Leads s x y → Leads s y x → x ≡ y
+pub leads-same : (s : Assignments) (x y : ℕ) → Leads s x y → Leads s y x → x ≡ y
 leads-same s x y p q =
     let e : load s x ≡ load s y = omega (arith, p .fewest, q .fewest) in
     omega (arith, p .lowest e, q .lowest (sym e))
 
-preferred-yes : (s : Slots) (m r : ℕ) → preferred s m r ≡ true → (r ≡ 0 → ⊥) → Leads s m r
+preferred-yes : (s : Assignments) (m r : ℕ) → preferred s m r ≡ true → (r ≡ 0 → ⊥) → Leads s m r
 unfolding preferred _or_ _and_
 preferred-yes s m r h n =
     by-lt (load s m) (load s r) (λ q l. record { fewest = omega arith; lowest = λ e. absurd (omega arith) })
@@ -68,7 +68,7 @@ preferred-yes s m r h n =
     (λ t e. by-lt m r (λ u v. record { fewest = omega arith; lowest = λ _. omega arith }) (λ u v. impossible (sym (cc (ne-eqb r 0 n)) ∙ h)))
     (λ t e. impossible (sym (cc (ne-eqb r 0 n)) ∙ h)))
 
-preferred-no : (s : Slots) (m r : ℕ) → preferred s m r ≡ false → (r ≡ 0 → ⊥) × Leads s r m
+preferred-no : (s : Assignments) (m r : ℕ) → preferred s m r ≡ false → (r ≡ 0 → ⊥) × Leads s r m
 unfolding preferred _or_ _and_
 preferred-no s m r h =
     by-eq r 0 (λ q e. impossible (sym h ∙ cc))
@@ -79,7 +79,7 @@ preferred-no s m r h =
     ))
 
 -- ---- the least loaded member
-pub choose-is : (P : ℕ → Type 0) (s : Slots) (a b m r : ℕ) → P r → ((m ≡ a → ⊥) → (m ≡ b → ⊥) → preferred s m r ≡ true → P m) → P (choose s a b m r)
+pub choose-is : (P : ℕ → Type 0) (s : Assignments) (a b m r : ℕ) → P r → ((m ≡ a → ⊥) → (m ≡ b → ⊥) → preferred s m r ≡ true → P m) → P (choose s a b m r)
 unfolding choose _or_
 choose-is P s a b m r pr pm =
     by-eq m a (λ q e. rw q pr) (λ q n. by-eq m b (λ t e. rw (q, t) pr)
@@ -91,7 +91,7 @@ pub record Outside (ms : List ℕ) (a b r : ℕ) : Type 0 where
   pub not-a : r ≡ a → ⊥
   pub not-b : r ≡ b → ⊥
 
-pub least-outside : (s : Slots) (ms : List ℕ) (a b : ℕ) → (least-loaded s ms a b ≡ 0 → ⊥) → Outside ms a b (least-loaded s ms a b)
+pub least-outside : (s : Assignments) (ms : List ℕ) (a b : ℕ) → (least-loaded s ms a b ≡ 0 → ⊥) → Outside ms a b (least-loaded s ms a b)
 unfolding least-loaded
 least-outside s [] a b = λ h. absurd (h refl)
 least-outside s (m ∷ ms) a b =
@@ -100,18 +100,18 @@ least-outside s (m ∷ ms) a b =
     (λ n k p h. record { member = among-head m ms; not-a = n; not-b = k })
 
 -- where a member z is neither a nor b, one is found, and it leads z
-pub record NoMore (s : Slots) (z r : ℕ) : Type 0 where
+pub record NoMore (s : Assignments) (z r : ℕ) : Type 0 where
   pub found : r ≡ 0 → ⊥
   pub leads : Leads s r z
 
-least-here : (s : Slots) (a b z r : ℕ) → (z ≡ a → ⊥) → (z ≡ b → ⊥) → (z ≡ 0 → ⊥) → NoMore s z (choose s a b z r)
+least-here : (s : Assignments) (a b z r : ℕ) → (z ≡ a → ⊥) → (z ≡ b → ⊥) → (z ≡ 0 → ⊥) → NoMore s z (choose s a b z r)
 unfolding choose _or_
 least-here s a b z r na nb n =
     rw (ne-eqb z a na, ne-eqb z b nb)
     (either (NoMore s z) (preferred s z r) (λ p. record { found = n; leads = record { fewest = omega arith; lowest = λ _. omega arith } })
     (λ p. let q = preferred-no s z r p in record { found = q .0; leads = q .1 }))
 
-pub least-le : (s : Slots) (ms : List ℕ) (a b z : ℕ) → among ms 0 ≡ false → among ms z ≡ true → (z ≡ a → ⊥) → (z ≡ b → ⊥) → NoMore s z (least-loaded s ms a b)
+pub least-le : (s : Assignments) (ms : List ℕ) (a b z : ℕ) → among ms 0 ≡ false → among ms z ≡ true → (z ≡ a → ⊥) → (z ≡ b → ⊥) → NoMore s z (least-loaded s ms a b)
 unfolding least-loaded among
 least-le s [] a b z h0 hz na nb = impossible hz
 least-le s (m ∷ ms) a b z h0 hz na nb =

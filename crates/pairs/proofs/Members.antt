@@ -9,8 +9,8 @@ use native.Mathlib.Omega.{arith}
 use lib.ListN.{length}
 use borrow.Author.Tests.{eqb-true}
 use Rattle.lists.proofs.Tests.{by, eqb-self, impossible, clash, or-cases, or-l, or-r}
-use Rattle.rules.specs.Pairs.{Slots, at, among, ids-of, pairs}
-use Rattle.rules.proofs.Parts.{ids-in}
+use Rattle.rules.specs.Pairs.{Assignments, id-in, among, ids-of, pairs}
+use Rattle.rules.proofs.Derived.{ids-in}
 use Rattle.pairs.specs.Claims.{Distinct, Members}
 use Rattle.pairs.proofs.Facts.{pairs-apart}
 
@@ -69,8 +69,8 @@ pub record PairOf (most : ℕ) (f : ℕ → Bool) (x y : ℕ) : Type 0 where
   pub two-picked : f y ≡ true
   pub apart : x ≡ y → ⊥
 
-pub pair-at : (count most : ℕ) (f : ℕ → Bool) → Members (ids-of most f) → (last : Slots) → length last ≡ 2 * count → (g : ℕ) → g < count
-    → let slots = pairs count (ids-of most f) last in PairOf most f (at slots (2 * g)) (at slots (2 * g + 1))
+pub pair-at : (count most : ℕ) (f : ℕ → Bool) → Members (ids-of most f) → (last : Assignments) → length last ≡ 2 * count → (g : ℕ) → g < count
+    → let assigned = pairs count (ids-of most f) last in PairOf most f (id-in assigned (2 * g)) (id-in assigned (2 * g + 1))
 pair-at count most f o last hl g h =
     let p = pairs-apart count (ids-of most f) o last hl g h in
     let x = ids-in most f _ (among-in (ids-of most f) _ (p .primary)) in

@@ -6,25 +6,25 @@ use Prim.Native.Nat.{ℕ, zero, suc, _+_, _*_, _-_}
 use native.Mathlib.Omega.{arith}
 use lib.ListN.{length}
 use Rattle.lists.proofs.Tests.{by-eq}
-use Rattle.rules.specs.Pairs.{Slots, at, among, least-loaded, kept, keep-at, fill-slot, fill-at, give-way, walk-at, in-order, share, filled, walked, pairs}
+use Rattle.rules.specs.Pairs.{Assignments, id-in, among, least-loaded, kept-of-pair, keep-at, fill-position, fill-at, give-way, walk-at, in-order, share, filled, walked, pairs}
 use Rattle.pairs.specs.Claims.{Members}
 use Rattle.pairs.proofs.Least.{NoMore, leads-same, least-outside, least-le}
 use Rattle.pairs.proofs.Counts.{no-longer}
 
-order-ext : (n : ℕ) (f h : ℕ → Slots → Slots) → ((g : ℕ) (s : Slots) → f g s ≡ h g s) → (s : Slots) → in-order n f s ≡ in-order n h s
+order-ext : (n : ℕ) (f h : ℕ → Assignments → Assignments) → ((g : ℕ) (s : Assignments) → f g s ≡ h g s) → (s : Assignments) → in-order n f s ≡ in-order n h s
 unfolding in-order
 order-ext zero f h e s = refl
 order-ext (suc n) f h e s = e n (in-order n f s) ∙ ap (h n) (order-ext n f h e s)
 
 module _ (ms ns : List ℕ) (same : (i : ℕ) → among ms i ≡ among ns i) (zm : among ms 0 ≡ false) (zn : among ns 0 ≡ false) where
   -- what one list finds, the other finds, and no better
-  found : (s : Slots) (a b : ℕ) → (least-loaded s ms a b ≡ 0 → ⊥) → NoMore s (least-loaded s ms a b) (least-loaded s ns a b)
+  found : (s : Assignments) (a b : ℕ) → (least-loaded s ms a b ≡ 0 → ⊥) → NoMore s (least-loaded s ms a b) (least-loaded s ns a b)
   found s a b h =
       let o = least-outside s ms a b h in
       least-le s ns a b (least-loaded s ms a b) zn (sym (same (least-loaded s ms a b)) ∙ o .member) (o .not-a) (o .not-b)
 
 module _ (ms ns : List ℕ) (same : (i : ℕ) → among ms i ≡ among ns i) (zm : among ms 0 ≡ false) (zn : among ns 0 ≡ false) where
-  least-same : (s : Slots) (a b : ℕ) → least-loaded s ms a b ≡ least-loaded s ns a b
+  least-same : (s : Assignments) (a b : ℕ) → least-loaded s ms a b ≡ least-loaded s ns a b
   least-same s a b =
       let x = least-loaded s ms a b in
       let y = least-loaded s ns a b in
@@ -32,19 +32,19 @@ module _ (ms ns : List ℕ) (same : (i : ℕ) → among ms i ≡ among ns i) (zm
       by-eq x 0 (λ _ e. by-eq y 0 (λ _ f. e ∙ sym f) (λ _ n. absurd (back n .found e)))
       (λ _ n. let p = found ms ns same zm zn s a b n in leads-same s x y (back (p .found) .leads) (p .leads))
 
-  keep-alike : (g : ℕ) (s : Slots) → keep-at ms g s ≡ keep-at ns g s
-  unfolding keep-at kept
-  keep-alike g s = rw (same (at s (2 * g)), same (at s (2 * g + 1)))
+  keep-alike : (g : ℕ) (s : Assignments) → keep-at ms g s ≡ keep-at ns g s
+  unfolding keep-at kept-of-pair
+  keep-alike g s = rw (same (id-in s (2 * g)), same (id-in s (2 * g + 1)))
 
-  fill-alike : (k j : ℕ) (s : Slots) → fill-slot ms k j s ≡ fill-slot ns k j s
-  unfolding fill-slot
-  fill-alike k j s = rw (least-same s 0 (at s j))
+  fill-alike : (k j : ℕ) (s : Assignments) → fill-position ms k j s ≡ fill-position ns k j s
+  unfolding fill-position
+  fill-alike k j s = rw (least-same s 0 (id-in s j))
 
-  give-alike : (c k j : ℕ) (s : Slots) → give-way ms c k j s ≡ give-way ns c k j s
+  give-alike : (c k j : ℕ) (s : Assignments) → give-way ms c k j s ≡ give-way ns c k j s
   unfolding give-way
-  give-alike c k j s = rw (least-same s (at s k) (at s j))
+  give-alike c k j s = rw (least-same s (id-in s k) (id-in s j))
 
-pub same-members : (n : ℕ) (ms ns : List ℕ) → Members ms → Members ns → ((i : ℕ) → among ms i ≡ among ns i) → (last : Slots) → pairs n ms last ≡ pairs n ns last
+pub same-members : (n : ℕ) (ms ns : List ℕ) → Members ms → Members ns → ((i : ℕ) → among ms i ≡ among ns i) → (last : Assignments) → pairs n ms last ≡ pairs n ns last
 unfolding pairs filled walked
 same-members n ms ns om on same last =
     let zm = om .no-zero in
@@ -54,10 +54,10 @@ same-members n ms ns om on same last =
     let q = no-longer ns ms (on .distinct) (λ z h. same z ∙ h) in
     omega arith in
     let c = share n (length ns) in
-    let f : (g : ℕ) (s : Slots) → fill-at ms g s ≡ fill-at ns g s = λ g s.
-    fill-alike ms ns same zm zn (2 * g + 1) (2 * g) (fill-slot ms (2 * g) (2 * g + 1) s) ∙ ap (fill-slot ns (2 * g + 1) (2 * g))
+    let f : (g : ℕ) (s : Assignments) → fill-at ms g s ≡ fill-at ns g s = λ g s.
+    fill-alike ms ns same zm zn (2 * g + 1) (2 * g) (fill-position ms (2 * g) (2 * g + 1) s) ∙ ap (fill-position ns (2 * g + 1) (2 * g))
     (fill-alike ms ns same zm zn (2 * g) (2 * g + 1) s) in
-    let w : (role g : ℕ) (s : Slots) → walk-at ms c role g s ≡ walk-at ns c role g s = λ role g. give-alike ms ns same zm zn c (2 * g + role)
+    let w : (role g : ℕ) (s : Assignments) → walk-at ms c role g s ≡ walk-at ns c role g s = λ role g. give-alike ms ns same zm zn c (2 * g + role)
     (2 * g + (1 - role)) in
     rw (
       l,

@@ -10,26 +10,26 @@ use lib.Seq.{getD-set-same, getD-set-other, set-getD}
 use borrow.Author.Tests.{eq-eqb, ne-eqb, ltb-true}
 use Rattle.lists.specs.Tests.{_and_}
 use Rattle.lists.proofs.Tests.{by, by-eq, either, clash, and-l, and-r}
-use Rattle.rules.specs.Pairs.{Slots, at, among, load, least-loaded, kept, keep-at, fill-slot, fill-at, give-way}
+use Rattle.rules.specs.Pairs.{Assignments, id-in, among, load, least-loaded, kept-of-pair, keep-at, fill-position, fill-at, give-way}
 use Rattle.pairs.specs.Claims.{Members, Apart, Held}
 use Rattle.pairs.proofs.Least.{another, not-zero, Outside, least-outside, least-le}
 use Rattle.pairs.proofs.Stages.{Writes, same-pair}
 
 -- ---- keep
 module _ (ms : List ℕ) (x other : ℕ) where
-  pub kept-member : among ms x ≡ true → (x ≡ other → ⊥) → kept ms x other ≡ x
-  unfolding kept _and_
+  pub kept-member : among ms x ≡ true → (x ≡ other → ⊥) → kept-of-pair ms x other ≡ x
+  unfolding kept-of-pair _and_
   kept-member h n = cc (ne-eqb x other n)
 
-  pub kept-gone : among ms x ≡ false → kept ms x other ≡ 0
-  unfolding kept _and_
+  pub kept-gone : among ms x ≡ false → kept-of-pair ms x other ≡ 0
+  unfolding kept-of-pair _and_
   kept-gone h = cc
 
-  pub kept-twice : x ≡ other → kept ms x other ≡ 0
-  unfolding kept _and_
+  pub kept-twice : x ≡ other → kept-of-pair ms x other ≡ 0
+  unfolding kept-of-pair _and_
   kept-twice e = by (among ms x) (λ q. cc (eq-eqb x other e)) (λ q. cc)
 
--- empty slots are allowed: an id that is there is a member, and none is there twice
+-- empty assigned are allowed: an id that is there is a member, and none is there twice
 pub record Proper (ms : List ℕ) (x y : ℕ) : Type 0 where
   pub first : (x ≡ 0 → ⊥) → among ms x ≡ true
   pub second : (y ≡ 0 → ⊥) → among ms y ≡ true
@@ -41,10 +41,10 @@ pub record Left (ms : List ℕ) (a b x y : ℕ) : Type 0 where
   pub held : Held ms a b x y
 
 abbrev keep-one : List ℕ → ℕ → ℕ → ℕ
-keep-one ms a b = cond (eqb (kept ms a 0) 0) (kept ms b (kept ms a 0)) (kept ms a 0)
+keep-one ms a b = cond (eqb (kept-of-pair ms a 0) 0) (kept-of-pair ms b (kept-of-pair ms a 0)) (kept-of-pair ms a 0)
 
 abbrev keep-two : List ℕ → ℕ → ℕ → ℕ
-keep-two ms a b = cond (eqb (kept ms a 0) 0) 0 (kept ms b (kept ms a 0))
+keep-two ms a b = cond (eqb (kept-of-pair ms a 0) 0) 0 (kept-of-pair ms b (kept-of-pair ms a 0))
 
 module _ (ms : List ℕ) (z : among ms 0 ≡ false) (a b : ℕ) where
   left-both : among ms a ≡ true → Left ms a b (keep-one ms a b) (keep-two ms a b)
@@ -82,33 +82,33 @@ module _ (ms : List ℕ) (z : among ms 0 ≡ false) (a b : ℕ) where
   left-of : Left ms a b (keep-one ms a b) (keep-two ms a b)
   left-of = by (among ms a) left-both left-lone
 
-pub keep-step : (ms : List ℕ) → among ms 0 ≡ false → (g : ℕ) (s : Slots) (a b : ℕ) → at s (2 * g) ≡ a → at s (2 * g + 1) ≡ b
+pub keep-step : (ms : List ℕ) → among ms 0 ≡ false → (g : ℕ) (s : Assignments) (a b : ℕ) → id-in s (2 * g) ≡ a → id-in s (2 * g + 1) ≡ b
     → Writes (Left ms a b) g s (keep-at ms g s)
 unfolding keep-at
 keep-step ms z g s a b ea eb = record { x = keep-one ms a b; y = keep-two ms a b; made = rw (ea, eb); good = left-of ms z a b }
 
--- ---- fill: a slot that holds v beside w gets x
+-- ---- fill: a position that holds v beside w gets x
 pub record Filled (ms : List ℕ) (v w x : ℕ) : Type 0 where
   pub member : among ms x ≡ true
   pub apart : x ≡ w → ⊥
   pub same : (v ≡ 0 → ⊥) → x ≡ v
 
-pub record Fills (ms : List ℕ) (k j : ℕ) (s : Slots) : Type 0 where
+pub record Fills (ms : List ℕ) (k j : ℕ) (s : Assignments) : Type 0 where
   pub x : ℕ
-  pub made : fill-slot ms k j s ≡ set s k x
-  pub good : Filled ms (at s k) (at s j) x
+  pub made : fill-position ms k j s ≡ set s k x
+  pub good : Filled ms (id-in s k) (id-in s j) x
 
-pub fill-step : (ms : List ℕ) → Members ms → (k j : ℕ) (s : Slots) → ((at s k ≡ 0 → ⊥) → among ms (at s k) ≡ true) → (at s k ≡ at s j → at s k ≡ 0)
+pub fill-step : (ms : List ℕ) → Members ms → (k j : ℕ) (s : Assignments) → ((id-in s k ≡ 0 → ⊥) → among ms (id-in s k) ≡ true) → (id-in s k ≡ id-in s j → id-in s k ≡ 0)
     → Fills ms k j s
-unfolding fill-slot
+unfolding fill-position
 fill-step ms o k j s hm ha =
-    let x = least-loaded s ms 0 (at s j) in
-    let a = another ms (at s j) o in
-    let f = least-le s ms 0 (at s j) (a .0) (o .no-zero) (a .1) (not-zero ms (a .0) (o .no-zero) (a .1)) (a .2) in
-    let u = least-outside s ms 0 (at s j) (f .found) in
-    by-eq (at s k) 0
+    let x = least-loaded s ms 0 (id-in s j) in
+    let a = another ms (id-in s j) o in
+    let f = least-le s ms 0 (id-in s j) (a .0) (o .no-zero) (a .1) (not-zero ms (a .0) (o .no-zero) (a .1)) (a .2) in
+    let u = least-outside s ms 0 (id-in s j) (f .found) in
+    by-eq (id-in s k) 0
     (λ q e. record { x = x; made = rw q; good = record { member = u .member; apart = u .not-b; same = λ n. absurd (n e) } })
-    (λ q n. record { x = at s k; made = rw (q, set-getD s k 0); good = record { member = hm n; apart = λ e. n (ha e); same = λ _. refl } })
+    (λ q n. record { x = id-in s k; made = rw (q, set-getD s k 0); good = record { member = hm n; apart = λ e. n (ha e); same = λ _. refl } })
 
 refill : (ms : List ℕ) (v v′ w w′ x : ℕ) → v ≡ v′ → w ≡ w′ → Filled ms v w x → Filled ms v′ w′ x
 refill ms v v′ w w′ x e f h = rw (e, f) at h
@@ -118,17 +118,17 @@ pub record Full (ms : List ℕ) (a b x y : ℕ) : Type 0 where
   pub apart : Apart ms x y
   pub held : Held ms a b x y
 
-pub fill-both : (ms : List ℕ) → Members ms → (g n : ℕ) (s : Slots) (a b : ℕ) → g < n → length s ≡ 2 * n → Left ms a b (at s (2 * g)) (at s (2 * g + 1))
+pub fill-both : (ms : List ℕ) → Members ms → (g n : ℕ) (s : Assignments) (a b : ℕ) → g < n → length s ≡ 2 * n → Left ms a b (id-in s (2 * g)) (id-in s (2 * g + 1))
     → Writes (Full ms a b) g s (fill-at ms g s)
 fill-both ms o g n s a b hg hl p =
-    let v = at s (2 * g) in
-    let w = at s (2 * g + 1) in
+    let v = id-in s (2 * g) in
+    let w = id-in s (2 * g + 1) in
     let one = fill-step ms o (2 * g) (2 * g + 1) s (p .proper .first) (p .proper .twice) in
     let t = set s (2 * g) (one .x) in
-    let e1 : at t (2 * g) ≡ one .x = getD-set-same s (2 * g) (one .x) 0 (omega arith) in
-    let e2 : at t (2 * g + 1) ≡ w = getD-set-other s (2 * g) (2 * g + 1) (one .x) 0 (λ e. omega arith) in
+    let e1 : id-in t (2 * g) ≡ one .x = getD-set-same s (2 * g) (one .x) 0 (omega arith) in
+    let e2 : id-in t (2 * g + 1) ≡ w = getD-set-other s (2 * g) (2 * g + 1) (one .x) 0 (λ e. omega arith) in
     let two = fill-step ms o (2 * g + 1) (2 * g) t (rw e2 (p .proper .second)) (rw (e1, e2) (λ e. absurd (one .good .apart (sym e)))) in
-    let f : Filled ms w (one .x) (two .x) = refill ms (at t (2 * g + 1)) w (at t (2 * g)) (one .x) (two .x) e2 e1 (two .good) in
+    let f : Filled ms w (one .x) (two .x) = refill ms (id-in t (2 * g + 1)) w (id-in t (2 * g)) (one .x) (two .x) e2 e1 (two .good) in
     let z : (i : ℕ) → among ms i ≡ true → i ≡ 0 → ⊥ = λ i. not-zero ms i (o .no-zero) in
     record {
       x = one .x;
@@ -145,44 +145,44 @@ fill-both ms o g n s a b hg hl p =
     }
 
 -- ---- give way
-module _ (ms : List ℕ) (c k j : ℕ) (s : Slots) where
-  pub give-is : (P : Slots → Type 0) → P s
-      → ((x : ℕ) → x ≡ least-loaded s ms (at s k) (at s j) → c < load s (at s k) → (x ≡ 0 → ⊥) → load s x < c → P (set s k x)) → P (give-way ms c k j s)
+module _ (ms : List ℕ) (c k j : ℕ) (s : Assignments) where
+  pub give-is : (P : Assignments → Type 0) → P s
+      → ((x : ℕ) → x ≡ least-loaded s ms (id-in s k) (id-in s j) → c < load s (id-in s k) → (x ≡ 0 → ⊥) → load s x < c → P (set s k x)) → P (give-way ms c k j s)
   unfolding give-way
   give-is P ps px =
-      let x = least-loaded s ms (at s k) (at s j) in
-      let n = load s (at s k) in
+      let x = least-loaded s ms (id-in s k) (id-in s j) in
+      let n = load s (id-in s k) in
       either P (ltb c n and (ltb 0 x and ltb (load s x) c))
       (λ t. let r = and-r (ltb c n) (ltb 0 x and ltb (load s x) c) t in
       px x refl (ltb-true c n (and-l (ltb c n) (ltb 0 x and ltb (load s x) c) t)) (λ e. omega (arith, ltb-true 0 x (and-l (ltb 0 x) (ltb (load s x) c) r)))
       (ltb-true (load s x) c (and-r (ltb 0 x) (ltb (load s x) c) r)))
       (λ _. ps)
 
-  pub give-outside : (x : ℕ) → x ≡ least-loaded s ms (at s k) (at s j) → (x ≡ 0 → ⊥) → Outside ms (at s k) (at s j) x
-  give-outside x e n = rw e (least-outside s ms (at s k) (at s j) (λ q. n (e ∙ q)))
+  pub give-outside : (x : ℕ) → x ≡ least-loaded s ms (id-in s k) (id-in s j) → (x ≡ 0 → ⊥) → Outside ms (id-in s k) (id-in s j) x
+  give-outside x e n = rw e (least-outside s ms (id-in s k) (id-in s j) (λ q. n (e ∙ q)))
 
-pub give-primary : (ms : List ℕ) (c g : ℕ) (s : Slots) → Apart ms (at s (2 * g)) (at s (2 * g + 1))
+pub give-primary : (ms : List ℕ) (c g : ℕ) (s : Assignments) → Apart ms (id-in s (2 * g)) (id-in s (2 * g + 1))
     → Writes (Apart ms) g s (give-way ms c (2 * g) (2 * g + 1) s)
 give-primary ms c g s p =
     give-is ms c (2 * g) (2 * g + 1) s (Writes (Apart ms) g s)
-    (record { x = at s (2 * g); y = at s (2 * g + 1); made = same-pair g s; good = p })
+    (record { x = id-in s (2 * g); y = id-in s (2 * g + 1); made = same-pair g s; good = p })
     (λ x e _ n _. let o = give-outside ms c (2 * g) (2 * g + 1) s x e n in
-    let q : at (set s (2 * g) x) (2 * g + 1) ≡ at s (2 * g + 1) = getD-set-other s (2 * g) (2 * g + 1) x 0 (λ f. omega arith) in
+    let q : id-in (set s (2 * g) x) (2 * g + 1) ≡ id-in s (2 * g + 1) = getD-set-other s (2 * g) (2 * g + 1) x 0 (λ f. omega arith) in
     record {
       x = x;
-      y = at s (2 * g + 1);
+      y = id-in s (2 * g + 1);
       made = sym
           (rw q at (set-getD (set s (2 * g) x) (2 * g + 1) 0));
       good = record { primary = o .member; backup = p .backup; apart = o .not-b };
     })
 
-pub give-backup : (ms : List ℕ) (c g : ℕ) (s : Slots) → Apart ms (at s (2 * g)) (at s (2 * g + 1)) → Writes (Apart ms) g s (give-way ms c (2 * g + 1) (2 * g) s)
+pub give-backup : (ms : List ℕ) (c g : ℕ) (s : Assignments) → Apart ms (id-in s (2 * g)) (id-in s (2 * g + 1)) → Writes (Apart ms) g s (give-way ms c (2 * g + 1) (2 * g) s)
 give-backup ms c g s p =
     give-is ms c (2 * g + 1) (2 * g) s (Writes (Apart ms) g s)
-    (record { x = at s (2 * g); y = at s (2 * g + 1); made = same-pair g s; good = p })
+    (record { x = id-in s (2 * g); y = id-in s (2 * g + 1); made = same-pair g s; good = p })
     (λ x e _ n _. let o = give-outside ms c (2 * g + 1) (2 * g) s x e n in
     record {
-      x = at s (2 * g);
+      x = id-in s (2 * g);
       y = x;
       made = rw (set-getD s (2 * g) 0);
       good = record {

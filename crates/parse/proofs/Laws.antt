@@ -16,13 +16,13 @@ use Rattle.area.proofs.Laws.{onto-nothing}
 use Rattle.area.proofs.Each.{Above, each-none, each-more}
 use Rattle.decimal.specs.Decimal.{push, spelled, number-of, and-then, answer}
 use Rattle.decimal.proofs.Laws.{spelled-append, spells-none}
-use Rattle.hex.specs.Hex.{only-digits, unhex, spells-bytes, bytes-of}
+use Rattle.hex.specs.Hex.{only-digits, unhex, spells-bytes, hex-bytes}
 use Rattle.hex.proofs.Laws.{digit-cases, digits-head}
-use Rattle.rules.specs.Event.{kind-at, Parts}
-use Rattle.text.specs.Words.{kind-of-word, packed-upto, packed, kind-of-packed}
+use Rattle.rules.specs.Event.{kind-at, EventFields}
+use Rattle.text.specs.Kinds.{kind-of-word, packed-upto, packed, kind-of-packed}
 use Rattle.text.specs.Table.{kind-number}
 use Rattle.text.specs.Fields.{comma, parted, before, fields}
-use Rattle.text.specs.Lines.{Taken, taken, take-numbers, take-bytes, parts-of-kind, parts-of-fields, is-line, without-feed, read-parts}
+use Rattle.text.specs.Lines.{Taken, taken, take-numbers, take-bytes, fields-of-kind, fields-of-texts, is-line, without-feed, read-fields}
 use Rattle.text.specs.Lines.{settings-at, settings-of-fields, read-settings}
 use Rattle.text.proofs.Laws.{kind-some, number-some}
 use Rattle.text.proofs.Packed.{Bytes, packed-agree, kind-by-number, too-long}
@@ -291,20 +291,20 @@ one-field : (s : List ℕ) → Above 44 s → fields s ≡ s ∷ []
 unfolding parted
 one-field s h = rw append-nil at (fields-there h each-none)
 
-not-digits : (S : ℕ) (s : List ℕ) → only-digits s ≡ false → bytes-of S s ≡ none
-unfolding bytes-of spells-bytes
+not-digits : (S : ℕ) (s : List ℕ) → only-digits s ≡ false → hex-bytes S s ≡ none
+unfolding hex-bytes spells-bytes
 not-digits S s e = by (eqb (length s) (2 * S)) (λ p. rw (p, e)) (λ p. rw p)
 
-take-other : (S : ℕ) (s f : List ℕ) (fs : List (List ℕ)) → f ++ parted fs ≡ s → bytes-of S s ≡ none → take-bytes true S (f ∷ fs) ≡ none
+take-other : (S : ℕ) (s f : List ℕ) (fs : List (List ℕ)) → f ++ parted fs ≡ s → hex-bytes S s ≡ none → take-bytes true S (f ∷ fs) ≡ none
 unfolding take-bytes parted
-take-other S s f [] e h = let same : f ≡ s = sym (append-nil f) ∙ e in ap (bytes-of S) same ∙ h
+take-other S s f [] e h = let same : f ≡ s = sym (append-nil f) ∙ e in ap (hex-bytes S) same ∙ h
 take-other S s f (g ∷ fs) e h = refl
 
-take-one : (S : ℕ) (f : List ℕ) → take-bytes true S (f ∷ []) ≡ bytes-of S f
+take-one : (S : ℕ) (f : List ℕ) → take-bytes true S (f ∷ []) ≡ hex-bytes S f
 unfolding take-bytes
 take-one S f = refl
 
-take-fields : (S : ℕ) (s : List ℕ) → take-bytes true S (fields s) ≡ bytes-of S s
+take-fields : (S : ℕ) (s : List ℕ) → take-bytes true S (fields s) ≡ hex-bytes S s
 take-fields S s =
     by (only-digits s)
     (λ t. ap (take-bytes true S) (one-field s (digits-above s t)) ∙ take-one S s)
@@ -313,49 +313,49 @@ take-fields S s =
     let n = not-digits S s t in
     ap (take-bytes true S) (f .2) ∙ take-other S s (f .0) (f .1) (fields-back s (f .0) (f .1) (f .2)) n ∙ sym n)
 
-bytes-none : (S : ℕ) (s : List ℕ) → spells-bytes S s ≡ false → bytes-of S s ≡ none
-unfolding bytes-of
+bytes-none : (S : ℕ) (s : List ℕ) → spells-bytes S s ≡ false → hex-bytes S s ≡ none
+unfolding hex-bytes
 bytes-none S s e = rw e
 
-bytes-some : (S : ℕ) (s : List ℕ) → spells-bytes S s ≡ true → bytes-of S s ≡ some (unhex s)
-unfolding bytes-of
+bytes-some : (S : ℕ) (s : List ℕ) → spells-bytes S s ≡ true → hex-bytes S s ≡ some (unhex s)
+unfolding hex-bytes
 bytes-some S s e = rw e
 
 -- ---- a body
 
-no-kind : (o : Option ℕ) (g : ℕ → Option Parts) → ((k : ℕ) → o ≡ some k → 1 ≤ k) → kind-number o ≡ 0 → and-then o g ≡ none
+no-kind : (o : Option ℕ) (g : ℕ → Option EventFields) → ((k : ℕ) → o ≡ some k → 1 ≤ k) → kind-number o ≡ 0 → and-then o g ≡ none
 unfolding kind-number and-then
 no-kind none g h n = refl
 no-kind (some k) g h n = absurd (omega (arith, h k refl))
 
-pub unknown : (S : ℕ) (fs : List (List ℕ)) → kind-number (first-kind fs) ≡ 0 → parts-of-fields S fs ≡ none
-unfolding parts-of-fields first-kind
+pub unknown : (S : ℕ) (fs : List (List ℕ)) → kind-number (first-kind fs) ≡ 0 → fields-of-texts S fs ≡ none
+unfolding fields-of-texts first-kind
 unknown S [] e = refl
-unknown S (w ∷ fs) e = no-kind (kind-of-word w) (λ k. parts-of-kind S k fs) (λ k h. kind-some w k h .least) e
+unknown S (w ∷ fs) e = no-kind (kind-of-word w) (λ k. fields-of-kind S k fs) (λ k h. kind-some w k h .least) e
 
-known : (S k : ℕ) (fs gs : List (List ℕ)) → first-kind fs ≡ some k → rest fs ≡ gs → parts-of-fields S fs ≡ parts-of-kind S k gs
-unfolding parts-of-fields first-kind rest and-then
+known : (S k : ℕ) (fs gs : List (List ℕ)) → first-kind fs ≡ some k → rest fs ≡ gs → fields-of-texts S fs ≡ fields-of-kind S k gs
+unfolding fields-of-texts first-kind rest and-then
 known S k [] gs e r = let z : _≡_ {A = ℕ} 0 1 = cc in absurd (omega arith)
 known S k (w ∷ fs) gs e r = rw (e, r)
 
 -- a word that is too long
-pub unnamed : (S : ℕ) (fs : List (List ℕ)) → first-kind fs ≡ none → parts-of-fields S fs ≡ none
+pub unnamed : (S : ℕ) (fs : List (List ℕ)) → first-kind fs ≡ none → fields-of-texts S fs ≡ none
 unfolding kind-number
 unnamed S fs e = unknown S fs (ap kind-number e)
 
 module _ (S k : ℕ) (fs : List (List ℕ)) where
-  kind-wrong : take-numbers (kind-at k .numbers) fs ≡ none → parts-of-kind S k fs ≡ none
-  unfolding parts-of-kind and-then
+  kind-wrong : take-numbers (kind-at k .numbers) fs ≡ none → fields-of-kind S k fs ≡ none
+  unfolding fields-of-kind and-then
   kind-wrong e = rw e
 
   module _ (a b c : ℕ) (left : List (List ℕ)) (t : Three (kind-at k .numbers) fs a b c left) where
-    kind-spoilt : take-bytes (kind-at k .payload) S left ≡ none → parts-of-kind S k fs ≡ none
-    unfolding parts-of-kind and-then
+    kind-spoilt : take-bytes (kind-at k .payload) S left ≡ none → fields-of-kind S k fs ≡ none
+    unfolding fields-of-kind and-then
     kind-spoilt e = rw (t .read, e)
 
     kind-found : (q : Bool) (bs : List ℕ) → kind-at k .payload ≡ q → take-bytes (kind-at k .payload) S left ≡ some bs
-        → Found (parts-of-kind S k fs) q k a b c bs
-    unfolding parts-of-kind and-then answer-to bytes-read has-data
+        → Found (fields-of-kind S k fs) q k a b c bs
+    unfolding fields-of-kind and-then answer-to bytes-read has-data
     kind-found q bs h e =
         record { answer = rw (t .read, e, t .first, t .second, t .third); content = rw (t .read, e); payload = rw (t .read, e) h }
 
@@ -380,47 +380,47 @@ pub record Row (s : List ℕ) (fs : List (List ℕ)) (k n : ℕ) (p : Bool) : Ty
   pub payload : p ≡ kind-at k .payload
 
 module _ (S : ℕ) (s : List ℕ) (fs : List (List ℕ)) (k n : ℕ) (p : Bool) (row : Row s fs k n p) where
-  of-kind : parts-of-fields S (fields s) ≡ parts-of-kind S k fs
+  of-kind : fields-of-texts S (fields s) ≡ fields-of-kind S k fs
   of-kind = known S k (fields s) fs (number-some (first-kind (fields s)) k (row .least) (sym (row .kind))) (row .others)
 
-  pub body-wrong : take-numbers n fs ≡ none → parts-of-fields S (fields s) ≡ none
+  pub body-wrong : take-numbers n fs ≡ none → fields-of-texts S (fields s) ≡ none
   body-wrong e = of-kind ∙ kind-wrong S k fs (rw (row .numbers) at e)
 
   module _ (a b c : ℕ) (left : List (List ℕ)) (t : Three n fs a b c left) where
     three : Three (kind-at k .numbers) fs a b c left
     three = rw (row .numbers) at t
 
-    spoilt : (q : Bool) → p ≡ q → take-bytes q S left ≡ none → parts-of-fields S (fields s) ≡ none
+    spoilt : (q : Bool) → p ≡ q → take-bytes q S left ≡ none → fields-of-texts S (fields s) ≡ none
     spoilt q e h = of-kind ∙ kind-spoilt S k fs a b c left three (rw (sym (row .payload) ∙ e) h)
 
-    found : (q : Bool) (bs : List ℕ) → p ≡ q → take-bytes q S left ≡ some bs → Found (parts-of-fields S (fields s)) q k a b c bs
+    found : (q : Bool) (bs : List ℕ) → p ≡ q → take-bytes q S left ≡ some bs → Found (fields-of-texts S (fields s)) q k a b c bs
     found q bs e h =
         let r : kind-at k .payload ≡ q = sym (row .payload) ∙ e in
         rw of-kind (kind-found S k fs a b c left three q bs r (rw r h))
 
-    pub body-plain : p ≡ false → left ≡ [] → Found (parts-of-fields S (fields s)) false k a b c []
+    pub body-plain : p ≡ false → left ≡ [] → Found (fields-of-texts S (fields s)) false k a b c []
     body-plain e l = found false [] e (rw l (no-data S))
 
-    pub body-missing : p ≡ true → left ≡ [] → parts-of-fields S (fields s) ≡ none
+    pub body-missing : p ≡ true → left ≡ [] → fields-of-texts S (fields s) ≡ none
     body-missing e l = spoilt true e (rw l (data-missing S))
 
     module _ (u : List ℕ) (l : left ≡ fields u) where
-      pub body-extra : p ≡ false → parts-of-fields S (fields s) ≡ none
+      pub body-extra : p ≡ false → fields-of-texts S (fields s) ≡ none
       body-extra e = spoilt false e (rw l (field-too-many S u))
 
-      pub body-loaded : p ≡ true → spells-bytes S u ≡ true → Found (parts-of-fields S (fields s)) true k a b c (unhex u)
+      pub body-loaded : p ≡ true → spells-bytes S u ≡ true → Found (fields-of-texts S (fields s)) true k a b c (unhex u)
       body-loaded e h = found true (unhex u) e (rw l (take-fields S u ∙ bytes-some S u h))
 
-      pub body-spoilt : p ≡ true → spells-bytes S u ≡ false → parts-of-fields S (fields s) ≡ none
+      pub body-spoilt : p ≡ true → spells-bytes S u ≡ false → fields-of-texts S (fields s) ≡ none
       body-spoilt e h = spoilt true e (rw l (take-fields S u ∙ bytes-none S u h))
 
 -- ---- what is answered and left
 
-pub refused : (o : Option Parts) (d : List ℕ) → o ≡ none → (Refused ≡ answer-to o) × (d ≡ onto 0 (bytes-read o) d)
+pub refused : (o : Option EventFields) (d : List ℕ) → o ≡ none → (Refused ≡ answer-to o) × (d ≡ onto 0 (bytes-read o) d)
 unfolding answer-to bytes-read
 refused o d e = (rw e, rw e (sym (onto-nothing 0 d)))
 
-pub accepted : (o o' : Option Parts) (p : Bool) (k a b c : ℕ) (bs d d' : List ℕ) → Found o p k a b c bs → o' ≡ o → d' ≡ onto 0 bs d
+pub accepted : (o o' : Option EventFields) (p : Bool) (k a b c : ℕ) (bs d d' : List ℕ) → Found o p k a b c bs → o' ≡ o → d' ≡ onto 0 bs d
     → (Is k a b c ≡ answer-to o') × (d' ≡ onto 0 (bytes-read o') d)
 accepted o o' p k a b c bs d d' f s e = (rw s (sym (f .answer)), rw (s, f .content) e)
 
@@ -434,37 +434,37 @@ filled t l e =
 -- ---- a line
 
 module _ (S room : ℕ) where
-  pub room-none : (o : Option Parts) → o ≡ none → with-room S room o ≡ none
+  pub room-none : (o : Option EventFields) → o ≡ none → with-room S room o ≡ none
   unfolding with-room has-data
   room-none o e = rw e
 
-  pub room-unasked : (o : Option Parts) → has-data o ≡ false → with-room S room o ≡ o
+  pub room-unasked : (o : Option EventFields) → has-data o ≡ false → with-room S room o ≡ o
   unfolding with-room
   room-unasked o e = rw e
 
-  pub room-right : (o : Option Parts) → has-data o ≡ true → room ≡ S → with-room S room o ≡ o
+  pub room-right : (o : Option EventFields) → has-data o ≡ true → room ≡ S → with-room S room o ≡ o
   unfolding with-room
   room-right o e h = rw (e, eq-eqb room S h)
 
-  pub room-wrong : (o : Option Parts) → has-data o ≡ true → (room ≡ S → ⊥) → with-room S room o ≡ none
+  pub room-wrong : (o : Option EventFields) → has-data o ≡ true → (room ≡ S → ⊥) → with-room S room o ≡ none
   unfolding with-room
   room-wrong o e h = rw (e, ne-eqb room S h)
 
-  pub parsed-as : (l : List ℕ) (o : Option Parts) → read-parts S l ≡ o → parsed S room l ≡ with-room S room o
+  pub parsed-as : (l : List ℕ) (o : Option EventFields) → read-fields S l ≡ o → parsed S room l ≡ with-room S room o
   unfolding parsed
   parsed-as l o e = rw e
 
-  pub parsed-none : (l : List ℕ) → read-parts S l ≡ none → parsed S room l ≡ none
+  pub parsed-none : (l : List ℕ) → read-fields S l ≡ none → parsed S room l ≡ none
   parsed-none l e = parsed-as l none e ∙ room-none none refl
 
 module _ (l : List ℕ) where
-  pub parts-no-line : (S : ℕ) → is-line l ≡ false → read-parts S l ≡ none
-  unfolding read-parts
-  parts-no-line S e = rw e
+  pub fields-no-line : (S : ℕ) → is-line l ≡ false → read-fields S l ≡ none
+  unfolding read-fields
+  fields-no-line S e = rw e
 
-  pub parts-line : (S : ℕ) (body : List ℕ) → is-line l ≡ true → body ≡ take (length l - 1) l → read-parts S l ≡ parts-of-fields S (fields body)
-  unfolding read-parts without-feed
-  parts-line S body e b = rw (e, b)
+  pub fields-line : (S : ℕ) (body : List ℕ) → is-line l ≡ true → body ≡ take (length l - 1) l → read-fields S l ≡ fields-of-texts S (fields body)
+  unfolding read-fields without-feed
+  fields-line S body e b = rw (e, b)
 
   pub settings-no-line : is-line l ≡ false → read-settings l ≡ none
   unfolding read-settings

@@ -5,8 +5,8 @@ use mathlib.Core.Option.{Option, some, none}
 use Prim.Native.Nat.{ℕ}
 use lib.Dec.{eqb}
 use lib.ListN.{getD}
-use Rattle.rules.specs.Event.{Parts, kind-at}
-use Rattle.text.specs.Lines.{read-parts}
+use Rattle.rules.specs.Event.{EventFields, kind-at}
+use Rattle.text.specs.Lines.{read-fields}
 use Rattle.parse.specs.declared.Parsed.{Parsed}
 use Rattle.parse.specs.declared.Parsed.the-variants.{Is, Refused}
 use Rattle.parse.specs.declared.SettingsLine.{SettingsLine}
@@ -16,24 +16,24 @@ use Rattle.parse.specs.declared.for_c.SettingsAnswer.{SettingsAnswer}
 use Rattle.rules.specs.declared.settings.Settings.{Settings}
 
 -- has the event data?
-unfoldable pub has-data : Option Parts → Bool
+unfoldable pub has-data : Option EventFields → Bool
 has-data none = false
 has-data (some e) = kind-at (e .kind) .payload
 
 -- data asks for a lent area of S bytes; an event without data is taken whatever area is lent
-unfoldable pub with-room : ℕ → ℕ → Option Parts → Option Parts
+unfoldable pub with-room : ℕ → ℕ → Option EventFields → Option EventFields
 with-room S room o = cond (has-data o) (cond (eqb room S) o none) o
 
 -- the event that a line gives, where so much room is lent for data
-unfoldable pub parsed : ℕ → ℕ → List ℕ → Option Parts
-parsed S room line = with-room S room (read-parts S line)
+unfoldable pub parsed : ℕ → ℕ → List ℕ → Option EventFields
+parsed S room line = with-room S room (read-fields S line)
 
 -- numbers that the kind does not have are 0
-unfoldable pub answer-to : Option Parts → Parsed
+unfoldable pub answer-to : Option EventFields → Parsed
 answer-to none = Refused
 answer-to (some e) = Is (e .kind) (getD (e .numbers) 0 0) (getD (e .numbers) 1 0) (getD (e .numbers) 2 0)
 
-unfoldable pub bytes-read : Option Parts → List ℕ
+unfoldable pub bytes-read : Option EventFields → List ℕ
 bytes-read none = []
 bytes-read (some e) = e .bytes
 

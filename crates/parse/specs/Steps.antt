@@ -8,10 +8,10 @@ use lib.Dec.{leb}
 use lib.ListN.{length, getD, take, drop}
 use Rattle.decimal.specs.Decimal.{spelled, number-of}
 use Rattle.hex.specs.Hex.{unhex, spells-bytes}
-use Rattle.text.specs.Words.{kind-of-word, kind-of-packed}
+use Rattle.text.specs.Kinds.{kind-of-word, kind-of-packed}
 use Rattle.text.specs.Fields.{fields}
-use Rattle.rules.specs.Event.{Parts}
-use Rattle.text.specs.Lines.{taken, take-numbers, parts-of-fields}
+use Rattle.rules.specs.Event.{EventFields}
+use Rattle.text.specs.Lines.{taken, take-numbers, fields-of-texts}
 use Rattle.parse.specs.Answers.{has-data, answer-to, bytes-read}
 use Rattle.parse.specs.declared.Parsed.the-variants.{Is}
 use Rattle.parse.specs.declared.Word.{Word}
@@ -65,17 +65,17 @@ NumbersAre n s at (Read a b c next) = Three n (fields-from s at) a b c (fields-f
 NumbersAre n s at Wrong = take-numbers n (fields-from s at) ≡ none
 
 -- an event whose data, if any, is the text's end from a position on
-pub record Found (o : Option Parts) (p : Bool) (k a b c : ℕ) (bytes : List ℕ) : Type 0 where
+pub record Found (o : Option EventFields) (p : Bool) (k a b c : ℕ) (bytes : List ℕ) : Type 0 where
   pub answer : answer-to o ≡ Is k a b c
   pub content : bytes-read o ≡ bytes
   pub payload : has-data o ≡ p
 
 pub record FoundAt (S : ℕ) (s : List ℕ) (k a b c from : ℕ) : Type 0 where
-  pub found : Found (parts-of-fields S (fields s)) true k a b c (unhex (drop from s))
+  pub found : Found (fields-of-texts S (fields s)) true k a b c (unhex (drop from s))
   pub within : from ≤ length s
   pub hexadecimal : spells-bytes S (drop from s) ≡ true
 
 abbrev pub ReadingIs : ℕ → List ℕ → Reading → Type 0
-ReadingIs S s (Plain k a b c) = Found (parts-of-fields S (fields s)) false k a b c []
+ReadingIs S s (Plain k a b c) = Found (fields-of-texts S (fields s)) false k a b c []
 ReadingIs S s (Loaded k a b c from) = FoundAt S s k a b c from
-ReadingIs S s Refused = parts-of-fields S (fields s) ≡ none
+ReadingIs S s Refused = fields-of-texts S (fields s) ≡ none

@@ -4,7 +4,7 @@ ghost use Prim.Native.Nat.{_≤_, _<_};
 ghost use lib.ListN.{length};
 ghost use Rattle.area.specs.Area.{onto};
 ghost use Rattle.text.specs.Fields.{fields};
-ghost use Rattle.text.specs.Lines.{parts-of-fields, settings-of-fields, read-settings};
+ghost use Rattle.text.specs.Lines.{fields-of-texts, settings-of-fields, read-settings};
 ghost use Rattle.parse.specs.Answers.{parsed, with-room, answer-to, bytes-read, settings-answer};
 ghost use Rattle.parse.specs.Steps.{WordIs, Closed, FieldIs, NumbersAre, ReadingIs};
 
@@ -216,9 +216,9 @@ fn read_body(body: &[u8], size: usize) -> Reading
 
 // The same, with the data written where it is lent.
 fn parse_body(body: &[u8], size: usize, data: &mut [u8]) -> Parsed
-    ensures { λ r. ⌜ (r ≡ answer-to (with-room size (length (now («data» .entry))) (parts-of-fields size (fields (now (body .entry))))))
+    ensures { λ r. ⌜ (r ≡ answer-to (with-room size (length (now («data» .entry))) (fields-of-texts size (fields (now (body .entry))))))
         × (now («data» .exit)
-        ≡ onto 0 (bytes-read (with-room size (length (now («data» .entry))) (parts-of-fields size (fields (now (body .entry)))))) (now («data» .entry))) ⌝ }
+        ≡ onto 0 (bytes-read (with-room size (length (now («data» .entry))) (fields-of-texts size (fields (now (body .entry)))))) (now («data» .entry))) ⌝ }
 {
     let reading = read_body(body, size);
     match reading {

@@ -16,7 +16,7 @@ use Rattle.hex.specs.Hex.{hex}
 use Rattle.hex.proofs.Laws.{hex-length}
 use Rattle.text.specs.Table.{shape-of}
 use Rattle.text.specs.declared.Shape.{Shape}
-use Rattle.rules.specs.Event.{kind-count, kind-at, Parts, parts-from}
+use Rattle.rules.specs.Event.{kind-count, kind-at, EventFields, fields-brought}
 use Rattle.text.specs.Fields.{comma, parted}
 use Rattle.text.specs.Lines.{longest, line-feed, field-texts, line-of, is-well-formed}
 use Rattle.lists.specs.Tests.{_and_}
@@ -80,34 +80,34 @@ unfolding parted tail
 tail-text true bs = rw append-nil
 tail-text false bs = refl
 
-line-parts : (k a b c : ℕ) (bs : List ℕ)
-    → line-of (parts-from k a b c bs) ≡ ((kind-at k .word ++ number-texts (kind-at k .numbers) a b c) ++ tail (kind-at k .payload) bs) ++ (line-feed ∷ [])
-unfolding line-of field-texts parts-from number-texts
-line-parts k a b c bs =
+line-fields : (k a b c : ℕ) (bs : List ℕ)
+    → line-of (fields-brought k a b c bs) ≡ ((kind-at k .word ++ number-texts (kind-at k .numbers) a b c) ++ tail (kind-at k .payload) bs) ++ (line-feed ∷ [])
+unfolding line-of field-texts fields-brought number-texts
+line-fields k a b c bs =
     let ns : List (List ℕ) = map decimal (take (kind-at k .numbers) (a ∷ b ∷ c ∷ [])) in
     rw (parted-append ns (cond (kind-at k .payload) (hex (cond (kind-at k .payload) bs []) ∷ []) []), tail-text (kind-at k .payload) bs)
     (simp append-assoc)
 
 module _ (k a b c : ℕ) (bs : List ℕ) where
-  pub line-length : length (line-of (parts-from k a b c bs)) ≡ length (kind-at k .word) + length (number-texts (kind-at k .numbers) a b c) + length
+  pub line-length : length (line-of (fields-brought k a b c bs)) ≡ length (kind-at k .word) + length (number-texts (kind-at k .numbers) a b c) + length
       (tail (kind-at k .payload) bs) + 1
   line-length =
-      ap length (line-parts k a b c bs)
+      ap length (line-fields k a b c bs)
       ∙ rw (length-append, length-append, length-append)
 
   pub loaded-length : kind-at k .payload ≡ true
-      → length (line-of (parts-from k a b c bs)) ≡ length (kind-at k .word) + length (number-texts (kind-at k .numbers) a b c) + (1 + 2 * length bs) + 1
+      → length (line-of (fields-brought k a b c bs)) ≡ length (kind-at k .word) + length (number-texts (kind-at k .numbers) a b c) + (1 + 2 * length bs) + 1
   unfolding tail
   loaded-length e = line-length ∙ rw (e, hex-length bs) (omega arith)
 
   pub plain-length : kind-at k .payload ≡ false
-      → length (line-of (parts-from k a b c bs)) ≡ length (kind-at k .word) + length (number-texts (kind-at k .numbers) a b c) + 1
+      → length (line-of (fields-brought k a b c bs)) ≡ length (kind-at k .word) + length (number-texts (kind-at k .numbers) a b c) + 1
   unfolding tail
   plain-length e = line-length ∙ rw e (omega arith)
 
   -- what the calls that write the word and the numbers leave, and where
   pub record Fronted (l m1 m2 : List ℕ) (at next : ℕ) : Type 0 where
-    pub fits : length (line-of (parts-from k a b c bs)) ≤ length l
+    pub fits : length (line-of (fields-brought k a b c bs)) ≤ length l
     pub first : m1 ≡ onto 0 (kind-at k .word) l
     pub second : m2 ≡ onto at (number-texts (kind-at k .numbers) a b c) m1
     pub place : at ≡ length (kind-at k .word)
@@ -121,16 +121,16 @@ module _ (k a b c : ℕ) (bs : List ℕ) where
     front-length : length (kind-at k .word ++ number-texts (kind-at k .numbers) a b c) ≡ next
     front-length = length-append (kind-at k .word) (number-texts (kind-at k .numbers) a b c) ∙ omega arith
 
-    pub plain-line : (m3 : List ℕ) → kind-at k .payload ≡ false → m3 ≡ onto next (line-feed ∷ []) m2 → m3 ≡ onto 0 (line-of (parts-from k a b c bs)) l
+    pub plain-line : (m3 : List ℕ) → kind-at k .payload ≡ false → m3 ≡ onto next (line-feed ∷ []) m2 → m3 ≡ onto 0 (line-of (fields-brought k a b c bs)) l
     unfolding tail
     plain-line m3 e e3 =
         let fl = front-length in
         onto-then 0 next (kind-at k .word ++ number-texts (kind-at k .numbers) a b c) (line-feed ∷ []) l m2 m3 (omega (arith, line-length))
         (omega arith) front e3
-        ∙ ap (λ (t : List ℕ). onto 0 t l) (sym (line-parts k a b c bs ∙ rw (e, append-nil)))
+        ∙ ap (λ (t : List ℕ). onto 0 t l) (sym (line-fields k a b c bs ∙ rw (e, append-nil)))
 
     pub loaded-line : (m3 m4 : List ℕ) (end : ℕ) → kind-at k .payload ≡ true → m3 ≡ onto next (comma ∷ hex bs) m2 → end ≡ next + (1 + 2 * length bs)
-        → m4 ≡ onto end (line-feed ∷ []) m3 → m4 ≡ onto 0 (line-of (parts-from k a b c bs)) l
+        → m4 ≡ onto end (line-feed ∷ []) m3 → m4 ≡ onto 0 (line-of (fields-brought k a b c bs)) l
     unfolding tail
     loaded-line m3 m4 end e e3 eend e4 =
         let fl = front-length in
@@ -141,7 +141,7 @@ module _ (k a b c : ℕ) (bs : List ℕ) where
         let third : m3 ≡ onto 0 whole l =
         onto-then 0 next (kind-at k .word ++ number-texts (kind-at k .numbers) a b c) (comma ∷ hex bs) l m2 m3 (omega arith) (omega arith) front e3 in
         onto-then 0 end whole (line-feed ∷ []) l m3 m4 (omega arith) (omega arith) third e4
-        ∙ ap (λ (t : List ℕ). onto 0 t l) (sym (line-parts k a b c bs ∙ rw e))
+        ∙ ap (λ (t : List ℕ). onto 0 t l) (sym (line-fields k a b c bs ∙ rw e))
 
 -- ---- which events are well formed
 
@@ -154,7 +154,7 @@ below-take zero h = each-none
 below-take (suc k) each-none = each-none
 below-take (suc k) (each-more h r) = each-more h (below-take k r)
 
-pub unformed : (S : ℕ) (e : Parts) → (WellFormed S e → ⊥) → length-of-line S e ≡ 0
+pub unformed : (S : ℕ) (e : EventFields) → (WellFormed S e → ⊥) → length-of-line S e ≡ 0
 unfolding length-of-line
 unformed S e h = by (is-well-formed S e) (λ t. absurd (h (well-formed S e t))) (λ f. rw f)
 
@@ -168,8 +168,8 @@ payload-small false bs h = each-none
 
 module _ (S k a b c : ℕ) (bs : List ℕ) where
   well : 1 ≤ k → k ≤ kind-count → a < 2 ^ 64 → b < 2 ^ 64 → c < 2 ^ 64 → Below 256 bs → (kind-at k .payload ≡ true → length bs ≡ S)
-      → length (line-of (parts-from k a b c bs)) ≤ longest → WellFormed S (parts-from k a b c bs)
-  unfolding parts-from
+      → length (line-of (fields-brought k a b c bs)) ≤ longest → WellFormed S (fields-brought k a b c bs)
+  unfolding fields-brought
   well h g ha hb hc hbs hs hl =
       record {
         least = h;
@@ -182,16 +182,16 @@ module _ (S k a b c : ℕ) (bs : List ℕ) where
       }
 
   pub formed : 1 ≤ k → k ≤ kind-count → a < 2 ^ 64 → b < 2 ^ 64 → c < 2 ^ 64 → Below 256 bs → (kind-at k .payload ≡ true → length bs ≡ S)
-      → length (line-of (parts-from k a b c bs)) ≤ longest → length-of-line S (parts-from k a b c bs) ≡ length (line-of (parts-from k a b c bs))
+      → length (line-of (fields-brought k a b c bs)) ≤ longest → length-of-line S (fields-brought k a b c bs) ≡ length (line-of (fields-brought k a b c bs))
   unfolding length-of-line
-  formed h g ha hb hc hbs hs hl = rw (formed-well S (parts-from k a b c bs) (well h g ha hb hc hbs hs hl))
+  formed h g ha hb hc hbs hs hl = rw (formed-well S (fields-brought k a b c bs) (well h g ha hb hc hbs hs hl))
 
-  pub loaded-size : kind-at k .payload ≡ true → WellFormed S (parts-from k a b c bs) → length bs ≡ S
-  unfolding parts-from
+  pub loaded-size : kind-at k .payload ≡ true → WellFormed S (fields-brought k a b c bs) → length bs ≡ S
+  unfolding fields-brought
   loaded-size e w = rw e at (w .size)
 
-  pub kind-of : parts-from k a b c bs .kind ≡ k
-  unfolding parts-from
+  pub kind-of : fields-brought k a b c bs .kind ≡ k
+  unfolding fields-brought
   kind-of = refl
 
 -- what the code knows of a kind's line before its data
@@ -218,11 +218,11 @@ few-numbers k r h g e =
 
 -- ---- what is answered and left
 
-some-line : (e : Parts) → 1 ≤ length (line-of e)
+some-line : (e : EventFields) → 1 ≤ length (line-of e)
 unfolding line-of
 some-line e = rw (length-append, length-append) (omega arith)
 
-module _ (S : ℕ) (e : Parts) (l : List ℕ) where
+module _ (S : ℕ) (e : EventFields) (l : List ℕ) where
   pub not-printed : can-print S e (length l) ≡ false → (Refused ≡ printed S e (length l)) × (l ≡ line-after S e l)
   unfolding printed line-after
   not-printed f = (rw f, rw f)

@@ -1,7 +1,7 @@
 // The answer as a struct, for the calls for C: a no answers with its number and nothing else.
 ghost use mathlib.Core.Path.{_≡_};
 ghost use lib.ListN.{length};
-ghost use Rattle.rules.specs.Event.{parts-from};
+ghost use Rattle.rules.specs.Event.{fields-brought};
 ghost use Rattle.print.specs.Answers.{printed, line-after, line-answer};
 use crate::Printed;
 
@@ -21,8 +21,8 @@ pub fn print(
     size: usize,
     line: &mut [u8],
 ) -> LineAnswer
-    ensures { λ r. ⌜ (r ≡ line-answer (printed size (parts-from kind a b c (now («data» .entry))) (length (now (line .entry)))))
-        × (now (line .exit) ≡ line-after size (parts-from kind a b c (now («data» .entry))) (now (line .entry))) ⌝ }
+    ensures { λ r. ⌜ (r ≡ line-answer (printed size (fields-brought kind a b c (now («data» .entry))) (length (now (line .entry)))))
+        × (now (line .exit) ≡ line-after size (fields-brought kind a b c (now («data» .entry))) (now (line .entry))) ⌝ }
 {
     let answer = crate::print(kind, a, b, c, data, size, line);
     match answer {

@@ -2,7 +2,7 @@
 ghost use mathlib.Core.Path.{_≡_};
 ghost use mathlib.Core.List.{_∷_};
 ghost use Prim.Native.Nat.{_+_, _*_, _≤_};
-ghost use Rattle.rules.specs.Event.{kind-count, parts-from};
+ghost use Rattle.rules.specs.Event.{kind-count, fields-brought};
 ghost use lib.ListN.{length};
 ghost use Rattle.area.specs.Area.{onto};
 ghost use Rattle.decimal.specs.Decimal.{decimal};
@@ -41,7 +41,7 @@ fn numbers_length(a: u64, b: u64, c: u64, n: u8) -> usize
 
 // The length of the line, or 0 where the event is not well formed.
 fn line_length(kind: u64, a: u64, b: u64, c: u64, data: &[u8], size: usize) -> usize
-    ensures { λ r. ⌜ r ≡ length-of-line size (parts-from kind a b c (now («data» .entry))) ⌝ }
+    ensures { λ r. ⌜ r ≡ length-of-line size (fields-brought kind a b c (now («data» .entry))) ⌝ }
 {
     if kind == 0 {
         return 0;
@@ -111,8 +111,8 @@ fn put_data(data: &[u8], line: &mut [u8], at: usize) -> usize
 
 // The whole line, at the front of an area that holds it.
 fn write_line(kind: usize, a: u64, b: u64, c: u64, data: &[u8], line: &mut [u8])
-    requires { ⌜ (1 ≤ kind) × (kind ≤ kind-count) × (length (line-of (parts-from kind a b c (now «data»))) ≤ length (now line)) ⌝ }
-    ensures { λ _. ⌜ now (line .exit) ≡ onto 0 (line-of (parts-from kind a b c (now («data» .entry)))) (now (line .entry)) ⌝ }
+    requires { ⌜ (1 ≤ kind) × (kind ≤ kind-count) × (length (line-of (fields-brought kind a b c (now «data»))) ≤ length (now line)) ⌝ }
+    ensures { λ _. ⌜ now (line .exit) ≡ onto 0 (line-of (fields-brought kind a b c (now («data» .entry)))) (now (line .entry)) ⌝ }
 {
     let at = text::put_word(kind, line);
     let shape = text::shape_of(kind);
@@ -137,8 +137,8 @@ pub fn print(
     size: usize,
     line: &mut [u8],
 ) -> Printed
-    ensures { λ r. ⌜ (r ≡ printed size (parts-from kind a b c (now («data» .entry))) (length (now (line .entry))))
-        × (now (line .exit) ≡ line-after size (parts-from kind a b c (now («data» .entry))) (now (line .entry))) ⌝ }
+    ensures { λ r. ⌜ (r ≡ printed size (fields-brought kind a b c (now («data» .entry))) (length (now (line .entry))))
+        × (now (line .exit) ≡ line-after size (fields-brought kind a b c (now («data» .entry))) (now (line .entry))) ⌝ }
 {
     let n = line_length(kind, a, b, c, data, size);
     if n == 0 {

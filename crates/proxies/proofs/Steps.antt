@@ -12,11 +12,11 @@ use Rattle.rules.specs.Limits.{proxies}
 use Rattle.rules.specs.Entries.{Entry}
 use Rattle.rules.specs.Maps.{learn-effect, reset-effect}
 use Rattle.codec.specs.Codec.{change, enc-two}
-use Rattle.layout.specs.Disk.{Proxy, blank-proxy}
+use Rattle.layout.specs.Contents.{Proxy, blank-proxy}
 use Rattle.layout.specs.Layout.{proxy-codec, proxy-words, proxy-at}
 use Rattle.layout.specs.Store.{decode, render}
 use Rattle.layout.proofs.Foci.{proxy-focus}
-use Rattle.parts.specs.Parts.{with-known}
+use Rattle.records.specs.Records.{with-known}
 use Rattle.lent.specs.Stores.{StoreOf}
 use Rattle.lent.proofs.Effects.{effect}
 

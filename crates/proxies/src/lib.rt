@@ -7,7 +7,7 @@ ghost use Rattle.rules.specs.Limits.{proxies};
 ghost use Rattle.rules.specs.Event.{Event};
 ghost use Rattle.rules.specs.Maps.{abandon-asks, learn-effect, reset-effect};
 ghost use Rattle.rules.specs.Question.{first-no};
-ghost use Rattle.layout.specs.Disk.{blank-proxy};
+ghost use Rattle.layout.specs.Contents.{blank-proxy};
 ghost use Rattle.layout.specs.Layout.{proxy-codec, proxy-words};
 ghost use Rattle.layout.specs.Store.{decode, render};
 ghost use Rattle.lent.specs.Performs.{Performs};
@@ -30,7 +30,7 @@ fn take_view(store: &mut [u8], settings: Settings, proxy: usize)
 {
     let view = store::view(store, settings);
     let at = 8 * sizes::proxy_at(settings, proxy);
-    parts::proxy::set_known(
+    records::proxy::set_known(
         &mut store[at..at + 8 * sizes::PROXY_WORDS],
         ViewNumber(view),
     );

@@ -12,11 +12,11 @@ use Rattle.rules.specs.declared.settings.Settings.{Settings}
 use Rattle.rules.specs.Numbers.{home-of}
 use Rattle.rules.specs.Chunks.{bytes-in}
 use Rattle.rules.specs.State.{State}
-use Rattle.rules.specs.Parts.{circle, holder}
+use Rattle.rules.specs.Derived.{members-from, holder}
 use Rattle.rules.specs.Reads.{zeros}
-use Rattle.rules.proofs.Parts.{seek-held}
+use Rattle.rules.proofs.Derived.{first-holder-held}
 use Rattle.log.specs.Log.{chunk-at}
-use Rattle.layout.specs.Disk.{Brick}
+use Rattle.layout.specs.Contents.{Brick}
 use Rattle.layout.specs.Store.{decode}
 use Rattle.lent.specs.Stores.{StoreOf}
 use Rattle.lent.proofs.Places.{zero-blank}
@@ -74,4 +74,4 @@ module _ (c : Settings) (bs : List ℕ) (v : StoreOf c bs) (k : ℕ) where
       whole : 0 < holder (decode (words bs)) k → length (bytes-in (decode (words bs) .bricks .log (holder (decode (words bs)) k)) k) ≡ c .size
       whole o =
           held-size c bs v (holder (decode (words bs)) k) k
-          (unfold holder in seek-held (decode (words bs) .bricks) k (circle (decode (words bs)) (home-of k)) o)
+          (unfold holder in first-holder-held (decode (words bs) .bricks) k (members-from (decode (words bs)) (home-of k)) o)

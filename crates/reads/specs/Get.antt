@@ -10,7 +10,7 @@ use Rattle.rules.specs.Chunks.{bytes-in}
 use Rattle.rules.specs.Event.{Event}
 use Rattle.rules.specs.Call.{is-zero-block}
 use Rattle.rules.specs.State.{State}
-use Rattle.rules.specs.Parts.{holder}
+use Rattle.rules.specs.Derived.{holder}
 use Rattle.rules.specs.Reads.{zeros}
 use Rattle.rules.specs.Step.{step}
 use Rattle.lent.specs.declared.Answer.{Answer}

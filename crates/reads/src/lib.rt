@@ -11,7 +11,7 @@ ghost use Rattle.rules.specs.Reads.{get-asks, zeros};
 ghost use Rattle.layout.specs.Store.{decode};
 ghost use Rattle.lent.specs.Stores.{StoreOf};
 ghost use Rattle.reads.specs.Get.{is-found, key-bytes, Gets, Fills, GetsInto};
-use holders::Lies;
+use holders::Location;
 use layout::sizes;
 use lent::Answer;
 use mappings::asks;
@@ -31,8 +31,8 @@ fn is_found(store: &[u8], settings: Settings, key: ChunkKey) -> bool
         return true;
     }
     match holders::holder(store, settings, key) {
-        Lies::At(_, _) => true,
-        Lies::Nowhere => false,
+        Location::At(_, _) => true,
+        Location::Nowhere => false,
     }
 }
 
@@ -66,10 +66,10 @@ fn key_bytes<'a>(store: &'a [u8], blank: &'a [u8], settings: Settings, key: Chun
         return blank;
     }
     match holders::holder(store, settings, key) {
-        Lies::At(place, row) => {
+        Location::At(place, row) => {
             return holders::chunk(store, settings, place, row);
         }
-        Lies::Nowhere => {
+        Location::Nowhere => {
             return &blank[0..0];
         }
     }
@@ -115,11 +115,11 @@ fn fill_key(store: &[u8], settings: Settings, key: ChunkKey, area: &mut [u8]) ->
         return true;
     }
     match holders::holder(store, settings, key) {
-        Lies::At(place, row) => {
+        Location::At(place, row) => {
             moves::copy_bytes(area, holders::chunk(store, settings, place, row));
             return true;
         }
-        Lies::Nowhere => {
+        Location::Nowhere => {
             return false;
         }
     }

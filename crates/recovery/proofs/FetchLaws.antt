@@ -12,7 +12,7 @@ use Rattle.rules.specs.Limits.{buckets}
 use Rattle.rules.specs.Entries.{Entry}
 use Rattle.rules.specs.State.{State, Bucket, with-copies}
 use Rattle.rules.specs.Views.{source, fetched-bucket, fetch-effect}
-use Rattle.layout.specs.Disk.{Agreed}
+use Rattle.layout.specs.Contents.{Agreed}
 use Rattle.layout.specs.Layout.{agreed-codec, agreed-words, agreed-at}
 use Rattle.layout.specs.Store.{agreed-in, decode, render}
 use Rattle.lent.specs.Stores.{StoreOf}

@@ -11,9 +11,9 @@ use Rattle.rules.specs.State.{State, Bucket, set-buckets, set-bucket}
 use Rattle.codec.specs.Codec.{_&_}
 use Rattle.codec.proofs.Focus.{Focus, _through_}
 use Rattle.layout.specs.Places.{Apart}
-use Rattle.layout.specs.Disk.{Copies, Brick, Place}
-use Rattle.layout.specs.Layout.{copy-codec, disk-codec}
-use Rattle.layout.specs.Store.{brick-in, agreed-in, to-disk}
+use Rattle.layout.specs.Contents.{Copies, Brick, Place}
+use Rattle.layout.specs.Layout.{copy-codec, store-codec}
+use Rattle.layout.specs.Store.{brick-in, agreed-in, contents-of}
 use Rattle.layout.proofs.Foci.{agreed-focus, place-focus}
 use Rattle.layout.proofs.Changes.{OneBrick, only-brick}
 use Rattle.lent.proofs.Parts.{memory-of, disk-of}
@@ -26,7 +26,7 @@ same-bucket s g =
     ap (λ (f : ℕ → Bucket). set-buckets s f) same
 
 module _ (s : State) (g : ℕ) (k l : Bucket) where
-  pub records-same : agreed-in k ≡ agreed-in l → to-disk (set-bucket s g k) .agreed ≡ to-disk (set-bucket s g l) .agreed
+  pub records-same : agreed-in k ≡ agreed-in l → contents-of (set-bucket s g k) .agreed ≡ contents-of (set-bucket s g l) .agreed
   unfolding upd
   records-same e = fun-ext (λ h. by (eqb h g) (λ q. rw q e) (λ q. rw q refl))
 
@@ -36,7 +36,7 @@ module _ (s : State) (g : ℕ) (k l : Bucket) where
     where
       made : (ℕ → Copies) → Brick
       made copies = record {
-        here = s .bricks .here i;
+        here = s .bricks .present i;
         status = brick-in s i .status;
         buffer = s .bricks .buffer i;
         copies = copies;
@@ -57,9 +57,9 @@ module _ (s : State) (g : ℕ) (k l : Bucket) where
 
   -- the record
   pub record-alone : (c : Settings) (h : g < buckets c) → ((i : ℕ) → k .memory i ≡ l .memory i) → ((i : ℕ) → k .disk i ≡ l .disk i)
-      → agreed-focus c g h .Else (to-disk (set-bucket s g k)) (to-disk (set-bucket s g l))
+      → agreed-focus c g h .Else (contents-of (set-bucket s g k)) (contents-of (set-bucket s g l))
   record-alone c h m d =
-      let places : to-disk (set-bucket s g k) .place ≡ to-disk (set-bucket s g l) .place =
+      let places : contents-of (set-bucket s g k) .place ≡ contents-of (set-bucket s g l) .place =
       fun-ext (λ p. ap (λ (b : Brick). s .ids p & b) (brick-same (s .ids p) (m (s .ids p)) (d (s .ids p)))) in (
         (refl, ap (λ (f : ℕ → Place). (λ p. record { known = s .known p; items = s .items p }) & s .bag & f) places),
         λ j z n. ap agreed-in (upd-other (s .bucket) g j k n ∙ sym (upd-other (s .bucket) g j l n)),
@@ -67,35 +67,35 @@ module _ (s : State) (g : ℕ) (k l : Bucket) where
 
 -- ---- where a copy lies in the store
 module _ (c : Settings) (p : ℕ) (hp : p < c .places) (g : ℕ) (hg : g < buckets c) where
-  abbrev pub memory-at : Focus (disk-codec c) (copy-codec c)
+  abbrev pub memory-at : Focus (store-codec c) (copy-codec c)
   memory-at = place-focus c p hp through memory-of c g hg
 
-  abbrev pub disk-at : Focus (disk-codec c) (copy-codec c)
+  abbrev pub disk-at : Focus (store-codec c) (copy-codec c)
   disk-at = place-focus c p hp through disk-of c g hg
 
   module _ (s : State) (k : Bucket) where
-    pub see-memory : memory-at .see (to-disk (set-bucket s g k)) ≡ k .memory (s .ids p)
+    pub see-memory : memory-at .see (contents-of (set-bucket s g k)) ≡ k .memory (s .ids p)
     see-memory = ap (λ (b : Bucket). b .memory (s .ids p)) (upd-same (s .bucket) g k)
 
-    pub see-disk : disk-at .see (to-disk (set-bucket s g k)) ≡ k .disk (s .ids p)
+    pub see-disk : disk-at .see (contents-of (set-bucket s g k)) ≡ k .disk (s .ids p)
     see-disk = ap (λ (b : Bucket). b .disk (s .ids p)) (upd-same (s .bucket) g k)
 
     module _ (l : Bucket) (u : Apart (c .places) (s .ids)) (o : 0 < s .ids p) (e : agreed-in k ≡ agreed-in l) where
-      others-same : (j : ℕ) → j < buckets c → (j ≡ g → ⊥) → to-disk (set-bucket s g k) .place p .snd .copies j ≡ to-disk (set-bucket s g l)
+      others-same : (j : ℕ) → j < buckets c → (j ≡ g → ⊥) → contents-of (set-bucket s g k) .place p .snd .copies j ≡ contents-of (set-bucket s g l)
           .place p .snd .copies j
       others-same j z n =
           let copies : Bucket → Copies = λ b. record { memory = b .memory (s .ids p); disk = b .disk (s .ids p) } in
           ap copies (upd-other (s .bucket) g j k n ∙ sym (upd-other (s .bucket) g j l n))
 
       pub memory-alone : ((i : ℕ) → (i ≡ s .ids p → ⊥) → k .memory i ≡ l .memory i) → ((i : ℕ) → k .disk i ≡ l .disk i)
-          → memory-at .Else (to-disk (set-bucket s g k)) (to-disk (set-bucket s g l))
+          → memory-at .Else (contents-of (set-bucket s g k)) (contents-of (set-bucket s g l))
       memory-alone m d = (
         only-brick c (set-bucket s g k) (set-bucket s g l) p hp u o (one-copied s g k l (s .ids p) e m (λ i _. d i)) .0,
         (((refl, o), (((refl, refl), refl), others-same)), see-disk ∙ d (s .ids p) ∙ sym (ap (λ (b : Bucket). b .disk (s .ids p)) (upd-same (s .bucket) g l))),
       )
 
       pub disk-alone : ((i : ℕ) → k .memory i ≡ l .memory i) → ((i : ℕ) → (i ≡ s .ids p → ⊥) → k .disk i ≡ l .disk i)
-          → disk-at .Else (to-disk (set-bucket s g k)) (to-disk (set-bucket s g l))
+          → disk-at .Else (contents-of (set-bucket s g k)) (contents-of (set-bucket s g l))
       disk-alone m d = (
         only-brick c (set-bucket s g k) (set-bucket s g l) p hp u o (one-copied s g k l (s .ids p) e (λ i _. m i) d) .0,
         (
@@ -106,8 +106,8 @@ module _ (c : Settings) (p : ℕ) (hp : p < c .places) (g : ℕ) (hg : g < bucke
       )
 
   -- any state agrees with itself but for a copy at a place with a brick
-  pub memory-self : (s : State) → 0 < s .ids p → memory-at .Else (to-disk s) (to-disk s)
+  pub memory-self : (s : State) → 0 < s .ids p → memory-at .Else (contents-of s) (contents-of s)
   memory-self s o = (((((refl, refl), refl), refl), λ j z n. refl), (((refl, o), (((refl, refl), refl), λ j z n. refl)), refl))
 
-  pub disk-self : (s : State) → 0 < s .ids p → disk-at .Else (to-disk s) (to-disk s)
+  pub disk-self : (s : State) → 0 < s .ids p → disk-at .Else (contents-of s) (contents-of s)
   disk-self s o = (((((refl, refl), refl), refl), λ j z n. refl), (((refl, o), (((refl, refl), refl), λ j z n. refl)), refl))

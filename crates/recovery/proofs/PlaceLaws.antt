@@ -14,7 +14,7 @@ use Rattle.rules.specs.declared.settings.Settings.{Settings}
 use Rattle.rules.specs.Limits.{buckets}
 use Rattle.codec.specs.Codec.{Clean, change, _&_}
 use Rattle.codec.proofs.Changes.{part-written}
-use Rattle.layout.specs.Disk.{Copies, Place, blank-copies}
+use Rattle.layout.specs.Contents.{Copies, Place, blank-copies}
 use Rattle.layout.specs.Layout.{copy-codec, place-codec, place-words, copy-words, copies-at}
 use Rattle.lent.proofs.Parts.{memory-of, disk-of}
 use Rattle.recovery.specs.Ready.{outside, emptied, dropped-copies}
@@ -44,7 +44,7 @@ module _ (c : Settings) (g : ℕ) (hg : g < buckets c) (w : List ℕ) (k : Clean
 
   abbrev with-copies : Copies → Place
   with-copies new = place .fst & record {
-    here = place .snd .here;
+    present = place .snd .present;
     status = place .snd .status;
     buffer = place .snd .buffer;
     copies = upd (place .snd .copies) g new;

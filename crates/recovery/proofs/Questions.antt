@@ -11,7 +11,7 @@ use Rattle.words.specs.Words.{words}
 use Rattle.rules.specs.declared.settings.Settings.{Settings}
 use Rattle.rules.specs.Limits.{buckets}
 use Rattle.rules.specs.State.{State}
-use Rattle.rules.specs.Parts.{up-member}
+use Rattle.rules.specs.Derived.{up-member}
 use Rattle.rules.specs.Question.{Question, first-no, is-bucket}
 use Rattle.rules.specs.Views.{source, fetch-asks, ready-asks}
 use Rattle.rules.proofs.Questions.{all-yes, first-more, first-enough}

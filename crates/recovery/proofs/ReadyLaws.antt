@@ -15,13 +15,13 @@ use Rattle.lists.proofs.Columns.{upd-same, upd-other}
 use Rattle.words.specs.Words.{words}
 use Rattle.rules.specs.declared.settings.Settings.{Settings}
 use Rattle.rules.specs.Limits.{buckets}
-use Rattle.rules.specs.Entries.{Entry, waits-for, drain}
+use Rattle.rules.specs.Entries.{Entry, is-of-bucket, drain}
 use Rattle.rules.specs.State.{State, Bucket, set-bricks, set-bucket, with-buffer, with-copies}
 use Rattle.rules.specs.Views.{dropped, ready-bucket, ready-effect}
 use Rattle.codec.specs.Codec.{_&_}
-use Rattle.layout.specs.Disk.{Agreed, Copies, Place}
+use Rattle.layout.specs.Contents.{Agreed, Copies, Place}
 use Rattle.layout.specs.Layout.{agreed-codec, agreed-words, agreed-at}
-use Rattle.layout.specs.Store.{brick-in, agreed-in, to-disk, decode, render}
+use Rattle.layout.specs.Store.{brick-in, agreed-in, contents-of, decode, render}
 use Rattle.lent.specs.Stores.{StoreOf}
 use Rattle.lent.specs.Places.{Stands}
 use Rattle.lent.proofs.Stores.{settings-are, facts}
@@ -69,10 +69,10 @@ module _ (c : Settings) (bs : List ℕ) (v : StoreOf c bs) (g : ℕ) (hg : g < b
     where
       made : (ℕ → Copies) → Place
       made copies =
-          i & record { here = s .bricks .here i; status = brick-in s i .status; buffer = s .bricks .buffer i; copies = copies; log = s .bricks .log i }
+          i & record { present = s .bricks .present i; status = brick-in s i .status; buffer = s .bricks .buffer i; copies = copies; log = s .bricks .log i }
 
-  pub records-kept : to-disk s .agreed ≡ to-disk others-drop .agreed
-  records-kept = ap (λ (t : State). to-disk t .agreed) (sym (same-bucket s g)) ∙ records-same s g old one refl
+  pub records-kept : contents-of s .agreed ≡ contents-of others-drop .agreed
+  records-kept = ap (λ (t : State). contents-of t .agreed) (sym (same-bucket s g)) ∙ records-same s g old one refl
 
   -- ---- with the pair at places p and b
   module _ (p b : ℕ) (sp : Stands c s (old .primary) p) (sb : Stands c s (old .backup) b) where
@@ -153,11 +153,11 @@ module _ (c : Settings) (bs : List ℕ) (v : StoreOf c bs) (g : ℕ) (hg : g < b
 
     -- ---- the entries that wait move in, and the record is written
     abbrev drained : Settings → ℕ → List Entry
-    drained x i = drain (x .entries) (old .memory i) (only (waits-for (buckets x) g) (s .bricks .buffer i))
+    drained x i = drain (x .entries) (old .memory i) (only (is-of-bucket (buckets x) g) (s .bricks .buffer i))
 
     abbrev made : Settings → ℕ → State
     made x i =
-        set-bucket (set-bricks s (with-buffer (s .bricks) i (only (λ e. not (waits-for (buckets x) g e)) (s .bricks .buffer i)))) g
+        set-bucket (set-bricks s (with-buffer (s .bricks) i (only (λ e. not (is-of-bucket (buckets x) g e)) (s .bricks .buffer i)))) g
         (ready-bucket (s .bricks .up) (drained x i) old)
 
     pub ready-steps : (w1 w2 w3 w4 : List ℕ) (agreed : Agreed) → agreed ≡ ready-record (agreed-in old) → w1 ≡ render others-drop (words bs)
@@ -167,7 +167,7 @@ module _ (c : Settings) (bs : List ℕ) (v : StoreOf c bs) (g : ℕ) (hg : g < b
     ready-steps w1 w2 w3 w4 agreed ea e1 e2 e3 e4 =
         let id : ℕ = s .ids p in
         let own : List Entry = drained c id in
-        let rest : List Entry = only (λ e. not (waits-for (buckets c) g e)) (s .bricks .buffer id) in
+        let rest : List Entry = only (λ e. not (is-of-bucket (buckets c) g e)) (s .bricks .buffer id) in
         e4 ∙ ap (on-run (agreed-at g) agreed-words (agreed-codec .enc agreed))
         (e3 ∙ ap (moved-words c g p) (shared-steps w1 w2 e1 e2) ∙ moved c bs v g hg two p (sp .inside) op primary-two)
         ∙ recorded c bs v g hg (with-buffer (s .bricks) id rest) (with-copies two (upd memory-two id own) disk-two) (ready-bucket (s .bricks .up) own old) refl

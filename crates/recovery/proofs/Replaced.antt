@@ -16,12 +16,12 @@ use Rattle.rules.specs.declared.settings.Settings.{Settings}
 use Rattle.rules.specs.Limits.{buckets}
 use Rattle.rules.specs.Entries.{Entry}
 use Rattle.rules.specs.State.{State, Bucket, Bricks, set-bricks, set-bucket, with-copies}
-use Rattle.layout.specs.Disk.{Agreed}
+use Rattle.layout.specs.Contents.{Agreed}
 use Rattle.layout.specs.Layout.{copy-codec, agreed-codec, copy-words, copies-words, place-words, store-words, agreed-words, agreed-at}
 use Rattle.layout.proofs.Codecs.{copy-law}
 use Rattle.layout.specs.Store.{agreed-in, decode, render}
 use Rattle.layout.proofs.Foci.{agreed-focus}
-use Rattle.entries.specs.Words.{copied-entries}
+use Rattle.entries.specs.Entries.{copied-entries}
 use Rattle.lent.specs.Stores.{StoreOf}
 use Rattle.lent.proofs.Effects.{ids-apart, assigned, copied}
 use Rattle.recovery.specs.Copies.{memory-word, disk-word, replaced-words, Replaces}

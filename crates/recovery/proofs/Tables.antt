@@ -13,12 +13,12 @@ use Rattle.rules.specs.declared.settings.Settings.{Settings}
 use Rattle.rules.specs.Limits.{buckets, max-waiting}
 use Rattle.rules.specs.State.{State}
 use Rattle.codec.proofs.Focus.{Focus, _through_}
-use Rattle.layout.specs.Disk.{entry-row}
-use Rattle.layout.specs.Layout.{copy-codec, buffer-codec, disk-codec, copy-words, place-at, buffer-at}
-use Rattle.layout.specs.Store.{to-disk, decode, render}
+use Rattle.layout.specs.Contents.{entry-row}
+use Rattle.layout.specs.Layout.{copy-codec, buffer-codec, store-codec, copy-words, place-at, buffer-at}
+use Rattle.layout.specs.Store.{contents-of, decode, render}
 use Rattle.layout.proofs.Foci.{place-focus, buffer-of}
 use Rattle.tables.specs.Tables.{Sorted}
-use Rattle.entries.specs.Words.{entry-words}
+use Rattle.entries.specs.Entries.{entry-words}
 use Rattle.entries.proofs.Tables.{few-of, sorted-table}
 use Rattle.lent.specs.Stores.{StoreOf}
 use Rattle.lent.proofs.Stores.{settings-are, facts}
@@ -31,10 +31,10 @@ pub table-count : (at n : ℕ) (w : List ℕ) → 0 < n → getD (run at n w) 0 
 table-count at n w o = run-at at n 0 w o ∙ ap (λ (i : ℕ). getD w i 0) (add-zero at)
 
 -- where a place's buffer lies
-abbrev pub waiting-at : (c : Settings) (p : ℕ) → p < c .places → Focus (disk-codec c) buffer-codec
+abbrev pub waiting-at : (c : Settings) (p : ℕ) → p < c .places → Focus (store-codec c) buffer-codec
 waiting-at c p hp = place-focus c p hp through buffer-of c
 
-pub waiting-self : (c : Settings) (p : ℕ) (hp : p < c .places) (s : State) → 0 < s .ids p → waiting-at c p hp .Else (to-disk s) (to-disk s)
+pub waiting-self : (c : Settings) (p : ℕ) (hp : p < c .places) (s : State) → 0 < s .ids p → waiting-at c p hp .Else (contents-of s) (contents-of s)
 waiting-self c p hp s o = (((((refl, refl), refl), refl), λ j z n. refl), ((refl, o), (refl, refl)))
 
 module _ (c : Settings) (bs : List ℕ) (v : StoreOf c bs) where
@@ -49,8 +49,8 @@ module _ (c : Settings) (bs : List ℕ) (v : StoreOf c bs) where
     there-too = subst (λ (f : ℕ → ℕ). 0 < f p) (sym ei) o
 
     -- ---- the copy in memory
-    module _ (g : ℕ) (hg : g < buckets c) (e : memory-at c p hp g hg .see (to-disk t) ≡ s .bucket g .memory (s .ids p)) where
-      abbrev φ : Focus (disk-codec c) (copy-codec c)
+    module _ (g : ℕ) (hg : g < buckets c) (e : memory-at c p hp g hg .see (contents-of t) ≡ s .bucket g .memory (s .ids p)) where
+      abbrev φ : Focus (store-codec c) (copy-codec c)
       φ = memory-at c p hp g hg
 
       memory-still : run (memory-word c g p) (copy-words c) (render t (words bs)) ≡ run (memory-word c g p) (copy-words c) (words bs)
@@ -60,7 +60,7 @@ module _ (c : Settings) (bs : List ℕ) (v : StoreOf c bs) where
       memory-sorted =
           let ok = facts c bs v .buckets-ok g (bucket-in g hg) .memory (s .ids p) in
           let most : s .settings .entries ≡ c .entries = ap (λ (x : Settings). x .entries) (settings-are c bs v) in
-          let long : length (words bs) ≡ disk-codec c .size = length-words bs ∙ omega (arith, v .size) in
+          let long : length (words bs) ≡ store-codec c .size = length-words bs ∙ omega (arith, v .size) in
           sorted-table (c .entries) (s .bucket g .memory (s .ids p)) (omega (arith, ok .room, most)) (ok .sorted)
           (run (memory-word c g p) (copy-words c) (render t (words bs))) (8 * copy-words c)
           (ap length memory-still ∙ run-length (memory-word c g p) (copy-words c) (words bs) (omega (arith, long, φ .inside))) refl

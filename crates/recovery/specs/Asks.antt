@@ -6,8 +6,8 @@ use Prim.Native.Nat.{ℕ, _<_}
 use Rattle.rules.specs.declared.settings.Settings.{Settings}
 use Rattle.rules.specs.Limits.{buckets}
 use Rattle.rules.specs.State.{State}
-use Rattle.rules.specs.Parts.{up-member}
-use Rattle.layout.specs.Disk.{Agreed}
+use Rattle.rules.specs.Derived.{up-member}
+use Rattle.layout.specs.Contents.{Agreed}
 use Rattle.rules.specs.Question.{Question, _asks_, is-bucket}
 
 -- is there such a bucket, and is its primary an up member?

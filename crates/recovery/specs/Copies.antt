@@ -8,12 +8,12 @@ use Rattle.lists.specs.Tests.{only}
 use Rattle.lists.specs.Runs.{run, on-run}
 use Rattle.rules.specs.declared.settings.Settings.{Settings}
 use Rattle.rules.specs.Limits.{buckets, max-waiting}
-use Rattle.rules.specs.Entries.{waits-for}
-use Rattle.rules.proofs.Limits.{Limits}
+use Rattle.rules.specs.Entries.{is-of-bucket}
+use Rattle.rules.specs.Limits.{Limits}
 use Rattle.tables.specs.Tables.{Sorted}
 use Rattle.codec.specs.Codec.{change}
 use Rattle.layout.specs.Layout.{buffer-codec, copy-words, store-words, place-at, copies-at, buffer-at}
-use Rattle.entries.specs.Words.{entry-words, copied-entries}
+use Rattle.entries.specs.Entries.{entry-words, copied-entries}
 use Rattle.buffers.specs.Steps.{drained-words}
 
 -- where a place's copies of a bucket lie
@@ -39,7 +39,7 @@ pub record Replaces (c : Settings) (g from to : ℕ) (ws : List ℕ) (len : ℕ)
 -- ---- the bucket's entries move from a place's append buffer into its copy in memory
 abbrev pub moved-words : Settings → ℕ → ℕ → List ℕ → List ℕ
 moved-words c g p ws =
-    on-run (place-at c p + buffer-at) (buffer-codec .size) (change buffer-codec (only (λ e. not (waits-for (buckets c) g e))))
+    on-run (place-at c p + buffer-at) (buffer-codec .size) (change buffer-codec (only (λ e. not (is-of-bucket (buckets c) g e))))
     (drained-words (buckets c) g (place-at c p + buffer-at) max-waiting (memory-word c g p) (c .entries) ws)
 
 pub record Moves (c : Settings) (g p : ℕ) (ws : List ℕ) (len : ℕ) : Type 0 where

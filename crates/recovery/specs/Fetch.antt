@@ -1,6 +1,6 @@
 -- What fetch makes of a bucket's record.
 use mathlib.Core.Bool.{true}
-use Rattle.layout.specs.Disk.{Agreed}
+use Rattle.layout.specs.Contents.{Agreed}
 
 abbrev pub fetched-record : Agreed → Agreed
 fetched-record old = record {
@@ -10,6 +10,6 @@ fetched-record old = record {
   last-backup = old .last-backup;
   ready = old .ready;
   fetched = true;
-  order = old .order;
+  last-sent = old .last-sent;
   taken = old .taken;
 }

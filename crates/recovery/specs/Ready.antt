@@ -5,7 +5,7 @@ use lib.Dec.{eqb}
 use Rattle.lists.specs.Tests.{_and_}
 use Rattle.lists.specs.Columns.{upd}
 use Rattle.codec.specs.Codec.{_&_}
-use Rattle.layout.specs.Disk.{Agreed, Place, blank-copies}
+use Rattle.layout.specs.Contents.{Agreed, Place, blank-copies}
 
 -- ---- up bricks outside the pair drop their copies
 unfoldable pub outside : ℕ → ℕ → Bool → ℕ → Bool
@@ -13,7 +13,7 @@ outside primary backup up id = up and not (eqb id primary) and not (eqb id backu
 
 abbrev pub emptied : ℕ → Place → Place
 emptied g p = p .fst & record {
-  here = p .snd .here;
+  present = p .snd .present;
   status = p .snd .status;
   buffer = p .snd .buffer;
   copies = upd (p .snd .copies) g blank-copies;
@@ -32,6 +32,6 @@ ready-record old = record {
   last-backup = old .backup;
   ready = true;
   fetched = old .fetched;
-  order = old .order;
+  last-sent = old .last-sent;
   taken = old .taken;
 }

@@ -6,7 +6,7 @@ ghost use Rattle.rules.specs.Event.{Event};
 ghost use Rattle.rules.specs.Question.{first-no};
 ghost use Rattle.rules.specs.Views.{source, fetch-asks, fetch-effect};
 ghost use Rattle.layout.specs.Store.{decode, render};
-ghost use Rattle.parts.specs.Parts.{agreed-of};
+ghost use Rattle.records.specs.Records.{agreed-of};
 ghost use Rattle.lent.specs.Performs.{Performs};
 ghost use Rattle.lent.specs.Stores.{StoreOf};
 ghost use Rattle.recovery.specs.Fetch.{fetched-record};
@@ -15,7 +15,7 @@ use crate::asks;
 use crate::copies;
 use crate::member;
 use lent::Answer;
-use parts::agreed::Agreed;
+use records::agreed::Agreed;
 use rules::settings::Settings;
 
 // Its questions: the number of the first no, or 0.
@@ -48,7 +48,7 @@ fn fetched(old: Agreed) -> Agreed
         last_backup: old.last_backup,
         ready: old.ready,
         fetched: true,
-        order: old.order,
+        last_sent: old.last_sent,
         taken: old.taken,
     }
 }

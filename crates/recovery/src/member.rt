@@ -4,7 +4,7 @@ ghost use mathlib.Core.Bool.{true};
 ghost use Prim.Native.Nat.{_<_};
 ghost use Rattle.words.specs.Words.{words};
 ghost use Rattle.rules.specs.Limits.{buckets};
-ghost use Rattle.rules.specs.Parts.{up-member};
+ghost use Rattle.rules.specs.Derived.{up-member};
 ghost use Rattle.rules.specs.Views.{source};
 ghost use Rattle.layout.specs.Store.{decode};
 ghost use Rattle.lent.specs.Stores.{StoreOf};

@@ -30,7 +30,7 @@ fn drop_at(part: &mut [u8], settings: Settings, bucket: usize, primary: u64, bac
     requires { ⌜ CleanPlace settings (words (now part)) (length (now part)) × (bucket < buckets settings) ⌝ }
     ensures { λ _. ⌜ words (now (part .exit)) ≡ change (place-codec settings) (dropped-copies bucket primary backup) (words (now (part .entry))) ⌝ }
 {
-    let id = parts::place::id(part, settings);
+    let id = records::place::id(part, settings);
     if id == 0 {
         return;
     }
@@ -40,7 +40,7 @@ fn drop_at(part: &mut [u8], settings: Settings, bucket: usize, primary: u64, bac
     if id == backup {
         return;
     }
-    let status = parts::place::read_status(part, settings);
+    let status = records::place::read_status(part, settings);
     if status.up {
         empty(part, settings, bucket);
         return;

@@ -3,11 +3,11 @@ ghost use mathlib.Core.Path.{_≡_};
 ghost use mathlib.Core.Bool.{true};
 ghost use Rattle.words.specs.Words.{words};
 ghost use Rattle.rules.specs.Event.{Event};
-ghost use Rattle.rules.specs.Parts.{up-member};
+ghost use Rattle.rules.specs.Derived.{up-member};
 ghost use Rattle.rules.specs.Question.{first-no};
 ghost use Rattle.rules.specs.Views.{ready-asks, ready-effect};
 ghost use Rattle.layout.specs.Store.{decode, render};
-ghost use Rattle.parts.specs.Parts.{agreed-of};
+ghost use Rattle.records.specs.Records.{agreed-of};
 ghost use Rattle.lent.specs.Performs.{Performs};
 ghost use Rattle.lent.specs.Stores.{StoreOf};
 ghost use Rattle.recovery.specs.Asks.{fetched-asks, UpBucket};
@@ -20,7 +20,7 @@ use crate::waiting;
 use layout::sizes;
 use lent::Answer;
 use lent::brick;
-use parts::agreed::Agreed;
+use records::agreed::Agreed;
 use rules::settings::Settings;
 
 // Is the bucket fetched in this view, and not yet ready? The number of the first no, or 0.
@@ -63,7 +63,7 @@ fn readied(old: Agreed) -> Agreed
         last_backup: old.backup,
         ready: true,
         fetched: old.fetched,
-        order: old.order,
+        last_sent: old.last_sent,
         taken: old.taken,
     }
 }

@@ -18,7 +18,7 @@ use Rattle.codec.specs.Codec.{change}
 use Rattle.codec.proofs.Loops.{table-is}
 use Rattle.tables.specs.Tables.{IsTable}
 use Rattle.tables.proofs.Typed.{typed-back}
-use Rattle.layout.specs.Disk.{relay-row}
+use Rattle.layout.specs.Contents.{relay-row}
 use Rattle.layout.specs.Layout.{bag-codec, bag-words}
 use Rattle.layout.proofs.Codecs.{relay-exact}
 use Rattle.bag.specs.Relays.{relay-words}

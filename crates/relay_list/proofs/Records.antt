@@ -13,7 +13,7 @@ use Rattle.relay_list.specs.declared.Relay.{Relay}
 use Rattle.relay_list.specs.declared.Sent.the-variants.{Sent as Yes, NoRoom}
 use Rattle.relay_list.specs.declared.Delivered.the-variants.{Is, NoSuch}
 use Rattle.relay_list.specs.declared.Dropped.the-variants.{Dropped as Gone, NoSuch as NoneThere}
-use Rattle.relay_list.specs.Relays.{relay-of, relays-of, bag-of, over, has-room, is-within, relay-at, sent-number, delivered-number, delivered-relay, dropped-number, Sends, Drops, Delivers, Loses, Within}
+use Rattle.relay_list.specs.Relays.{relay-of, relays-of, bag-of, over, has-room, is-within, record-at, sent-number, delivered-number, delivered-relay, dropped-number, Sends, Drops, Delivers, Loses, Within}
 use Rattle.relay_list.proofs.Elements.{blank}
 
 abbrev put-first : Relay → List Held → List Held
@@ -36,7 +36,7 @@ bag-length zero list h = refl
 bag-length (suc count) [] h = absurd (omega (arith, h))
 bag-length (suc count) (r ∷ list) h = ap suc (bag-length count list (omega (arith, h)))
 
-pub held-at : (count index : ℕ) (list : List Relay) → index < count → count ≤ length list → relay-of (getD list index blank) ≡ relay-at index count list
+pub held-at : (count index : ℕ) (list : List Relay) → index < count → count ≤ length list → relay-of (getD list index blank) ≡ record-at index count list
 held-at zero index list h g = absurd (omega (arith, h))
 held-at (suc count) index [] h g = absurd (omega (arith, g))
 held-at (suc count) zero (r ∷ list) h g = refl
@@ -87,7 +87,7 @@ module _ (count index : ℕ) (list : List Relay) where
   unfolding first-no
   undropped none = record { number = rw none; records = rw none }
 
-  pub delivered : (relay : Relay) (after : List Relay) → is-within index count list ≡ true → relay-of relay ≡ relay-at index count list
+  pub delivered : (relay : Relay) (after : List Relay) → is-within index count list ≡ true → relay-of relay ≡ record-at index count list
       → Loses count index list after
       → Delivers count index list (delivered-number (Is relay)) (delivered-relay (Is relay)) after
   unfolding first-no

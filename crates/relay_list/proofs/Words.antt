@@ -10,7 +10,7 @@ use Rattle.rules.specs.State.{Relay as Held, blank-relay}
 use Rattle.layout.specs.Layout.{bag-codec, bag-words}
 use Rattle.codec.specs.Codec.{change}
 use Rattle.codec.proofs.Loops.{table-is}
-use Rattle.layout.specs.Disk.{relay-row}
+use Rattle.layout.specs.Contents.{relay-row}
 use Rattle.layout.proofs.Codecs.{relay-exact}
 use Rattle.tables.proofs.Typed.{map-set, typed-length, typed-back, typed-over}
 use Rattle.lists.specs.Rows.{table-enc}

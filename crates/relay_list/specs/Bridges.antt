@@ -8,7 +8,7 @@ use Rattle.rules.specs.State.{Relay as Held}
 use Rattle.rules.specs.Maps.{remove-at}
 use Rattle.codec.specs.Codec.{change}
 use Rattle.layout.specs.Layout.{bag-codec}
-use Rattle.bag.specs.Relays.{relay-at}
+use Rattle.bag.specs.Relays.{relay-in-words}
 use Rattle.relay_list.specs.declared.Relay.{Relay}
 use Rattle.relay_list.specs.Relays.{relay-of, bag-of, Sends, Drops, Delivers, Stores}
 
@@ -25,4 +25,4 @@ pub record AsOnWords (ws : List ℕ) (list : List Relay) (count : ℕ) : Type 0 
       → (code ≡ 0) × (after ≡ change bag-codec (λ bag. remove-at bag index) ws)
   pub delivers : (index code : ℕ) (relay : Held) (left : List Relay) (after : List ℕ) → index < count
       → Delivers count index list code relay left → Stores left (count - 1) ws after
-      → (code ≡ 0) × (relay ≡ relay-at ws index) × (after ≡ change bag-codec (λ bag. remove-at bag index) ws)
+      → (code ≡ 0) × (relay ≡ relay-in-words ws index) × (after ≡ change bag-codec (λ bag. remove-at bag index) ws)

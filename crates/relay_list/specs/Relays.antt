@@ -78,8 +78,8 @@ abbrev pub index-asks : ℕ → ℕ → List Relay → List Question
 index-asks index count list = (3 asks is-within index count list) ∷ []
 
 -- the rules' `relay-at`, on records
-abbrev pub relay-at : ℕ → ℕ → List Relay → Held
-relay-at index count list = getD (bag-of count list) index blank-relay
+abbrev pub record-at : ℕ → ℕ → List Relay → Held
+record-at index count list = getD (bag-of count list) index blank-relay
 
 -- the relay at an index has left, by the rules' `remove-at`
 abbrev pub without : ℕ → ℕ → List Relay → List Held
@@ -95,7 +95,7 @@ pub record Drops (count index : ℕ) (before : List Relay) (code : ℕ) (after :
 
 pub record Delivers (count index : ℕ) (before : List Relay) (code : ℕ) (relay : Held) (after : List Relay) : Type 0 where
   pub number : code ≡ first-no (index-asks index count before)
-  pub given : relay ≡ cond (is-within index count before) (relay-at index count before) blank-relay
+  pub given : relay ≡ cond (is-within index count before) (record-at index count before) blank-relay
   pub records : relays-of after ≡ cond (is-within index count before) (without index count before) (relays-of before)
 
 -- ---- the bag's flat words as records, and back

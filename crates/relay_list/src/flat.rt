@@ -8,7 +8,7 @@ ghost use Rattle.rules.specs.Limits.{max-relays};
 ghost use Rattle.tables.specs.Tables.{IsTable};
 ghost use Rattle.codec.specs.Codec.{change};
 ghost use Rattle.layout.specs.Layout.{bag-codec, bag-words};
-ghost use Rattle.bag.specs.Relays.{relay-words, relay-at};
+ghost use Rattle.bag.specs.Relays.{relay-words, relay-in-words};
 ghost use Rattle.relay_list.specs.Relays.{relay-of};
 use crate::Relay;
 
@@ -22,7 +22,7 @@ pub fn count(part: &[u8]) -> usize
 
 pub fn relay_at(part: &[u8], i: usize) -> Relay
     requires { ⌜ IsTable relay-words max-relays (words (now part)) (length (now part)) × (i < getD (words (now part)) 0 0) ⌝ }
-    ensures { λ r. ⌜ relay-of r ≡ relay-at (words (now (part .entry))) i ⌝ }
+    ensures { λ r. ⌜ relay-of r ≡ relay-in-words (words (now (part .entry))) i ⌝ }
 {
     let view = bag::view_at(part, i);
     let bucket = bag::bucket_at(part, i);

@@ -10,7 +10,7 @@ ghost use Rattle.relay_list.specs.Shown.{show-asks};
 pub fn asks(store: &[u8], room: usize) -> u64
     ensures { λ r. ⌜ r ≡ first-no (show-asks (now (store .entry)) room) ⌝ }
 {
-    if !sound::is_sound(store) {
+    if !store_check::is_sound(store) {
         return 2;
     }
     let settings = lent::store::settings(store);

@@ -11,9 +11,9 @@ use Rattle.rules.specs.declared.settings.Settings.{Settings}
 use Rattle.rules.specs.Limits.{max-relays}
 use Rattle.rules.specs.State.{State, Relay, blank-relay, set-bag}
 use Rattle.rules.specs.Maps.{relay-at}
-use Rattle.rules.specs.Parts.{bucket-no}
+use Rattle.rules.specs.Derived.{bucket-no}
 use Rattle.codec.specs.Codec.{change}
-use Rattle.layout.specs.Disk.{relay-row}
+use Rattle.layout.specs.Contents.{relay-row}
 use Rattle.layout.specs.Layout.{bag-codec, bag-words}
 use Rattle.layout.specs.Store.{decode, render}
 use Rattle.layout.proofs.Foci.{bag-in}

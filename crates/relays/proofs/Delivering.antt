@@ -18,12 +18,12 @@ use Rattle.rules.specs.Entries.{Entry, insert, takes}
 use Rattle.rules.specs.Event.{Event}
 use Rattle.rules.specs.State.{State, Bucket, Relay, set-bag, set-bucket, with-copies, with-taken}
 use Rattle.rules.specs.Maps.{relay-at, is-taken, deliver-asks, remove-at, deliver-effect, drop-effect}
-use Rattle.rules.specs.Parts.{up-member, bucket-no, bucket-at}
+use Rattle.rules.specs.Derived.{up-member, bucket-no, bucket-at}
 use Rattle.rules.specs.Question.{_asks_, first-no}
 use Rattle.rules.specs.Step.{rule}
 use Rattle.rules.proofs.Questions.{first-yes, first-stop, none-asked, all-yes}
 use Rattle.codec.specs.Codec.{change}
-use Rattle.layout.specs.Disk.{Agreed, blank-brick}
+use Rattle.layout.specs.Contents.{Agreed, blank-brick}
 use Rattle.layout.specs.Layout.{bag-codec, agreed-at, taken-at}
 use Rattle.layout.specs.Store.{brick-in, agreed-in, decode, render}
 use Rattle.layout.proofs.Foci.{taken-in}

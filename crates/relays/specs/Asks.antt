@@ -3,10 +3,10 @@ use mathlib.Core.List.{List, [], _∷_}
 use Prim.Native.Nat.{ℕ}
 use lib.Dec.{ltb}
 use lib.ListN.{length}
-use Rattle.rules.specs.Limits.{max-relays, max-number}
+use Rattle.rules.specs.Limits.{max-relays, max-view-or-order}
 use Rattle.rules.specs.Entries.{has, takes}
 use Rattle.rules.specs.State.{State, Relay}
-use Rattle.rules.specs.Parts.{up-member, bucket-at, primary-memory, backup-memory}
+use Rattle.rules.specs.Derived.{up-member, bucket-at, primary-memory, backup-memory}
 use Rattle.rules.specs.Question.{Question, _asks_, is-block, primary-up, is-ready}
 
 -- send: is there such a block, is the primary an up member, and is the bucket ready?
@@ -17,7 +17,7 @@ primary-asks s block = (3 asks is-block block) ∷ (6 asks primary-up s block) �
 abbrev pub room-asks : State → ℕ → List Question
 room-asks s block =
     (10 asks ltb (length (s .bag)) max-relays)
-    ∷ (12 asks ltb (bucket-at s block .order) max-number)
+    ∷ (12 asks ltb (bucket-at s block .last-sent) max-view-or-order)
     ∷ (13 asks has (primary-memory (bucket-at s block)) block)
     ∷ []
 

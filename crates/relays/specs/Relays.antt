@@ -11,7 +11,7 @@ use Rattle.rules.specs.declared.settings.Settings.{Settings}
 use Rattle.rules.specs.Limits.{max-relays}
 use Rattle.rules.specs.State.{State, Relay}
 use Rattle.rules.specs.Maps.{relay-at}
-use Rattle.rules.specs.Parts.{bucket-no}
+use Rattle.rules.specs.Derived.{bucket-no}
 use Rattle.rules.specs.Question.{first-no}
 use Rattle.tables.specs.Tables.{IsTable}
 use Rattle.layout.specs.Layout.{bag-codec, bag-at, places-at}

@@ -4,7 +4,7 @@ ghost use Prim.Native.Nat.{_<_};
 ghost use lib.ListN.{length};
 ghost use Rattle.words.specs.Words.{words};
 ghost use Rattle.rules.specs.Maps.{relay-at, drop-effect};
-ghost use Rattle.rules.proofs.Limits.{Limits};
+ghost use Rattle.rules.specs.Limits.{Limits};
 ghost use Rattle.layout.specs.Store.{decode, render};
 ghost use Rattle.lent.specs.Stores.{StoreOf};
 ghost use Rattle.relays.specs.Relays.{BagSpan, BagPart, relay-of};

@@ -4,9 +4,9 @@ ghost use Prim.Native.Nat.{_<_};
 ghost use lib.ListN.{length};
 ghost use Rattle.words.specs.Words.{words};
 ghost use Rattle.rules.specs.Event.{Event};
-ghost use Rattle.rules.specs.Limits.{max-relays, max-number};
+ghost use Rattle.rules.specs.Limits.{max-relays, max-view-or-order};
 ghost use Rattle.rules.specs.Maps.{send-asks, send-effect};
-ghost use Rattle.rules.specs.Parts.{bucket-at};
+ghost use Rattle.rules.specs.Derived.{bucket-at};
 ghost use Rattle.rules.specs.Question.{first-no};
 ghost use Rattle.layout.specs.Store.{decode, render};
 ghost use Rattle.lent.specs.Performs.{Performs};
@@ -54,7 +54,7 @@ fn asks(store: &[u8], settings: Settings, block: BlockNumber) -> u64
     }
     let bucket = bucket::number(settings, block);
     let agreed = bucket::agreed(store, settings, bucket);
-    if constants::MAX_NUMBER <= agreed.order {
+    if constants::MAX_VIEW_OR_ORDER <= agreed.last_sent {
         return 12;
     }
     if copy::has(store, settings, bucket, agreed.primary, block) {
@@ -66,11 +66,11 @@ fn asks(store: &[u8], settings: Settings, block: BlockNumber) -> u64
 // The relay goes into the bag, and the bucket has sent one more.
 fn relay(store: &mut [u8], settings: Settings, block: BlockNumber)
     requires { ⌜ StoreOf settings (now store) × (length (decode (words (now store)) .bag) < max-relays)
-        × (bucket-at (decode (words (now store))) (block .0) .order < max-number) ⌝ }
+        × (bucket-at (decode (words (now store))) (block .0) .last-sent < max-view-or-order) ⌝ }
     ensures { λ _. ⌜ words (now (store .exit)) ≡ render (send-effect (decode (words (now (store .entry)))) (block .0)) (words (now (store .entry))) ⌝ }
 {
     let bucket = bucket::number(settings, block);
-    let order = bucket::agreed(store, settings, bucket).order + 1;
+    let order = bucket::agreed(store, settings, bucket).last_sent + 1;
     let view = ViewNumber(lent::store::view(store, settings));
     let key = block::mapped(store, settings, block, 0);
     let span = relay::bag_span(settings);
@@ -79,7 +79,7 @@ fn relay(store: &mut [u8], settings: Settings, block: BlockNumber)
     bag::append(&mut store[from..to], view, bucket as u64, order, block, key);
     words::write(
         store,
-        sizes::agreed_at(settings, bucket) + sizes::ORDER_AT,
+        sizes::agreed_at(settings, bucket) + sizes::LAST_SENT_AT,
         order,
     );
 }

@@ -7,7 +7,7 @@ use lib.Dec.{eqb}
 use borrow.Author.Tests.{ne-eqb}
 use Rattle.lists.specs.Tests.{_or_}
 use Rattle.lists.proofs.Tests.{either}
-use Rattle.rules.specs.Event.{Event, event-from, parts-of}
+use Rattle.rules.specs.Event.{Event, event-from, event-fields}
 use Rattle.rules.specs.Call.{Call, get-kind, lends, event-called}
 use Rattle.rules.proofs.Event.{kinds-open, made-kind}
 
@@ -26,8 +26,8 @@ module _ (size : ℕ) (call : Call) where
 
   -- only a call of get's kind makes a get
   pub called-get : (p b : ℕ) → event-called size call ≡ Event.get p b → call .kind ≡ get-kind
-  unfolding event-called parts-of
+  unfolding event-called event-fields
   called-get p b =
       either (λ (e : Event). e ≡ Event.get p b → call .kind ≡ get-kind) (not (eqb (call .kind) get-kind) or lends size call)
       (λ _ q. made-kind (call .a) (call .b) (call .c) (call .bytes) (call .kind) (Event.get p b) q (omega arith))
-      (λ _ q. let n : _≡_ {A = ℕ} 0 10 = ap (λ (e : Event). parts-of e .kind) q in absurd (omega (arith, n)))
+      (λ _ q. let n : _≡_ {A = ℕ} 0 10 = ap (λ (e : Event). event-fields e .kind) q in absurd (omega (arith, n)))

@@ -8,37 +8,37 @@ use Prim.Native.Nat.{ℕ, suc}
 use lib.Dec.{eqb}
 use lib.ListN.{length}
 use borrow.Author.Tests.{eqb-true}
-use Rattle.lists.specs.Tests.{_or_, some, only}
+use Rattle.lists.specs.Tests.{_or_, any, only}
 use Rattle.lists.proofs.Tests.{by, by-eq, either, eqb-self, impossible, clash, and-l, and-r, both, or-cases, or-l, or-r, or-second, no, is-no}
 use Rattle.rules.specs.Chunks.{Chunk, held, saved-in, bytes-in, append, save, only-named}
 use Rattle.rules.specs.Sound.{keys-apart}
 
 -- a key that is held: its chunk, whose bytes are those that are read
 pub held-in : (l : List Chunk) (k : ℕ) → held l k ≡ true → (c : Chunk) × List·Memᴰ c l × (c .key ≡ k) × (bytes-in l k ≡ c .bytes)
-unfolding held some bytes-in
+unfolding held any bytes-in
 held-in [] k h = impossible h
 held-in (x ∷ l) k h =
     by-eq k (x .key) (λ q r. (x, List·Memᴰ·head refl, sym r, cc))
     (λ q r. let y = held-in l k (or-second _ _ h q) in (y .0, List·Memᴰ·tail (y .1), y .2, cc (y .3, q)))
 
 pub saved-held : (l : List Chunk) (k : ℕ) → saved-in l k ≡ true → held l k ≡ true
-unfolding saved-in held some
+unfolding saved-in held any
 saved-held [] k y = y
 saved-held (c ∷ l) k y = elim (or-cases _ _ y) [ inl z ↦ or-l _ _ (and-l _ _ z) | inr z ↦ or-r _ _ (saved-held l k z) ]
 
 -- ---- one more chunk
 pub held-append : (l : List Chunk) (c : Chunk) (k : ℕ) → held (append l c) k ≡ (held l k or eqb k (c .key))
-unfolding held some _or_
+unfolding held any _or_
 held-append [] c k = by (eqb k (c .key)) (λ q. rw q refl) (λ q. rw q refl)
 held-append (x ∷ l) c k = by (eqb k (x .key)) (λ q. rw q refl) (λ q. rw q (held-append l c k))
 
 pub saved-append : (l : List Chunk) (c : Chunk) (k : ℕ) → saved-in l k ≡ true → saved-in (append l c) k ≡ true
-unfolding saved-in some
+unfolding saved-in any
 saved-append [] c k y = impossible y
 saved-append (x ∷ l) c k y = elim (or-cases _ _ y) [ inl z ↦ or-l _ _ z | inr z ↦ or-r _ _ (saved-append l c k z) ]
 
 pub append-apart : (l : List Chunk) (c : Chunk) → keys-apart l ≡ true → held l (c .key) ≡ false → keys-apart (append l c) ≡ true
-unfolding keys-apart held some
+unfolding keys-apart held any
 append-apart [] c y n = both true true refl refl
 append-apart (x ∷ l) c y n =
     both _ _ (no (held (append l c) (x .key)) (λ z. elim (or-cases _ _ (sym (held-append l c (x .key)) ∙ z)) [
@@ -64,7 +64,7 @@ module _ (test : ℕ → Bool) where
       ]
 
   pub held-save : (l : List Chunk) (k : ℕ) → held (map (save test) l) k ≡ held l k
-  unfolding held some
+  unfolding held any
   held-save [] k = refl
   held-save (c ∷ l) k = rw (held-save l k) refl
 
@@ -74,7 +74,7 @@ module _ (test : ℕ → Bool) where
   apart-save (c ∷ l) y = both _ _ (rw (held-save l (c .key)) (and-l _ _ y)) (apart-save l (and-r _ _ y))
 
   pub still-saved : (l : List Chunk) (k : ℕ) → saved-in l k ≡ true → saved-in (map (save test) l) k ≡ true
-  unfolding saved-in some
+  unfolding saved-in any
   still-saved [] k y = y
   still-saved (c ∷ l) k y =
       elim (or-cases _ _ y) [ inl z ↦ or-l _ _ (both _ _ (and-l _ _ z) (or-r _ _ (and-r _ _ z))) | inr z ↦ or-r _ _ (still-saved l k z) ]
@@ -86,7 +86,7 @@ module _ (test : ℕ → Bool) where
 -- ---- keeping some
 module _ (test : Chunk → Bool) where
   pub held-only : (l : List Chunk) (k : ℕ) → held (only test l) k ≡ true → held l k ≡ true
-  unfolding held some only
+  unfolding held any only
   held-only [] k = λ y. y
   held-only (c ∷ l) k =
       either (λ (r : List Chunk). held r k ≡ true → (eqb k (c .key) or held l k) ≡ true) (test c)
@@ -102,7 +102,7 @@ module _ (test : Chunk → Bool) where
       (λ _. apart-only l (and-r _ _ y))
 
 pub saved-only-named : (f : ℕ → Bool) (l : List Chunk) (k : ℕ) → f k ≡ true → saved-in l k ≡ true → saved-in (only-named f l) k ≡ true
-unfolding saved-in some only-named only
+unfolding saved-in any only-named only
 saved-only-named f [] k n y = y
 saved-only-named f (c ∷ l) k n y =
     elim (or-cases _ _ y) [

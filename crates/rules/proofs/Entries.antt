@@ -8,40 +8,40 @@ use native.Mathlib.Omega.{arith}
 use lib.Dec.{ltb, eqb}
 use lib.ListN.{length}
 use borrow.Author.Tests.{ne-eqb, ltb-true, leb-true, le-leb}
-use Rattle.lists.specs.Tests.{_or_, some, only}
+use Rattle.lists.specs.Tests.{_or_, any, only}
 use Rattle.lists.specs.Columns.{upd}
 use Rattle.lists.proofs.Tests.{by, by-eq, by-lt, either, eqb-self, impossible, clash, and-l, and-r, both, or-cases, or-l, or-r, or-second}
-use Rattle.rules.specs.Entries.{Entry, entry, look, has, names, ascending, insert, takes, drain}
+use Rattle.rules.specs.Entries.{Entry, entry, key-for, has, names, ascending, insert, takes, drain}
 
 -- ---- look and has
-pub has-entry : (l : List Entry) (b : ℕ) → has l b ≡ true → (e : Entry) × List·Memᴰ e l × (e .block ≡ b) × (look l b ≡ e .key)
-unfolding has some look
+pub has-entry : (l : List Entry) (b : ℕ) → has l b ≡ true → (e : Entry) × List·Memᴰ e l × (e .block ≡ b) × (key-for l b ≡ e .key)
+unfolding has any key-for
 has-entry [] b y = impossible y
 has-entry (x ∷ l) b y =
     by-eq b (x .block) (λ q e. (x, List·Memᴰ·head refl, sym e, cc))
     (λ q e. let t = has-entry l b (or-second _ _ y q) in (t .0, List·Memᴰ·tail (t .1), t .2, cc (t .3, q)))
 
-pub no-entry : (l : List Entry) (b : ℕ) → has l b ≡ false → look l b ≡ 0
-unfolding has some look
+pub no-entry : (l : List Entry) (b : ℕ) → has l b ≡ false → key-for l b ≡ 0
+unfolding has any key-for
 no-entry [] b n = refl
 no-entry (x ∷ l) b n =
     by (eqb b (x .block)) (λ q. clash n (or-l _ _ q)) (λ q. rw q (no-entry l b (by (has l b) (λ z. clash n (or-r _ _ z)) (λ z. z))))
 
-pub look-names : (l : List Entry) (b : ℕ) → (look l b ≡ 0 → ⊥) → names l (look l b) ≡ true
-unfolding names some look
-look-names [] b = λ n. absurd (n refl)
-look-names (e ∷ l) b =
+pub key-for-names : (l : List Entry) (b : ℕ) → (key-for l b ≡ 0 → ⊥) → names l (key-for l b) ≡ true
+unfolding names any key-for
+key-for-names [] b = λ n. absurd (n refl)
+key-for-names (e ∷ l) b =
     either (λ k. (k ≡ 0 → ⊥) → (eqb k (e .key) or names l k) ≡ true) (eqb b (e .block)) (λ _ _. or-l _ _ (eqb-self (e .key)))
-    (λ _ n. or-r _ _ (look-names l b n))
+    (λ _ n. or-r _ _ (key-for-names l b n))
 
 -- ---- insert
-pub look-insert : (l : List Entry) (b k c : ℕ) → look (insert l b k) c ≡ upd (look l) b k c
-unfolding look insert upd
-look-insert [] b k c = refl
-look-insert (e ∷ l) b k c =
+pub key-for-insert : (l : List Entry) (b k c : ℕ) → key-for (insert l b k) c ≡ upd (key-for l) b k c
+unfolding key-for insert upd
+key-for-insert [] b k c = refl
+key-for-insert (e ∷ l) b k c =
     by-lt b (e .block) (λ q r. cc)
     (λ p _. by-eq b (e .block) (λ q r. by-eq c b (λ t u. cc) (λ t u. cc))
-    (λ q r. by-eq c b (λ t u. cc (look-insert l b k c, ne-eqb c (e .block) (λ z. r (cc)))) (λ t u. cc (look-insert l b k c))))
+    (λ q r. by-eq c b (λ t u. cc (key-for-insert l b k c, ne-eqb c (e .block) (λ z. r (cc)))) (λ t u. cc (key-for-insert l b k c))))
 
 pub insert-in : (l : List Entry) (b k : ℕ) (e : Entry) → List·Memᴰ e (insert l b k) → (List·Memᴰ e l) ⊎ (e ≡ entry b k)
 unfolding insert
@@ -66,7 +66,7 @@ ascending-insert floor (x ∷ l) b k h y =
 
 -- in an ascending list a block below the floor is not
 pub below-floor : (floor : ℕ) (l : List Entry) (b : ℕ) → b < floor → ascending floor l ≡ true → has l b ≡ false
-unfolding has some ascending _or_
+unfolding has any ascending _or_
 below-floor floor [] b h y = refl
 below-floor floor (x ∷ l) b h y =
     let z = leb-true floor (x .block) (and-l _ _ y) in
@@ -81,7 +81,7 @@ one-more (x ∷ l) b k =
     (λ q. rw q (by (eqb b (x .block)) (λ t. rw t (omega arith)) (λ t. rw t (omega (arith, one-more l b k)))))
 
 as-many : (floor : ℕ) (l : List Entry) (b k : ℕ) → ascending floor l ≡ true → has l b ≡ true → length (insert l b k) ≡ length l
-unfolding insert ascending has some
+unfolding insert ascending has any
 as-many floor [] b k s z = impossible z
 as-many floor (x ∷ l) b k s z =
     by-lt b (x .block)
@@ -109,14 +109,14 @@ ascending-only floor test (x ∷ l) y =
 
 -- ---- drain: what stands in the copy afterwards was in it or in the buffer
 pub drain-from : (most : ℕ) (l c : List Entry) (b : ℕ)
-    → (look (drain most c l) b ≡ look c b) ⊎ ((e : Entry) × List·Memᴰ e l × (e .block ≡ b) × (look (drain most c l) b ≡ e .key))
+    → (key-for (drain most c l) b ≡ key-for c b) ⊎ ((e : Entry) × List·Memᴰ e l × (e .block ≡ b) × (key-for (drain most c l) b ≡ e .key))
 unfolding drain upd
 drain-from most [] c b = inl refl
 drain-from most (e ∷ l) c b =
     elim (drain-from most l (cond (takes most c (e .block)) (insert c (e .block) (e .key)) c) b) [
       | inl q ↦ by (takes most c (e .block))
-          (λ z. by-eq b (e .block) (λ t u. inr (e, List·Memᴰ·head refl, sym u, cc (look-insert c (e .block) (e .key) b)))
-          (λ t u. inl (cc (look-insert c (e .block) (e .key) b))))
+          (λ z. by-eq b (e .block) (λ t u. inr (e, List·Memᴰ·head refl, sym u, cc (key-for-insert c (e .block) (e .key) b)))
+          (λ t u. inl (cc (key-for-insert c (e .block) (e .key) b))))
           (λ z. inl (cc))
       | inr t ↦ inr (t .0, List·Memᴰ·tail (t .1), t .2, t .3)
     ]

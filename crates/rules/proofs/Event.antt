@@ -8,7 +8,7 @@ use lib.ListN.{List·getD-eq-default}
 use borrow.Author.Tests.{eqb-true}
 use Rattle.lists.specs.Tests.{_and_, all-below}
 use Rattle.lists.proofs.Tests.{by-eq, by-lt, all-at}
-use Rattle.rules.specs.Event.{Event, kinds, no-kind, kind-at, event-of, parts-from, event-from, parts-of}
+use Rattle.rules.specs.Event.{Event, kinds, no-kind, kind-at, event-of, fields-brought, event-from, event-fields}
 
 -- ---- what holds of each number of a range holds of all of it
 abbrev Each : (ℕ → Type 0) → ℕ → ℕ → Type 0
@@ -21,7 +21,7 @@ in-range P (suc n) low t k a b =
     by-eq k low (λ _ e. subst P (sym e) (t .0)) (λ _ u. in-range P n (suc low) (t .1) k (omega arith) (omega arith))
 
 unfoldable pub kinds-open : ℕ
-unfolding event-of parts-from kind-at kinds parts-of
+unfolding event-of fields-brought kind-at kinds event-fields
 kinds-open = 0
 
 module _ (a b c : ℕ) (bytes : List ℕ) where
@@ -42,19 +42,19 @@ module _ (a b c : ℕ) (bytes : List ℕ) where
   kind-none k e = rw e
 
   pub kind-past : (k : ℕ) → 22 < k → event-from k a b c bytes ≡ Event.unknown
-  unfolding event-of parts-from kind-at kinds
+  unfolding event-of fields-brought kind-at kinds
   kind-past zero h = absurd (omega arith)
   kind-past (suc i) h = let e = List·getD-eq-default kinds no-kind {n = i} (omega arith) in rw e
 
   -- ---- an event has the number that it was made with, or 0 where that is of no kind
-  kind-made : (k : ℕ) → k < 23 → parts-of (event-from k a b c bytes) .kind ≡ k
+  kind-made : (k : ℕ) → k < 23 → event-fields (event-from k a b c bytes) .kind ≡ k
   unfolding kinds-open all-below _and_
-  kind-made k h = eqb-true _ _ (all-at 23 (λ k. eqb (parts-of (event-from k a b c bytes) .kind) k) refl k h)
+  kind-made k h = eqb-true _ _ (all-at 23 (λ k. eqb (event-fields (event-from k a b c bytes) .kind) k) refl k h)
 
-  pub made-kind : (k : ℕ) (e : Event) → event-from k a b c bytes ≡ e → 0 < parts-of e .kind → k ≡ parts-of e .kind
+  pub made-kind : (k : ℕ) (e : Event) → event-from k a b c bytes ≡ e → 0 < event-fields e .kind → k ≡ event-fields e .kind
   made-kind k e q l =
-      by-lt k 23 (λ _ h. sym (kind-made k h) ∙ ap (λ (x : Event). parts-of x .kind) q)
+      by-lt k 23 (λ _ h. sym (kind-made k h) ∙ ap (λ (x : Event). event-fields x .kind) q)
       (λ _ h. absurd (no-number (sym q ∙ kind-past k (omega arith))))
     where
       no-number : e ≡ Event.unknown → ⊥
-      no-number z = let n : parts-of e .kind ≡ 0 = ap (λ (x : Event). parts-of x .kind) z ∙ (unfold parts-of in refl) in omega (arith, l, n)
+      no-number z = let n : event-fields e .kind ≡ 0 = ap (λ (x : Event). event-fields x .kind) z ∙ (unfold event-fields in refl) in omega (arith, l, n)

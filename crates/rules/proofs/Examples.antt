@@ -2,16 +2,16 @@
 use mathlib.Core.Path.{_≡_, refl}
 use mathlib.Core.Bool.{true}
 use Prim.Native.Nat.{ℕ}
-use Rattle.lists.specs.Tests.{_and_, _or_, all-below, some-below, count-below, every, some, same-numbers, only}
+use Rattle.lists.specs.Tests.{_and_, _or_, all-below, any-below, count-below, every, any, same-numbers, only}
 use Rattle.lists.specs.Columns.{upd}
 use Rattle.rules.specs.Limits.{in-range, in-limits, buckets}
 use Rattle.rules.specs.Numbers.{proxy-of, bucket-of, is-data}
-use Rattle.rules.specs.Entries.{look, has, names, insert, remove, takes, waits-for, drain}
+use Rattle.rules.specs.Entries.{key-for, has, names, insert, remove, takes, is-of-bucket, drain}
 use Rattle.rules.specs.Chunks.{held, saved-in, bytes-in, save-all, save-key, only-saved, only-named}
-use Rattle.rules.specs.Pairs.{ids-of, among, load, preferred, choose, least-loaded, kept, keep-at, fill-slot, give-way, in-order, filled, walked, share}
-use Rattle.rules.specs.Pairs.{pairs, slots-of}
+use Rattle.rules.specs.Pairs.{ids-of, among, load, preferred, choose, least-loaded, kept-of-pair, keep-at, fill-position, give-way, in-order, filled, walked, share}
+use Rattle.rules.specs.Pairs.{pairs, assignments-of}
 use Rattle.rules.specs.Format.{first-id, is-first, first-pairs, format}
-use Rattle.rules.specs.Parts.{circle, seek, holder, saved-at, agree, pending, none-pending, calm}
+use Rattle.rules.specs.Derived.{members-from, first-holder, holder, saved-at, agree, pending, none-pending, nothing-pending}
 use Rattle.rules.specs.Question.{first-no}
 use Rattle.rules.specs.Writes.{raised, put-effect, other-than, target, copy-effect, savelog-effect}
 use Rattle.rules.specs.Maps.{map-effect, send-effect, is-taken, remove-at, deliver-effect, drop-effect, savemap-effect, item-goes, learn-effect}
@@ -28,15 +28,15 @@ use Rattle.rules.specs.Examples.{pairs-in, last-of, chunks-in, entries-i
 use Rattle.rules.specs.Examples.{marked, slips}
 
 unfoldable lists-open : ℕ
-unfolding _and_ _or_ all-below some-below count-below every some only upd
+unfolding _and_ _or_ all-below any-below count-below every any only upd
 lists-open = 0
 
 unfoldable parts-open : ℕ
-unfolding lists-open in-range in-limits buckets proxy-of bucket-of is-data look has names insert remove takes waits-for drain held saved-in bytes-in save-all save-key only-saved only-named circle seek holder saved-at agree pending none-pending calm
+unfolding lists-open in-range in-limits buckets proxy-of bucket-of is-data key-for has names insert remove takes is-of-bucket drain held saved-in bytes-in save-all save-key only-saved only-named members-from first-holder holder saved-at agree pending none-pending nothing-pending
 parts-open = 0
 
 unfoldable pairs-open : ℕ
-unfolding ids-of among load preferred choose least-loaded kept keep-at fill-slot give-way in-order filled walked share pairs slots-of first-id is-first first-pairs format last-pairs view-pairs
+unfolding ids-of among load preferred choose least-loaded kept-of-pair keep-at fill-position give-way in-order filled walked share pairs assignments-of first-id is-first first-pairs format last-pairs view-pairs
 pairs-open = 0
 
 unfoldable events-open : ℕ

@@ -3,7 +3,7 @@ pub mod Entries
 pub mod Chunks
 pub mod Event
 pub mod Call
-pub mod Parts
+pub mod Derived
 pub mod Questions
 pub mod Ids
 pub mod Step

@@ -8,18 +8,7 @@ use borrow.Author.Tests.{leb-true, eqb-true}
 use Rattle.lists.proofs.Tests.{by, and-l, and-r, both}
 use Rattle.rules.specs.declared.settings.Settings.{Settings}
 use Rattle.rules.specs.declared.settings.Checked.the-variants.{Good, Bad}
-use Rattle.rules.specs.Limits.{in-range, in-limits, checked, buckets, max-buckets}
-
-pub record Limits (c : Settings) : Type 0 where
-  pub places-from : 3 ≤ c .places
-  pub places-to : c .places ≤ 8
-  pub size-from : 8 ≤ c .size
-  pub size-to : c .size ≤ 8192
-  pub size-words : c .size % 8 ≡ 0
-  pub entries-from : 2 ≤ c .entries
-  pub entries-to : c .entries ≤ 1024
-  pub chunks-from : 4 ≤ c .chunks
-  pub chunks-to : c .chunks ≤ 65536
+use Rattle.rules.specs.Limits.{Limits, in-range, in-limits, checked, buckets, max-buckets}
 
 -- the five tests of question 1
 pub record Tests (c : Settings) : Type 0 where

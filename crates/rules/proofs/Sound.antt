@@ -6,21 +6,21 @@ use mathlib.Core.Bool.{Bool, true, false}
 use Prim.Native.Nat.{ℕ, _≤_, _<_}
 use native.Mathlib.Omega.{arith}
 use lib.ListN.{length}
-use Rattle.rules.specs.Limits.{in-limits, proxies, buckets, max-relays, max-items, max-waiting, max-id, max-number}
-use Rattle.rules.specs.Numbers.{blocks, proxy-of, bucket-of, sequences, home-of, sequence-of, is-data}
+use Rattle.rules.specs.Limits.{in-limits, proxies, buckets, max-relays, max-items, max-waiting, max-id, max-view-or-order}
+use Rattle.rules.specs.Numbers.{block-count, proxy-of, bucket-of, sequences, home-of, sequence-of, is-data}
 use Rattle.rules.specs.Entries.{Entry, ascending}
 use Rattle.rules.specs.Chunks.{Chunk}
 use Rattle.rules.specs.State.{Bucket, Relay, State, blank-bucket}
 use Rattle.rules.specs.Sound.{keys-apart}
 
-pub record KeyOk (given : ℕ) (here : ℕ → Bool) (next : ℕ → ℕ) (k : ℕ) : Type 0 where
+pub record KeyOk (given : ℕ) (present : ℕ → Bool) (next : ℕ → ℕ) (k : ℕ) : Type 0 where
   pub home : 0 < home-of k
   pub born : home-of k ≤ given
-  pub used : here (home-of k) ≡ true → sequence-of k < next (home-of k)
+  pub used : present (home-of k) ≡ true → sequence-of k < next (home-of k)
 
 -- a key stays sound: no brick given already comes back, and none counts downward
-pub key-stays : {given given′ : ℕ} {here here′ : ℕ → Bool} {next next′ : ℕ → ℕ} (k : ℕ) → given ≤ given′
-    → ((i : ℕ) → i ≤ given → here′ i ≡ true → (here i ≡ true) × (next i ≤ next′ i)) → KeyOk given here next k → KeyOk given′ here′ next′ k
+pub key-stays : {given given′ : ℕ} {present present′ : ℕ → Bool} {next next′ : ℕ → ℕ} (k : ℕ) → given ≤ given′
+    → ((i : ℕ) → i ≤ given → present′ i ≡ true → (present i ≡ true) × (next i ≤ next′ i)) → KeyOk given present next k → KeyOk given′ present′ next′ k
 key-stays k l f o = record {
   home = o .home;
   born = omega (arith, o .born);
@@ -30,7 +30,7 @@ key-stays k l f o = record {
 -- ---- lists
 pub record EntryOk (K P : ℕ → Type 0) (e : Entry) : Type 0 where
   pub mine : P (e .block)
-  pub small : e .block < blocks
+  pub small : e .block < block-count
   pub key : K (e .key)
 
 pub record TableOk (K P : ℕ → Type 0) (most : ℕ) (l : List Entry) : Type 0 where
@@ -51,30 +51,30 @@ pub record LogOk (K : ℕ → Type 0) (size : ℕ) (l : List Chunk) : Type 0 whe
   pub each : (c : Chunk) → List·Memᴰ c l → ChunkOk K size c
 
 pub record RelayOk (K : ℕ → Type 0) (count : ℕ) (r : Relay) : Type 0 where
-  pub view : r .view ≤ max-number
+  pub view : r .view ≤ max-view-or-order
   pub bucket : bucket-of count (r .block) ≡ r .bucket
-  pub order : r .order ≤ max-number
-  pub small : r .block < blocks
+  pub order : r .order ≤ max-view-or-order
+  pub small : r .block < block-count
   pub key : K (r .key)
 
 -- ---- the bricks
-pub record BricksOk (places : ℕ) (ids : ℕ → ℕ) (given : ℕ) (here up member began : ℕ → Bool) : Type 0 where
+pub record BricksOk (places : ℕ) (ids : ℕ → ℕ) (given : ℕ) (present up member began : ℕ → Bool) : Type 0 where
   pub few : given ≤ max-id
   pub beyond : (p : ℕ) → places ≤ p → ids p ≡ 0
   pub born : (p : ℕ) → ids p ≤ given
   pub apart : (p q : ℕ) → ids p ≡ ids q → 0 < ids p → p ≡ q
-  pub stands : (p : ℕ) → 0 < ids p → here (ids p) ≡ true
-  pub somewhere : (i : ℕ) → here i ≡ true → (p : ℕ) × (p < places) × (ids p ≡ i)
-  pub first : (i : ℕ) → here i ≡ true → 0 < i
-  pub up-here : (i : ℕ) → up i ≡ true → here i ≡ true
+  pub stands : (p : ℕ) → 0 < ids p → present (ids p) ≡ true
+  pub somewhere : (i : ℕ) → present i ≡ true → (p : ℕ) × (p < places) × (ids p ≡ i)
+  pub first : (i : ℕ) → present i ≡ true → 0 < i
+  pub up-present : (i : ℕ) → up i ≡ true → present i ≡ true
   pub member-up : (i : ℕ) → member i ≡ true → up i ≡ true
-  pub began-here : (i : ℕ) → began i ≡ true → here i ≡ true
+  pub began-here : (i : ℕ) → began i ≡ true → present i ≡ true
 
-pub record NumbersOk (here : ℕ → Bool) (next ceiling : ℕ → ℕ) : Type 0 where
+pub record NumbersOk (present : ℕ → Bool) (next ceiling : ℕ → ℕ) : Type 0 where
   pub below : (i : ℕ) → next i ≤ ceiling i
   pub most : (i : ℕ) → ceiling i ≤ sequences
-  pub blank-next : (i : ℕ) → here i ≡ false → next i ≡ 0
-  pub blank-ceiling : (i : ℕ) → here i ≡ false → ceiling i ≡ 0
+  pub blank-next : (i : ℕ) → present i ≡ false → next i ≡ 0
+  pub blank-ceiling : (i : ℕ) → present i ≡ false → ceiling i ≡ 0
 
 -- ---- a bucket
 pub record PairOk (given one two : ℕ) : Type 0 where
@@ -84,39 +84,39 @@ pub record PairOk (given one two : ℕ) : Type 0 where
   pub two-born : two ≤ given
   pub apart : one ≡ two → ⊥
 
-pub record BucketOk (K : ℕ → Type 0) (count entries given : ℕ) (here up : ℕ → Bool) (g : ℕ) (k : Bucket) : Type 0 where
+pub record BucketOk (K : ℕ → Type 0) (count entries given : ℕ) (present up : ℕ → Bool) (g : ℕ) (k : Bucket) : Type 0 where
   pub pair : PairOk given (k .primary) (k .backup)
   pub last : PairOk given (k .last-primary) (k .last-backup)
-  pub order : k .order ≤ max-number
-  pub taken : k .taken ≤ max-number
+  pub last-sent : k .last-sent ≤ max-view-or-order
+  pub taken : k .taken ≤ max-view-or-order
   pub memory : (i : ℕ) → TableOk K (λ b. bucket-of count b ≡ g) entries (k .memory i)
   pub disk : (i : ℕ) → TableOk K (λ b. bucket-of count b ≡ g) entries (k .disk i)
-  pub blank-memory : (i : ℕ) → here i ≡ false → k .memory i ≡ []
-  pub blank-disk : (i : ℕ) → here i ≡ false → k .disk i ≡ []
+  pub blank-memory : (i : ℕ) → present i ≡ false → k .memory i ≡ []
+  pub blank-disk : (i : ℕ) → present i ≡ false → k .disk i ≡ []
   pub down : (i : ℕ) → up i ≡ false → k .memory i ≡ k .disk i
 
 -- ---- the store
 abbrev pub KeyOf : State → ℕ → Type 0
-KeyOf s = KeyOk (s .given) (s .bricks .here) (s .bricks .next)
+KeyOf s = KeyOk (s .given) (s .bricks .present) (s .bricks .next)
 
 pub record Sound (s : State) : Type 0 where
   pub limits : in-limits (s .settings) ≡ true
-  pub bricks : BricksOk (s .settings .places) (s .ids) (s .given) (s .bricks .here) (s .bricks .up) (s .bricks .member) (s .bricks .began)
-  pub numbers : NumbersOk (s .bricks .here) (s .bricks .next) (s .bricks .ceiling)
+  pub bricks : BricksOk (s .settings .places) (s .ids) (s .given) (s .bricks .present) (s .bricks .up) (s .bricks .member) (s .bricks .began)
+  pub numbers : NumbersOk (s .bricks .present) (s .bricks .next) (s .bricks .ceiling)
   pub view-first : 0 < s .view
-  pub view-last : s .view ≤ max-number
+  pub view-last : s .view ≤ max-view-or-order
   pub started : s .started ≤ s .settings .places
   pub logs : (i : ℕ) → LogOk (KeyOf s) (s .settings .size) (s .bricks .log i)
   pub log-room : (i : ℕ) → length (s .bricks .log i) ≤ s .settings .chunks
-  pub log-blank : (i : ℕ) → s .bricks .here i ≡ false → s .bricks .log i ≡ []
+  pub log-blank : (i : ℕ) → s .bricks .present i ≡ false → s .bricks .log i ≡ []
   pub buffers : (i : ℕ) → BufferOk (KeyOf s) (s .bricks .buffer i)
   pub buffer-down : (i : ℕ) → s .bricks .up i ≡ false → s .bricks .buffer i ≡ []
   pub buckets-ok : (g : ℕ) → g < buckets (s .settings)
-      → BucketOk (KeyOf s) (buckets (s .settings)) (s .settings .entries) (s .given) (s .bricks .here) (s .bricks .up) g (s .bucket g)
+      → BucketOk (KeyOf s) (buckets (s .settings)) (s .settings .entries) (s .given) (s .bricks .present) (s .bricks .up) g (s .bucket g)
   pub bag-room : length (s .bag) ≤ max-relays
   pub relays : (r : Relay) → List·Memᴰ r (s .bag) → RelayOk (KeyOf s) (buckets (s .settings)) r
   pub items : (p : ℕ) → TableOk (KeyOf s) (λ b. proxy-of b ≡ p) max-items (s .items p)
-  pub known : (p : ℕ) → s .known p ≤ max-number
+  pub known : (p : ℕ) → s .known p ≤ max-view-or-order
   -- nothing beyond the buckets and the proxies
   pub no-bucket : (g : ℕ) → buckets (s .settings) ≤ g → s .bucket g ≡ blank-bucket
   pub no-items : (p : ℕ) → proxies ≤ p → s .items p ≡ []

@@ -11,7 +11,7 @@ use borrow.Author.Tests.{eqb-true, eq-eqb, ltb-true, leb-true, lt-ltb, le-leb}
 use Rattle.lists.specs.Tests.{all-below, every}
 use Rattle.lists.proofs.Tests.{by, by-eq, by-lt, impossible, clash, and-l, and-r, both, or-l, or-r, or-second, if-so, so-if, no, is-no}
 use Rattle.lists.proofs.Tests.{all-true, all-at, every-in, every-of, eqb-self}
-use Rattle.rules.specs.Limits.{proxies, buckets, max-items, max-number}
+use Rattle.rules.specs.Limits.{proxies, buckets, max-items, max-view-or-order}
 use Rattle.rules.specs.Numbers.{proxy-of, bucket-of, sequences}
 use Rattle.rules.specs.Entries.{Entry, ascending}
 use Rattle.rules.specs.Chunks.{Chunk}
@@ -171,11 +171,11 @@ module _ (s : State) where
   record Agreed (k : Bucket) : Type 0 where
     pair : PairOk (s .given) (k .primary) (k .backup)
     last : PairOk (s .given) (k .last-primary) (k .last-backup)
-    order : k .order ≤ max-number
-    taken : k .taken ≤ max-number
+    last-sent : k .last-sent ≤ max-view-or-order
+    taken : k .taken ≤ max-view-or-order
 
   abbrev record-test : Bucket → Bool
-  record-test k = sound-bucket (s .given) (k .primary) (k .backup) (k .last-primary) (k .last-backup) (k .order) (k .taken)
+  record-test k = sound-bucket (s .given) (k .primary) (k .backup) (k .last-primary) (k .last-backup) (k .last-sent) (k .taken)
 
   bucket-test : (k : Bucket) → (record-test k ≡ true) ↔ Agreed k
   unfolding sound-bucket
@@ -186,15 +186,15 @@ module _ (s : State) where
         record {
           pair = pair-test _ _ _ .0 (and-l _ _ b);
           last = pair-test _ _ _ .0 (and-r _ _ b);
-          order = leb-true _ _ (and-r _ _ a);
+          last-sent = leb-true _ _ (and-r _ _ a);
           taken = leb-true _ _ (and-r _ _ y);
         },
-    λ v. both _ _ (both _ _ (both _ _ (pair-test _ _ _ .1 (v .pair)) (pair-test _ _ _ .1 (v .last))) (le-leb _ _ (v .order))) (le-leb _ _ (v .taken)),
+    λ v. both _ _ (both _ _ (both _ _ (pair-test _ _ _ .1 (v .pair)) (pair-test _ _ _ .1 (v .last))) (le-leb _ _ (v .last-sent))) (le-leb _ _ (v .taken)),
   )
 
   -- ---- proxies
   record Proxy (p : ℕ) : Type 0 where
-    known : s .known p ≤ max-number
+    known : s .known p ≤ max-view-or-order
     items : TableOk Key (λ b. proxy-of b ≡ p) max-items (s .items p)
 
   abbrev proxy-passes : ℕ → Bool
@@ -224,9 +224,9 @@ module _ (s : State) where
   unfolding sound-copies
   copies-test i g =
       let most = s .settings .entries in
-      let here : (b : ℕ) → (in-bucket (s .settings) g b ≡ true) ↔ (bucket-of (buckets (s .settings)) b ≡ g) = λ b. unfold in-bucket in (eqb-true _ _, eq-eqb _ _) in
+      let present : (b : ℕ) → (in-bucket (s .settings) g b ≡ true) ↔ (bucket-of (buckets (s .settings)) b ≡ g) = λ b. unfold in-bucket in (eqb-true _ _, eq-eqb _ _) in
       let table : (l : List Entry) → (sound-table keys (in-bucket (s .settings) g) most l ≡ true) ↔ Copy g l
-      = table-test (in-bucket (s .settings) g) (λ b. bucket-of (buckets (s .settings)) b ≡ g) here most in
+      = table-test (in-bucket (s .settings) g) (λ b. bucket-of (buckets (s .settings)) b ≡ g) present most in
       let same = same-entries-test (s .bucket g .memory i) (s .bucket g .disk i) in (
         λ y. record {
           memory = table _ .0 (and-l _ _ (and-l _ _ y));
@@ -306,7 +306,7 @@ module _ (s : State) where
       (both _ _ (both _ _ (both _ _ (le-leb _ _ (v .bricks .few)) (lt-ltb _ _ (v .view-first))) (le-leb _ _ (v .view-last))) (le-leb _ _ (v .started))))
       (all-true _ place-test (λ p _. place-passes v p)))
       (all-true _ _ (λ g l. let k = v .buckets-ok g l in
-      bucket-test (s .bucket g) .1 (record { pair = k .pair; last = k .last; order = k .order; taken = k .taken }))))
+      bucket-test (s .bucket g) .1 (record { pair = k .pair; last = k .last; last-sent = k .last-sent; taken = k .taken }))))
       (both _ _ (le-leb _ _ (v .bag-room)) (every-of (sound-relay keys (s .settings)) (s .bag) (λ r m. relay-test r .1 (v .relays r m)))))
       (all-true _ proxy-passes (λ p _. proxy-test p .1 (record { known = v .known p; items = v .items p })))
 
@@ -331,7 +331,7 @@ module _ (s : State) where
         }
 
     -- an absent brick has all that is asked of one
-    brick-blank : (i : ℕ) → s .bricks .here i ≡ false → Brick i
+    brick-blank : (i : ℕ) → s .bricks .present i ≡ false → Brick i
     brick-blank i n = record {
       member = λ y. clash (h .blank-member i n) y;
       below = omega (arith, h .blank-next i n);
@@ -347,7 +347,7 @@ module _ (s : State) where
       };
     }
 
-    here-first : (i : ℕ) → s .bricks .here i ≡ true → 0 < i
+    here-first : (i : ℕ) → s .bricks .present i ≡ true → 0 < i
     here-first i y = by-lt 0 i (λ _ l. l) (λ _ l. let e : i ≡ 0 = omega arith in clash (h .no-zero) (rw e at y))
 
     pub sound-facts : sound s ≡ true → Sound s
@@ -361,7 +361,7 @@ module _ (s : State) where
         let bag = and-r _ _ a₁ in
         let place = place-is (and-r _ _ a₃) in
         let brick : (i : ℕ) → Brick i
-        = λ i. by (s .bricks .here i)
+        = λ i. by (s .bricks .present i)
         (λ z. let t = h .somewhere i z in rw (t .2) at (place (t .0) (omega (arith, here-first i z, t .2)) .brick)) (brick-blank i) in
         record {
           limits = and-l _ _ a₄;
@@ -373,7 +373,7 @@ module _ (s : State) where
             stands = h .stands;
             somewhere = h .somewhere;
             first = here-first;
-            up-here = λ i. not-so _ _ (h .blank-up i);
+            up-present = λ i. not-so _ _ (h .blank-up i);
             member-up = λ i. brick i .member;
             began-here = λ i. not-so _ _ (h .blank-began i);
           };
@@ -391,7 +391,7 @@ module _ (s : State) where
               record {
                 pair = t .pair;
                 last = t .last;
-                order = t .order;
+                last-sent = t .last-sent;
                 taken = t .taken;
                 memory = λ i. brick i .copies g l .memory;
                 disk = λ i. brick i .copies g l .disk;

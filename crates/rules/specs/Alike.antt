@@ -6,7 +6,7 @@ use Rattle.lists.specs.Tests.{_and_, all-below}
 use Rattle.rules.specs.declared.settings.Settings.{Settings}
 use Rattle.rules.specs.Limits.{buckets, max-id}
 use Rattle.rules.specs.State.{State}
-use Rattle.rules.specs.Parts.{primary-memory}
+use Rattle.rules.specs.Derived.{primary-memory}
 use Rattle.rules.specs.Sound.{same-entries}
 
 unfoldable pub same-flag : Bool → Bool → Bool

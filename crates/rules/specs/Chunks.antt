@@ -3,7 +3,7 @@ use mathlib.Core.List.{List, [], _∷_, _++_, map}
 use mathlib.Core.Bool.{Bool, true, cond}
 use Prim.Native.Nat.{ℕ}
 use lib.Dec.{eqb}
-use Rattle.lists.specs.Tests.{_and_, _or_, some, only}
+use Rattle.lists.specs.Tests.{_and_, _or_, any, only}
 
 -- each chunk is saved or unsaved
 pub record Chunk : Type 0 where
@@ -11,14 +11,14 @@ pub record Chunk : Type 0 where
   pub saved : Bool
   pub bytes : List ℕ
 
-abbrev pub chunk : ℕ → Bool → List ℕ → Chunk
-chunk key saved bytes = record { key = key; saved = saved; bytes = bytes }
+abbrev pub new-chunk : ℕ → Bool → List ℕ → Chunk
+new-chunk key saved bytes = record { key = key; saved = saved; bytes = bytes }
 
 unfoldable pub held : List Chunk → ℕ → Bool
-held log key = some (λ c. eqb key (c .key)) log
+held log key = any (λ c. eqb key (c .key)) log
 
 unfoldable pub saved-in : List Chunk → ℕ → Bool
-saved-in log key = some (λ c. eqb key (c .key) and c .saved) log
+saved-in log key = any (λ c. eqb key (c .key) and c .saved) log
 
 -- the bytes of the chunk with the key
 unfoldable pub bytes-in : List Chunk → ℕ → List ℕ
@@ -31,7 +31,7 @@ append log chunk = log ++ (chunk ∷ [])
 
 -- the chunks that a test of the key picks become saved
 abbrev pub save : (ℕ → Bool) → Chunk → Chunk
-save test old = chunk (old .key) (test (old .key) or old .saved) (old .bytes)
+save test old = new-chunk (old .key) (test (old .key) or old .saved) (old .bytes)
 
 unfoldable pub save-all : List Chunk → List Chunk
 save-all log = map (save (λ k. true)) log

@@ -4,7 +4,7 @@ use mathlib.Core.Bool.{Bool, true, not, cond}
 use Prim.Native.Nat.{ℕ, suc}
 use lib.Dec.{ltb, leb, eqb}
 use lib.ListN.{length}
-use Rattle.lists.specs.Tests.{_and_, _or_, some, only}
+use Rattle.lists.specs.Tests.{_and_, _or_, any, only}
 use Rattle.rules.specs.Numbers.{bucket-of}
 
 pub record Entry : Type 0 where
@@ -15,17 +15,17 @@ abbrev pub entry : ℕ → ℕ → Entry
 entry block key = record { block = block; key = key }
 
 -- the key of a block: key 0 means no mapping
-unfoldable pub look : List Entry → ℕ → ℕ
-look [] block = 0
-look (entry ∷ rest) block = cond (eqb block (entry .block)) (entry .key) (look rest block)
+unfoldable pub key-for : List Entry → ℕ → ℕ
+key-for [] block = 0
+key-for (entry ∷ rest) block = cond (eqb block (entry .block)) (entry .key) (key-for rest block)
 
 -- is there an entry for the block?
 unfoldable pub has : List Entry → ℕ → Bool
-has entries block = some (λ e. eqb block (e .block)) entries
+has entries block = any (λ e. eqb block (e .block)) entries
 
 -- is the key that of some entry?
 unfoldable pub names : List Entry → ℕ → Bool
-names entries key = some (λ e. eqb key (e .key)) entries
+names entries key = any (λ e. eqb key (e .key)) entries
 
 -- blocks ascend, from a floor on
 unfoldable pub ascending : ℕ → List Entry → Bool
@@ -48,13 +48,13 @@ unfoldable pub takes : ℕ → List Entry → ℕ → Bool
 takes most entries block = has entries block or ltb (length entries) most
 
 -- of a buffer, the entries of a bucket, and the others
-unfoldable pub waits-for : ℕ → ℕ → Entry → Bool
-waits-for count number entry = eqb (bucket-of count (entry .block)) number
+unfoldable pub is-of-bucket : ℕ → ℕ → Entry → Bool
+is-of-bucket count number entry = eqb (bucket-of count (entry .block)) number
 
 -- buffer entries move into a copy in arrival order; a new block that finds it full is dropped
-abbrev pub take-in : ℕ → List Entry → Entry → List Entry
-take-in most copy entry = cond (takes most copy (entry .block)) (insert copy (entry .block) (entry .key)) copy
+abbrev pub insert-if-room : ℕ → List Entry → Entry → List Entry
+insert-if-room most copy entry = cond (takes most copy (entry .block)) (insert copy (entry .block) (entry .key)) copy
 
 unfoldable pub drain : ℕ → List Entry → List Entry → List Entry
 drain most copy [] = copy
-drain most copy (entry ∷ rest) = drain most (take-in most copy entry) rest
+drain most copy (entry ∷ rest) = drain most (insert-if-room most copy entry) rest

@@ -105,47 +105,47 @@ unfoldable pub kind-at : ℕ → Kind
 kind-at zero = no-kind
 kind-at (suc i) = getD kinds i no-kind
 
--- ---- an event in parts: the number of its kind, its numbers in the order of the text, its data
-pub record Parts : Type 0 where
+-- ---- an event in fields: the number of its kind, its numbers in the order of the text, its data
+pub record EventFields : Type 0 where
   pub kind : ℕ
   pub numbers : List ℕ
   pub bytes : List ℕ
 
 -- fields that a kind doesn't have are not looked at
-unfoldable pub event-of : Parts → Event
+unfoldable pub event-of : EventFields → Event
 event-of p = kind-at (p .kind) .make (getD (p .numbers) 0 0) (getD (p .numbers) 1 0) (getD (p .numbers) 2 0) (p .bytes)
 
 -- of three numbers and data, those that the kind has; a call brings them all, and text has no more than these
-unfoldable pub parts-from : ℕ → ℕ → ℕ → ℕ → List ℕ → Parts
-parts-from k a b c bytes = record { kind = k; numbers = take (kind-at k .numbers) (a ∷ b ∷ c ∷ []); bytes = cond (kind-at k .payload) bytes [] }
+unfoldable pub fields-brought : ℕ → ℕ → ℕ → ℕ → List ℕ → EventFields
+fields-brought k a b c bytes = record { kind = k; numbers = take (kind-at k .numbers) (a ∷ b ∷ c ∷ []); bytes = cond (kind-at k .payload) bytes [] }
 
 abbrev pub event-from : ℕ → ℕ → ℕ → ℕ → List ℕ → Event
-event-from k a b c bytes = event-of (parts-from k a b c bytes)
+event-from k a b c bytes = event-of (fields-brought k a b c bytes)
 
-abbrev parts : ℕ → List ℕ → Parts
-parts k ns = record { kind = k; numbers = ns; bytes = [] }
+abbrev numbers-only : ℕ → List ℕ → EventFields
+numbers-only k ns = record { kind = k; numbers = ns; bytes = [] }
 
-unfoldable pub parts-of : Event → Parts
-parts-of (put p i b d) = record { kind = 1; numbers = p ∷ i ∷ b ∷ []; bytes = d }
-parts-of (copy k) = parts 2 (k ∷ [])
-parts-of (savelog i) = parts 3 (i ∷ [])
-parts-of (map p b) = parts 4 (p ∷ b ∷ [])
-parts-of (send b) = parts 5 (b ∷ [])
-parts-of (deliver n) = parts 6 (n ∷ [])
-parts-of (drop n) = parts 7 (n ∷ [])
-parts-of (savemap i) = parts 8 (i ∷ [])
-parts-of (done p b) = parts 9 (p ∷ b ∷ [])
-parts-of (get p b) = parts 10 (p ∷ b ∷ [])
-parts-of (abandon p b) = parts 11 (p ∷ b ∷ [])
-parts-of (learn p) = parts 12 (p ∷ [])
-parts-of (reset p) = parts 13 (p ∷ [])
-parts-of (crash i) = parts 14 (i ∷ [])
-parts-of (lose i) = parts 15 (i ∷ [])
-parts-of (rise i) = parts 16 (i ∷ [])
-parts-of (join i) = parts 17 (i ∷ [])
-parts-of view = parts 18 []
-parts-of (fetch g) = parts 19 (g ∷ [])
-parts-of (ready g) = parts 20 (g ∷ [])
-parts-of (mend i) = parts 21 (i ∷ [])
-parts-of (collect i) = parts 22 (i ∷ [])
-parts-of unknown = parts 0 []
+unfoldable pub event-fields : Event → EventFields
+event-fields (put p i b d) = record { kind = 1; numbers = p ∷ i ∷ b ∷ []; bytes = d }
+event-fields (copy k) = numbers-only 2 (k ∷ [])
+event-fields (savelog i) = numbers-only 3 (i ∷ [])
+event-fields (map p b) = numbers-only 4 (p ∷ b ∷ [])
+event-fields (send b) = numbers-only 5 (b ∷ [])
+event-fields (deliver n) = numbers-only 6 (n ∷ [])
+event-fields (drop n) = numbers-only 7 (n ∷ [])
+event-fields (savemap i) = numbers-only 8 (i ∷ [])
+event-fields (done p b) = numbers-only 9 (p ∷ b ∷ [])
+event-fields (get p b) = numbers-only 10 (p ∷ b ∷ [])
+event-fields (abandon p b) = numbers-only 11 (p ∷ b ∷ [])
+event-fields (learn p) = numbers-only 12 (p ∷ [])
+event-fields (reset p) = numbers-only 13 (p ∷ [])
+event-fields (crash i) = numbers-only 14 (i ∷ [])
+event-fields (lose i) = numbers-only 15 (i ∷ [])
+event-fields (rise i) = numbers-only 16 (i ∷ [])
+event-fields (join i) = numbers-only 17 (i ∷ [])
+event-fields view = numbers-only 18 []
+event-fields (fetch g) = numbers-only 19 (g ∷ [])
+event-fields (ready g) = numbers-only 20 (g ∷ [])
+event-fields (mend i) = numbers-only 21 (i ∷ [])
+event-fields (collect i) = numbers-only 22 (i ∷ [])
+event-fields unknown = numbers-only 0 []

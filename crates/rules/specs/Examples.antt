@@ -20,7 +20,7 @@ use Rattle.rules.specs.Alike.{alike}
 
 pub data Asked : Type 0 where
   -- the code of a format
-  format-code : Settings → Asked
+  settings-code : Settings → Asked
   -- the bucket of a block
   bucket : Settings → ℕ → Asked
   -- after a list of events from format: some buckets' primaries and backups
@@ -69,7 +69,7 @@ abbrev orders : State → List ℕ
 orders s = orders-in (s .bag)
 
 unfoldable pub value : Asked → List ℕ
-value (format-code c) = cond (in-limits c) 0 1 ∷ []
+value (settings-code c) = cond (in-limits c) 0 1 ∷ []
 value (bucket c b) = bucket-of (buckets c) b ∷ []
 value (pairs-after c es l) = pairs-in (after-all (format c) es) l
 value (last-answer c es) = last-of (format c) es
@@ -164,10 +164,10 @@ crowded s = let k = s .bucket 0 in set-bucket s 0 (with-copies k (upd (k .memory
 -- ---- 01's marked examples
 unfoldable pub marked : List Row
 marked =
-    (format-code (places 2) gives (1 ∷ []))
-    ∷ (format-code (places 9) gives (1 ∷ []))
-    ∷ (format-code (places 3) gives (0 ∷ []))
-    ∷ (format-code (places 8) gives (0 ∷ []))
+    (settings-code (places 2) gives (1 ∷ []))
+    ∷ (settings-code (places 9) gives (1 ∷ []))
+    ∷ (settings-code (places 3) gives (0 ∷ []))
+    ∷ (settings-code (places 8) gives (0 ∷ []))
     ∷ (last-answer small (Event.get 0 (2 ^ 51) ∷ []) gives refused 3)
     ∷ (last-answer small (Event.put 0 0 (2 ^ 49) a1 ∷ []) gives refused 4)
     ∷ (bucket small 1023 gives (0 ∷ []))

@@ -8,7 +8,7 @@ use Rattle.lists.specs.Tests.{_and_}
 use Rattle.rules.specs.declared.settings.Settings.{Settings}
 use Rattle.rules.specs.Limits.{buckets}
 use Rattle.rules.specs.State.{State, Bucket, blank-bucket}
-use Rattle.rules.specs.Pairs.{Slots, at, ids-of, pairs}
+use Rattle.rules.specs.Pairs.{Assignments, id-in, ids-of, pairs}
 
 unfoldable pub first-id : ℕ → ℕ → ℕ
 first-id places place = cond (ltb place places) (suc place) 0
@@ -17,7 +17,7 @@ unfoldable pub is-first : ℕ → ℕ → Bool
 is-first places id = ltb 0 id and leb id places
 
 -- no last ready pairs while format makes its pairs, which from then on are the last ready ones
-unfoldable pub first-pairs : Settings → Slots
+unfoldable pub first-pairs : Settings → Assignments
 first-pairs settings = pairs (buckets settings) (ids-of (settings .places) (λ i. true)) (replicate (2 * buckets settings) 0)
 
 abbrev pub first-bucket : ℕ → ℕ → Bucket
@@ -28,7 +28,7 @@ first-bucket primary backup = record {
   last-backup = backup;
   ready = true;
   fetched = false;
-  order = 0;
+  last-sent = 0;
   taken = 0;
   memory = λ i. [];
   disk = λ i. [];
@@ -37,7 +37,7 @@ first-bucket primary backup = record {
 unfoldable pub format : Settings → State
 format settings =
     let places = settings .places in
-    let slots = first-pairs settings in
+    let assigned = first-pairs settings in
     record {
       settings = settings;
       ids = first-id places;
@@ -45,7 +45,7 @@ format settings =
       view = 1;
       started = places;
       bricks = record {
-        here = is-first places;
+        present = is-first places;
         up = is-first places;
         member = is-first places;
         began = is-first places;
@@ -54,7 +54,7 @@ format settings =
         log = λ i. [];
         buffer = λ i. [];
       };
-      bucket = λ g. cond (ltb g (buckets settings)) (first-bucket (at slots (2 * g)) (at slots (2 * g + 1))) blank-bucket;
+      bucket = λ g. cond (ltb g (buckets settings)) (first-bucket (id-in assigned (2 * g)) (id-in assigned (2 * g + 1))) blank-bucket;
       bag = [];
       items = λ p. [];
       known = λ p. 0;

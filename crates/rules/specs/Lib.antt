@@ -7,7 +7,7 @@ pub mod Event
 pub mod Call
 pub mod Pairs
 pub mod Format
-pub mod Parts
+pub mod Derived
 pub mod Question
 pub mod Writes
 pub mod Maps

@@ -1,6 +1,7 @@
 -- Settings and limits. The settings are the code's struct; its associated constants are these limits, by the proof of its constructor.
+use mathlib.Core.Path.{_≡_}
 use mathlib.Core.Bool.{Bool, cond}
-use Prim.Native.Nat.{ℕ, _-_, _%_, _^_}
+use Prim.Native.Nat.{ℕ, _-_, _%_, _^_, _≤_}
 use lib.Dec.{leb, eqb}
 use Rattle.lists.specs.Tests.{_and_}
 use Rattle.rules.specs.declared.settings.Settings.{Settings}
@@ -47,6 +48,18 @@ in-limits settings =
     in-range min-places max-places (settings .places) and in-range min-size max-size (settings .size) and eqb (settings .size % size-step) 0
     and in-range min-entries max-entries (settings .entries) and in-range min-chunks max-chunks (settings .chunks)
 
+-- settings in their limits, as facts: what contracts ask
+pub record Limits (c : Settings) : Type 0 where
+  pub places-from : min-places ≤ c .places
+  pub places-to : c .places ≤ max-places
+  pub size-from : min-size ≤ c .size
+  pub size-to : c .size ≤ max-size
+  pub size-words : c .size % size-step ≡ 0
+  pub entries-from : min-entries ≤ c .entries
+  pub entries-to : c .entries ≤ max-entries
+  pub chunks-from : min-chunks ≤ c .chunks
+  pub chunks-to : c .chunks ≤ max-chunks
+
 -- what the constructor of settings answers
 unfoldable pub checked : ℕ → ℕ → ℕ → ℕ → Checked
 checked places size entries chunks =
@@ -83,5 +96,5 @@ abbrev pub max-id : ℕ
 max-id = 255
 
 -- view and order numbers have 32 bits
-abbrev pub max-number : ℕ
-max-number = 2 ^ 32 - 1
+abbrev pub max-view-or-order : ℕ
+max-view-or-order = 2 ^ 32 - 1

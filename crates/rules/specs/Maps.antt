@@ -6,11 +6,11 @@ use lib.Dec.{ltb, eqb}
 use lib.ListN.{length, getD}
 use Rattle.lists.specs.Tests.{_and_, _or_}
 use Rattle.lists.specs.Columns.{upd}
-use Rattle.rules.specs.Limits.{max-relays, max-waiting, max-number}
-use Rattle.rules.specs.Entries.{entry, look, has, insert, remove, takes}
+use Rattle.rules.specs.Limits.{max-relays, max-waiting, max-view-or-order}
+use Rattle.rules.specs.Entries.{entry, key-for, has, insert, remove, takes}
 use Rattle.rules.specs.State.{State, Bucket, Relay, blank-relay, set-bricks, set-buckets, set-bucket, set-bag, set-items, set-known}
-use Rattle.rules.specs.State.{with-buffer, with-copies, with-order, with-taken}
-use Rattle.rules.specs.Parts.{up-member, saved-at, bucket-no, bucket-at, primary-memory, backup-memory, item}
+use Rattle.rules.specs.State.{with-buffer, with-copies, with-last-sent, with-taken}
+use Rattle.rules.specs.Derived.{up-member, saved-at, bucket-no, bucket-at, primary-memory, backup-memory, item}
 use Rattle.rules.specs.Question.{Question, _asks_, is-proxy, is-place, is-block, belongs, knows-view, primary-up}
 use Rattle.rules.specs.Question.{is-ready, not-pending, not-waiting, has-item}
 
@@ -46,7 +46,7 @@ send-asks s block =
     ∷ (6 asks primary-up s block)
     ∷ (7 asks is-ready s block)
     ∷ (10 asks ltb (length (s .bag)) max-relays)
-    ∷ (12 asks ltb (bucket-at s block .order) max-number)
+    ∷ (12 asks ltb (bucket-at s block .last-sent) max-view-or-order)
     ∷ (13 asks has (primary-memory (bucket-at s block)) block)
     ∷ []
 
@@ -54,15 +54,15 @@ abbrev pub new-relay : State → ℕ → Relay
 new-relay s block = record {
   view = s .view;
   bucket = bucket-no s block;
-  order = suc (bucket-at s block .order);
+  order = suc (bucket-at s block .last-sent);
   block = block;
-  key = look (primary-memory (bucket-at s block)) block;
+  key = key-for (primary-memory (bucket-at s block)) block;
 }
 
 unfoldable pub send-effect : State → ℕ → State
 send-effect s block =
     let bucket = bucket-at s block in
-    set-bucket (set-bag s (s .bag ++ (new-relay s block ∷ []))) (bucket-no s block) (with-order bucket (suc (bucket .order)))
+    set-bucket (set-bag s (s .bag ++ (new-relay s block ∷ []))) (bucket-no s block) (with-last-sent bucket (suc (bucket .last-sent)))
 
 -- ---- deliver,index: if the relay's view is the present one and its number exceeds the highest taken for the bucket in this view, the backup's
 -- memory takes it; else it is set aside. It leaves the bag either way
@@ -126,7 +126,7 @@ done-asks s proxy block =
     ∷ (8 asks not-pending s block)
     ∷ (8 asks not-waiting s block)
     ∷ (9 asks has-item s proxy block)
-    ∷ (15 asks eqb (look (primary-memory (bucket-at s block)) block) (item s proxy block))
+    ∷ (15 asks eqb (key-for (primary-memory (bucket-at s block)) block) (item s proxy block))
     ∷ []
 
 -- ---- abandon,proxy,block: the item goes; its mapping may still land

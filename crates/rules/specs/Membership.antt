@@ -8,7 +8,7 @@ use Rattle.lists.specs.Columns.{upd}
 use Rattle.rules.specs.Limits.{max-id}
 use Rattle.rules.specs.Chunks.{only-saved}
 use Rattle.rules.specs.State.{State, Bricks, Bucket, set-bricks, set-buckets, with-copies}
-use Rattle.rules.specs.Parts.{is-up, is-empty}
+use Rattle.rules.specs.Derived.{is-up, is-empty}
 use Rattle.rules.specs.Question.{Question, _asks_, is-place}
 
 -- ---- crash,place: unsaved chunks, buffer and unsaved entries go; down. It ends the brick's membership. After a crash next is the ceiling
@@ -22,7 +22,7 @@ unfoldable pub crash-effect : State → ℕ → State
 crash-effect s id =
     let old = s .bricks in
     set-buckets (set-bricks s (record {
-      here = old .here;
+      present = old .present;
       up = upd (old .up) id false;
       member = upd (old .member) id false;
       began = old .began;
@@ -37,9 +37,9 @@ abbrev pub lose-asks : State → ℕ → List Question
 lose-asks s place = (3 asks is-place s place) ∷ (13 asks not (is-empty s place)) ∷ []
 
 -- nothing is left of the brick, or nothing is there yet but whether some place holds it and whether it is up
-abbrev pub blank-brick : Bricks → ℕ → Bool → Bricks
-blank-brick old id there = record {
-  here = upd (old .here) id there;
+abbrev pub blanked-brick : Bricks → ℕ → Bool → Bricks
+blanked-brick old id there = record {
+  present = upd (old .present) id there;
   up = upd (old .up) id there;
   member = upd (old .member) id false;
   began = upd (old .began) id false;
@@ -49,8 +49,8 @@ blank-brick old id there = record {
   buffer = upd (old .buffer) id [];
 }
 
-abbrev pub blank-copies : ℕ → Bucket → Bucket
-blank-copies id bucket = with-copies bucket (upd (bucket .memory) id []) (upd (bucket .disk) id [])
+abbrev pub blanked-copies : ℕ → Bucket → Bucket
+blanked-copies id bucket = with-copies bucket (upd (bucket .memory) id []) (upd (bucket .disk) id [])
 
 unfoldable pub lose-effect : State → ℕ → ℕ → State
 lose-effect s place id = record {
@@ -59,8 +59,8 @@ lose-effect s place id = record {
   given = s .given;
   view = s .view;
   started = s .started;
-  bricks = blank-brick (s .bricks) id false;
-  bucket = λ g. blank-copies id (s .bucket g);
+  bricks = blanked-brick (s .bricks) id false;
+  bucket = λ g. blanked-copies id (s .bucket g);
   bag = s .bag;
   items = s .items;
   known = s .known;
@@ -74,7 +74,7 @@ unfoldable pub rise-effect : State → ℕ → State
 rise-effect s id =
     let old = s .bricks in
     set-bricks s (record {
-      here = old .here;
+      present = old .present;
       up = upd (old .up) id true;
       member = old .member;
       began = old .began;
@@ -97,8 +97,8 @@ join-effect s place =
       given = id;
       view = s .view;
       started = s .started;
-      bricks = blank-brick (s .bricks) id true;
-      bucket = λ g. blank-copies id (s .bucket g);
+      bricks = blanked-brick (s .bricks) id true;
+      bucket = λ g. blanked-copies id (s .bucket g);
       bag = s .bag;
       items = s .items;
       known = s .known;

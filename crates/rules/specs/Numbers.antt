@@ -7,8 +7,8 @@ use lib.ListN.{length}
 use Rattle.lists.specs.Tests.{_and_, every}
 
 -- block numbers are below 2^51
-abbrev pub blocks : ℕ
-blocks = 2 ^ 51
+abbrev pub block-count : ℕ
+block-count = 2 ^ 51
 
 -- proxy = block divided by 2^49
 abbrev pub proxy-blocks : ℕ

@@ -5,10 +5,10 @@ use mathlib.Core.Bool.{Bool, true, not, cond}
 use Prim.Native.Nat.{ℕ}
 use lib.Dec.{ltb, eqb}
 use Rattle.rules.specs.Limits.{proxies, buckets}
-use Rattle.rules.specs.Numbers.{blocks, proxy-of}
+use Rattle.rules.specs.Numbers.{block-count, proxy-of}
 use Rattle.rules.specs.Entries.{has}
 use Rattle.rules.specs.State.{State}
-use Rattle.rules.specs.Parts.{up-member, bucket-at, pending}
+use Rattle.rules.specs.Derived.{up-member, bucket-at, pending}
 
 pub record Question : Type 0 where
   pub code : ℕ
@@ -33,7 +33,7 @@ abbrev pub is-proxy : ℕ → Bool
 is-proxy proxy = ltb proxy proxies
 
 abbrev pub is-block : ℕ → Bool
-is-block block = ltb block blocks
+is-block block = ltb block block-count
 
 abbrev pub is-place : State → ℕ → Bool
 is-place s place = ltb place (s .settings .places)

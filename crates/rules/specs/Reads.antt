@@ -5,15 +5,15 @@ use Prim.Native.Nat.{ℕ}
 use lib.Dec.{ltb, eqb}
 use lib.ListN.{replicate}
 use Rattle.lists.specs.Tests.{_or_}
-use Rattle.rules.specs.Entries.{look}
+use Rattle.rules.specs.Entries.{key-for}
 use Rattle.rules.specs.Chunks.{bytes-in}
 use Rattle.rules.specs.State.{State}
-use Rattle.rules.specs.Parts.{holder, bucket-at, primary-memory}
+use Rattle.rules.specs.Derived.{holder, bucket-at, primary-memory}
 use Rattle.rules.specs.Question.{Question, _asks_, is-proxy, is-block, belongs, knows-view, primary-up, is-ready, not-pending, not-waiting}
 
 -- the block's key in the primary's memory
 abbrev pub mapped : State → ℕ → ℕ
-mapped s block = look (primary-memory (bucket-at s block)) block
+mapped s block = key-for (primary-memory (bucket-at s block)) block
 
 -- ---- get,proxy,block: key and bytes; key 0 and zeros if unmapped
 abbrev pub get-asks : State → ℕ → ℕ → List Question

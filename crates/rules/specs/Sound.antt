@@ -28,8 +28,8 @@ use lib.Dec.{ltb, leb, eqb}
 use lib.ListN.{length}
 use Rattle.lists.specs.Tests.{_and_, _or_, all-below, every}
 use Rattle.rules.specs.declared.settings.Settings.{Settings}
-use Rattle.rules.specs.Limits.{in-limits, proxies, buckets, max-relays, max-items, max-waiting, max-id, max-number}
-use Rattle.rules.specs.Numbers.{blocks, bucket-of, sequences, home-of, sequence-of, is-data}
+use Rattle.rules.specs.Limits.{in-limits, proxies, buckets, max-relays, max-items, max-waiting, max-id, max-view-or-order}
+use Rattle.rules.specs.Numbers.{block-count, bucket-of, sequences, home-of, sequence-of, is-data}
 use Rattle.rules.specs.Entries.{Entry, ascending}
 use Rattle.rules.specs.Chunks.{Chunk, held}
 use Rattle.rules.specs.State.{Relay, State}
@@ -37,16 +37,16 @@ use Rattle.rules.specs.Question.{belongs}
 
 -- ---- the header: the view, the highest id given, the number of bricks that the view began with
 unfoldable pub sound-header : Settings → ℕ → ℕ → ℕ → Bool
-sound-header settings view given started = leb given max-id and ltb 0 view and leb view max-number and leb started (settings .places)
+sound-header settings view given started = leb given max-id and ltb 0 view and leb view max-view-or-order and leb started (settings .places)
 
 -- ---- a key: its id was given already, and of a brick present it is below its next. Below, `keys` is a test of keys
 unfoldable pub sound-key : State → ℕ → Bool
 sound-key s key =
-    ltb 0 (home-of key) and leb (home-of key) (s .given) and (not (s .bricks .here (home-of key)) or ltb (sequence-of key) (s .bricks .next (home-of key)))
+    ltb 0 (home-of key) and leb (home-of key) (s .given) and (not (s .bricks .present (home-of key)) or ltb (sequence-of key) (s .bricks .next (home-of key)))
 
 -- ---- entries: block numbers and keys in range, each block where it belongs
 unfoldable pub sound-entry : (ℕ → Bool) → (ℕ → Bool) → Entry → Bool
-sound-entry keys mine entry = mine (entry .block) and ltb (entry .block) blocks and keys (entry .key)
+sound-entry keys mine entry = mine (entry .block) and ltb (entry .block) block-count and keys (entry .key)
 
 unfoldable pub sound-entries : (ℕ → Bool) → (ℕ → Bool) → ℕ → List Entry → Bool
 sound-entries keys mine most entries = leb (length entries) most and every (sound-entry keys mine) entries
@@ -111,12 +111,12 @@ sound-pair given one two = ltb 0 one and leb one given and ltb 0 two and leb two
 
 unfoldable pub sound-bucket : ℕ → ℕ → ℕ → ℕ → ℕ → ℕ → ℕ → Bool
 sound-bucket given primary backup last-primary last-backup order taken =
-    sound-pair given primary backup and sound-pair given last-primary last-backup and leb order max-number and leb taken max-number
+    sound-pair given primary backup and sound-pair given last-primary last-backup and leb order max-view-or-order and leb taken max-view-or-order
 
 -- ---- relays: a relay's bucket is its block's
 unfoldable pub sound-relay : (ℕ → Bool) → Settings → Relay → Bool
 sound-relay keys settings relay =
-    leb (relay .view) max-number and in-bucket settings (relay .bucket) (relay .block) and leb (relay .order) max-number and ltb (relay .block) blocks
+    leb (relay .view) max-view-or-order and in-bucket settings (relay .bucket) (relay .block) and leb (relay .order) max-view-or-order and ltb (relay .block) block-count
     and keys (relay .key)
 
 unfoldable pub sound-bag : (ℕ → Bool) → Settings → List Relay → Bool
@@ -124,7 +124,7 @@ sound-bag keys settings relays = leb (length relays) max-relays and every (sound
 
 -- ---- proxies
 unfoldable pub sound-proxy : (ℕ → Bool) → ℕ → ℕ → List Entry → Bool
-sound-proxy keys proxy known items = leb known max-number and sound-table keys (belongs proxy) max-items items
+sound-proxy keys proxy known items = leb known max-view-or-order and sound-table keys (belongs proxy) max-items items
 
 -- ---- the store
 unfoldable pub sound : State → Bool
@@ -133,5 +133,5 @@ sound s =
     in-limits (s .settings) and sound-header (s .settings) (s .view) (s .given) (s .started)
     and all-below (s .settings .places) (sound-place (s .given) (s .ids) (λ p. sound-brick s (s .ids p)))
     and all-below (buckets (s .settings))
-    (λ g. let k = s .bucket g in sound-bucket (s .given) (k .primary) (k .backup) (k .last-primary) (k .last-backup) (k .order) (k .taken))
+    (λ g. let k = s .bucket g in sound-bucket (s .given) (k .primary) (k .backup) (k .last-primary) (k .last-backup) (k .last-sent) (k .taken))
     and sound-bag keys (s .settings) (s .bag) and all-below proxies (λ p. sound-proxy keys p (s .known p) (s .items p))

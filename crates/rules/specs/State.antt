@@ -10,7 +10,7 @@ use Rattle.rules.specs.Chunks.{Chunk}
 -- a brick has a chunk log, an append buffer, the next sequence number and a saved ceiling
 pub record Bricks : Type 0 where
   -- some place holds it
-  pub here : ℕ → Bool
+  pub present : ℕ → Bool
   pub up : ℕ → Bool
   pub member : ℕ → Bool
   -- the present view began with it
@@ -29,7 +29,7 @@ pub record Bucket : Type 0 where
   pub ready : Bool
   pub fetched : Bool
   -- the order number sent last in this view, and the highest taken
-  pub order : ℕ
+  pub last-sent : ℕ
   pub taken : ℕ
   pub memory : ℕ → List Entry
   pub disk : ℕ → List Entry
@@ -70,7 +70,7 @@ blank-bucket = record {
   last-backup = 0;
   ready = false;
   fetched = false;
-  order = 0;
+  last-sent = 0;
   taken = 0;
   memory = λ i. [];
   disk = λ i. [];
@@ -112,7 +112,7 @@ set-known s p v = set-parts s (s .bricks) (s .bucket) (s .bag) (s .items) (upd (
 -- ---- bricks with the log or the buffer of one changed
 abbrev pub set-lists : Bricks → (ℕ → List Chunk) → (ℕ → List Entry) → Bricks
 set-lists b log buffer = record {
-  here = b .here;
+  present = b .present;
   up = b .up;
   member = b .member;
   began = b .began;
@@ -130,24 +130,24 @@ with-buffer b i v = set-lists b (b .log) (upd (b .buffer) i v)
 
 -- ---- a bucket with its order numbers or copies changed
 abbrev pub set-copies : Bucket → ℕ → ℕ → (ℕ → List Entry) → (ℕ → List Entry) → Bucket
-set-copies k order taken memory disk = record {
+set-copies k last-sent taken memory disk = record {
   primary = k .primary;
   backup = k .backup;
   last-primary = k .last-primary;
   last-backup = k .last-backup;
   ready = k .ready;
   fetched = k .fetched;
-  order = order;
+  last-sent = last-sent;
   taken = taken;
   memory = memory;
   disk = disk;
 }
 
 abbrev pub with-copies : Bucket → (ℕ → List Entry) → (ℕ → List Entry) → Bucket
-with-copies k memory disk = set-copies k (k .order) (k .taken) memory disk
+with-copies k memory disk = set-copies k (k .last-sent) (k .taken) memory disk
 
-abbrev pub with-order : Bucket → ℕ → Bucket
-with-order k v = set-copies k v (k .taken) (k .memory) (k .disk)
+abbrev pub with-last-sent : Bucket → ℕ → Bucket
+with-last-sent k v = set-copies k v (k .taken) (k .memory) (k .disk)
 
 abbrev pub with-taken : Bucket → ℕ → (ℕ → List Entry) → Bucket
-with-taken k v memory = set-copies k (k .order) v memory (k .disk)
+with-taken k v memory = set-copies k (k .last-sent) v memory (k .disk)

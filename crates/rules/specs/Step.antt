@@ -27,35 +27,35 @@ pub record Rule : Type 0 where
   pub said : Answer
   pub after : State
 
-abbrev quiet : List Question → State → Rule
-quiet qs t = record { questions = qs; said = only-key 0; after = t }
+abbrev without-answer : List Question → State → Rule
+without-answer qs t = record { questions = qs; said = only-key 0; after = t }
 
 unfoldable pub rule : State → Event → Rule
 rule s (Event.put proxy place block bytes) =
     let id = s .ids place in
     record { questions = put-asks s proxy place block bytes; said = only-key (new-key s id); after = put-effect s proxy id block bytes }
-rule s (Event.copy key) = quiet (copy-asks s key) (copy-effect s key)
-rule s (Event.savelog place) = quiet (savelog-asks s place) (savelog-effect s (s .ids place))
-rule s (Event.map proxy block) = quiet (map-asks s proxy block) (map-effect s proxy block)
-rule s (Event.send block) = quiet (send-asks s block) (send-effect s block)
+rule s (Event.copy key) = without-answer (copy-asks s key) (copy-effect s key)
+rule s (Event.savelog place) = without-answer (savelog-asks s place) (savelog-effect s (s .ids place))
+rule s (Event.map proxy block) = without-answer (map-asks s proxy block) (map-effect s proxy block)
+rule s (Event.send block) = without-answer (send-asks s block) (send-effect s block)
 rule s (Event.deliver index) = record { questions = deliver-asks s index; said = only-key (cond (is-taken s index) 1 0); after = deliver-effect s index }
-rule s (Event.drop index) = quiet (drop-asks s index) (drop-effect s index)
-rule s (Event.savemap place) = quiet (savemap-asks s place) (savemap-effect s (s .ids place))
-rule s (Event.done proxy block) = quiet (done-asks s proxy block) (item-goes s proxy block)
+rule s (Event.drop index) = without-answer (drop-asks s index) (drop-effect s index)
+rule s (Event.savemap place) = without-answer (savemap-asks s place) (savemap-effect s (s .ids place))
+rule s (Event.done proxy block) = without-answer (done-asks s proxy block) (item-goes s proxy block)
 rule s (Event.get proxy block) = record { questions = get-asks s proxy block; said = record { key = mapped s block; bytes = get-bytes s block }; after = s }
-rule s (Event.abandon proxy block) = quiet (abandon-asks s proxy block) (item-goes s proxy block)
-rule s (Event.learn proxy) = quiet (proxy-asks proxy) (learn-effect s proxy)
-rule s (Event.reset proxy) = quiet (proxy-asks proxy) (reset-effect s proxy)
-rule s (Event.crash place) = quiet (crash-asks s place) (crash-effect s (s .ids place))
-rule s (Event.lose place) = quiet (lose-asks s place) (lose-effect s place (s .ids place))
-rule s (Event.rise place) = quiet (rise-asks s place) (rise-effect s (s .ids place))
-rule s (Event.join place) = quiet (join-asks s place) (join-effect s place)
-rule s Event.view = quiet (view-asks s) (view-effect s)
-rule s (Event.fetch bucket) = quiet (fetch-asks s bucket) (fetch-effect s bucket)
-rule s (Event.ready bucket) = quiet (ready-asks s bucket) (ready-effect s bucket)
-rule s (Event.mend place) = quiet (mend-asks s place) (mend-effect s (s .ids place))
-rule s (Event.collect place) = quiet (collect-asks s place) (collect-effect s (s .ids place))
-rule s Event.unknown = quiet ((3 asks false) ∷ []) s
+rule s (Event.abandon proxy block) = without-answer (abandon-asks s proxy block) (item-goes s proxy block)
+rule s (Event.learn proxy) = without-answer (proxy-asks proxy) (learn-effect s proxy)
+rule s (Event.reset proxy) = without-answer (proxy-asks proxy) (reset-effect s proxy)
+rule s (Event.crash place) = without-answer (crash-asks s place) (crash-effect s (s .ids place))
+rule s (Event.lose place) = without-answer (lose-asks s place) (lose-effect s place (s .ids place))
+rule s (Event.rise place) = without-answer (rise-asks s place) (rise-effect s (s .ids place))
+rule s (Event.join place) = without-answer (join-asks s place) (join-effect s place)
+rule s Event.view = without-answer (view-asks s) (view-effect s)
+rule s (Event.fetch bucket) = without-answer (fetch-asks s bucket) (fetch-effect s bucket)
+rule s (Event.ready bucket) = without-answer (ready-asks s bucket) (ready-effect s bucket)
+rule s (Event.mend place) = without-answer (mend-asks s place) (mend-effect s (s .ids place))
+rule s (Event.collect place) = without-answer (collect-asks s place) (collect-effect s (s .ids place))
+rule s Event.unknown = without-answer ((3 asks false) ∷ []) s
 
 -- ---- the step: code, key and data, state. A refusal has key 0 and no data, and changes nothing
 pub record Outcome : Type 0 where

@@ -5,11 +5,11 @@ use Prim.Native.Nat.{ℕ, suc, _+_, _*_}
 use lib.Dec.{ltb}
 use Rattle.lists.specs.Tests.{_and_, count-below, only}
 use Rattle.lists.specs.Columns.{upd}
-use Rattle.rules.specs.Limits.{buckets, max-number}
-use Rattle.rules.specs.Entries.{Entry, waits-for, drain}
+use Rattle.rules.specs.Limits.{buckets, max-view-or-order}
+use Rattle.rules.specs.Entries.{Entry, is-of-bucket, drain}
 use Rattle.rules.specs.State.{State, Bucket, set-bricks, set-bucket, with-buffer}
-use Rattle.rules.specs.Pairs.{Slots, at, ids-of, slots-of, pairs}
-use Rattle.rules.specs.Parts.{up-member, is-up}
+use Rattle.rules.specs.Pairs.{Assignments, id-in, ids-of, assignments-of, pairs}
+use Rattle.rules.specs.Derived.{up-member, is-up}
 use Rattle.rules.specs.Question.{Question, _asks_, is-bucket}
 
 -- ---- view: number plus 1; members are all up bricks; buffers emptied; no bucket ready or fetched
@@ -17,15 +17,15 @@ use Rattle.rules.specs.Question.{Question, _asks_, is-bucket}
 abbrev pub view-asks : State → List Question
 view-asks s =
     let places = s .settings .places in
-    (12 asks ltb (s .view) max-number)
+    (12 asks ltb (s .view) max-view-or-order)
     ∷ (13 asks ltb 1 (count-below places (is-up s)))
     ∷ (13 asks ltb (s .started) (2 * count-below places (λ p. is-up s p and s .bricks .began (s .ids p))))
     ∷ []
 
-unfoldable pub last-pairs : State → Slots
-last-pairs s = slots-of (buckets (s .settings)) (λ g. s .bucket g .last-primary) (λ g. s .bucket g .last-backup)
+unfoldable pub last-pairs : State → Assignments
+last-pairs s = assignments-of (buckets (s .settings)) (λ g. s .bucket g .last-primary) (λ g. s .bucket g .last-backup)
 
-unfoldable pub view-pairs : State → Slots
+unfoldable pub view-pairs : State → Assignments
 view-pairs s = pairs (buckets (s .settings)) (ids-of (s .given) (s .bricks .up)) (last-pairs s)
 
 -- order numbers and the highest taken number begin again
@@ -37,7 +37,7 @@ viewed-bucket primary backup bucket = record {
   last-backup = bucket .last-backup;
   ready = false;
   fetched = false;
-  order = 0;
+  last-sent = 0;
   taken = 0;
   memory = bucket .memory;
   disk = bucket .disk;
@@ -46,7 +46,7 @@ viewed-bucket primary backup bucket = record {
 unfoldable pub view-effect : State → State
 view-effect s =
     let old = s .bricks in
-    let slots = view-pairs s in
+    let assigned = view-pairs s in
     record {
       settings = s .settings;
       ids = s .ids;
@@ -54,7 +54,7 @@ view-effect s =
       view = suc (s .view);
       started = count-below (s .settings .places) (is-up s);
       bricks = record {
-        here = old .here;
+        present = old .present;
         up = old .up;
         member = old .up;
         began = old .up;
@@ -63,7 +63,7 @@ view-effect s =
         log = old .log;
         buffer = λ i. [];
       };
-      bucket = λ g. viewed-bucket (at slots (2 * g)) (at slots (2 * g + 1)) (s .bucket g);
+      bucket = λ g. viewed-bucket (id-in assigned (2 * g)) (id-in assigned (2 * g + 1)) (s .bucket g);
       bag = s .bag;
       items = s .items;
       known = s .known;
@@ -92,7 +92,7 @@ fetched-bucket id bucket = record {
   last-backup = bucket .last-backup;
   ready = bucket .ready;
   fetched = true;
-  order = bucket .order;
+  last-sent = bucket .last-sent;
   taken = bucket .taken;
   memory = upd (bucket .memory) (bucket .primary) (bucket .memory id);
   disk = upd (bucket .disk) (bucket .primary) (bucket .memory id);
@@ -124,7 +124,7 @@ ready-bucket up drained bucket = record {
   last-backup = bucket .backup;
   ready = true;
   fetched = bucket .fetched;
-  order = bucket .order;
+  last-sent = bucket .last-sent;
   taken = bucket .taken;
   memory = upd (upd (dropped up (bucket .memory)) (bucket .backup) (bucket .memory (bucket .primary))) (bucket .primary) drained;
   disk = upd (upd (dropped up (bucket .disk)) (bucket .backup) (bucket .memory (bucket .primary))) (bucket .primary) (bucket .disk (bucket .primary));
@@ -135,6 +135,6 @@ ready-effect s g =
     let bucket = s .bucket g in
     let id = bucket .primary in
     let waits = s .bricks .buffer id in
-    let mine = waits-for (buckets (s .settings)) g in
+    let mine = is-of-bucket (buckets (s .settings)) g in
     set-bucket (set-bricks s (with-buffer (s .bricks) id (only (λ e. not (mine e)) waits))) g
     (ready-bucket (s .bricks .up) (drain (s .settings .entries) (bucket .memory id) (only mine waits)) bucket)

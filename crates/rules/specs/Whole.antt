@@ -6,7 +6,7 @@ use lib.ListN.{length}
 use Rattle.lists.specs.Tests.{_and_, all-below, every}
 use Rattle.rules.specs.Limits.{buckets}
 use Rattle.rules.specs.State.{State}
-use Rattle.rules.specs.Parts.{up-member, saved-at, primary-memory, calm}
+use Rattle.rules.specs.Derived.{up-member, saved-at, primary-memory, nothing-pending}
 
 unfoldable pub saved-twice : State → ℕ → Bool
 saved-twice s key = leb 2 (length (saved-at s key))
@@ -14,5 +14,5 @@ saved-twice s key = leb 2 (length (saved-at s key))
 unfoldable pub whole : State → Bool
 whole s =
     let count = buckets (s .settings) in
-    all-below (s .settings .places) (λ p. up-member s (s .ids p)) and all-below count (λ g. calm (s .bucket g))
+    all-below (s .settings .places) (λ p. up-member s (s .ids p)) and all-below count (λ g. nothing-pending (s .bucket g))
     and all-below count (λ g. every (λ e. saved-twice s (e .key)) (primary-memory (s .bucket g)))

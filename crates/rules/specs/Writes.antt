@@ -9,9 +9,9 @@ use Rattle.lists.specs.Columns.{upd}
 use Rattle.rules.specs.Limits.{max-items, ceiling-step, max-id}
 use Rattle.rules.specs.Numbers.{sequences, key-of, home-of, is-data}
 use Rattle.rules.specs.Entries.{insert}
-use Rattle.rules.specs.Chunks.{chunk, held, bytes-in, append, save-all}
+use Rattle.rules.specs.Chunks.{new-chunk, held, bytes-in, append, save-all}
 use Rattle.rules.specs.State.{State, set-bricks, set-items, with-log}
-use Rattle.rules.specs.Parts.{up-member, circle}
+use Rattle.rules.specs.Derived.{up-member, members-from}
 use Rattle.rules.specs.Question.{Question, _asks_, is-proxy, is-place, is-block, belongs, has-item}
 
 -- ---- put,proxy,place,block,data: an unsaved chunk under a new key, and an item; answers the key
@@ -43,13 +43,13 @@ unfoldable pub put-effect : State → ℕ → ℕ → ℕ → List ℕ → State
 put-effect s proxy id block bytes =
     let old = s .bricks in
     set-items (set-bricks s (record {
-      here = old .here;
+      present = old .present;
       up = old .up;
       member = old .member;
       began = old .began;
       next = upd (old .next) id (suc (old .next id));
       ceiling = upd (old .ceiling) id (raised (old .next id) (old .ceiling id));
-      log = upd (old .log) id (append (old .log id) (chunk (new-key s id) false bytes));
+      log = upd (old .log) id (append (old .log id) (new-chunk (new-key s id) false bytes));
       buffer = old .buffer;
     })) proxy (insert (s .items proxy) block (new-key s id))
 
@@ -59,7 +59,7 @@ other-than home [] = 0
 other-than home (id ∷ rest) = cond (eqb id home) (other-than home rest) id
 
 unfoldable pub target : State → ℕ → ℕ
-target s key = other-than (home-of key) (circle s (home-of key))
+target s key = other-than (home-of key) (members-from s (home-of key))
 
 abbrev pub nothing-to-copy : State → ℕ → Bool
 nothing-to-copy s key = eqb (target s key) 0 or held (s .bricks .log (target s key)) key
@@ -75,7 +75,7 @@ copy-asks s key =
 unfoldable pub copy-effect : State → ℕ → State
 copy-effect s key =
     let to = target s key in
-    let new = chunk key false (bytes-in (s .bricks .log (home-of key)) key) in
+    let new = new-chunk key false (bytes-in (s .bricks .log (home-of key)) key) in
     set-bricks s (cond (nothing-to-copy s key) (s .bricks) (with-log (s .bricks) to (append (s .bricks .log to) new)))
 
 -- ---- savelog,place: all its chunks become saved

@@ -16,7 +16,7 @@ pub const SEQUENCES: u64 = 0x100_0000_0000_0000;
 pub const CEILING_STEP: u64 = 1024;
 
 // the highest view number and order number: 32 bits
-pub const MAX_NUMBER: u64 = 0xffff_ffff;
+pub const MAX_VIEW_OR_ORDER: u64 = 0xffff_ffff;
 
 pub const MAX_ID: u64 = 255;
 

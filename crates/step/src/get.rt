@@ -13,7 +13,7 @@ pub fn get<'a>(
     ensures { λ r. ⌜ GetsPart (now (store .entry)) (now (blank .entry)) proxy block (now (number .exit)) (now (key .exit)) (now r) ⌝ }
 {
     *key = 0;
-    if !sound::is_sound(store) {
+    if !store_check::is_sound(store) {
         *number = 2;
         return &blank[0..0];
     }

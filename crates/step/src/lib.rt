@@ -137,7 +137,7 @@ pub fn step(
     ensures { λ r. ⌜ outcome-of r (now (area .exit)) (now (store .exit))
         ≡ outcome (now (store .entry)) (call-with kind a b c (now («data» .entry)) (now (blank .entry)) (now (area .entry))) ⌝ }
 {
-    if sound::is_sound(store) {
+    if store_check::is_sound(store) {
         let settings = lent::store::settings(store);
         return perform(store, settings, kind, a, b, c, data, blank, area);
     }

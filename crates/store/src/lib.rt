@@ -45,7 +45,7 @@ pub fn format_store(store: &mut [u8], places: u64, size: u64, entries: u64, chun
 pub fn check(store: &[u8]) -> u64
     ensures { λ r. ⌜ r ≡ check-answer (now (store .entry)) ⌝ }
 {
-    if sound::is_sound(store) {
+    if store_check::is_sound(store) {
         return 0;
     }
     2

@@ -16,23 +16,23 @@ use Rattle.log.specs.Log.{Stored, stored, cell-of, stored-at, key-at, saved-of,
 use Rattle.log.proofs.Positions as order
 use Rattle.log.proofs.Positions.{pick}
 use Rattle.log.proofs.Changes.{sized-more}
-use Rattle.sweep.specs.Sweep.{stays, plain, kept, kept-first, rank}
+use Rattle.sweep.specs.Sweep.{stays, plain, kept-chunks, kept-first, rank}
 
-kept-more : (xs : List Stored) (x : Stored) → kept (xs ++ x ∷ []) ≡ cond (stays (x .saved)) (kept xs ++ plain x ∷ []) (kept xs)
-unfolding kept
+kept-more : (xs : List Stored) (x : Stored) → kept-chunks (xs ++ x ∷ []) ≡ cond (stays (x .saved)) (kept-chunks xs ++ plain x ∷ []) (kept-chunks xs)
+unfolding kept-chunks
 kept-more [] x = by (stays (x .saved)) (λ e. rw e) (λ e. rw e)
 kept-more (y ∷ xs) x =
     by (stays (y .saved)) (λ e. rw (e, kept-more xs x) (by (stays (x .saved)) (λ u. rw u) (λ u. rw u)))
     (λ e. rw (e, kept-more xs x))
 
-kept-first-take : (cs : List Stored) (i : ℕ) → i ≤ length cs → kept-first cs i ≡ kept (take i cs)
-unfolding kept-first kept
+kept-first-take : (cs : List Stored) (i : ℕ) → i ≤ length cs → kept-first cs i ≡ kept-chunks (take i cs)
+unfolding kept-first kept-chunks
 kept-first-take cs zero h = refl
 kept-first-take cs (suc i) h =
     rw (take-suc cs i (stored 0 0 []) h, kept-more (take i cs) (stored-at cs i), kept-first-take cs i (le-of-lt h))
 
-pub kept-first-kept : (cs : List Stored) → kept-first cs (length cs) ≡ kept cs
-kept-first-kept cs = kept-first-take cs (length cs) (le-refl (length cs)) ∙ ap kept (take-all (length cs) cs (le-refl (length cs)))
+pub kept-first-kept : (cs : List Stored) → kept-first cs (length cs) ≡ kept-chunks cs
+kept-first-kept cs = kept-first-take cs (length cs) (le-refl (length cs)) ∙ ap kept-chunks (take-all (length cs) cs (le-refl (length cs)))
 
 module _ (cs : List Stored) (i : ℕ) where
   pub kept-first-yes : stays (saved-of cs i) ≡ true → kept-first cs (suc i) ≡ kept-first cs i ++ plain (stored-at cs i) ∷ []

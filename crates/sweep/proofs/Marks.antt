@@ -15,7 +15,7 @@ use Rattle.lists.proofs.Tests.{by, by-eq, impossible, length-only}
 use Rattle.lists.proofs.Lists.{same-cons, getD-map-in, map-only}
 use Rattle.words.specs.Words.{words}
 use Rattle.rules.specs.Chunks.{Chunk, only-saved, only-named, held}
-use Rattle.log.specs.Log.{Stored, stored, cell-of, stored-at, key-at, saved-of, write-log, read-log, row-saved, LogWith, IsLog, Fits, log-words, log-dec}
+use Rattle.log.specs.Log.{Stored, stored, cell-of, stored-at, key-at, saved-of, write-log, read-log, row-saved, LogWith, IsLog, Fits, log-size, log-dec}
 use Rattle.log.specs.Log.{log-enc, from-chunk, chunk-at}
 use Rattle.log.specs.Steps.{with-saved, put-saved, tag}
 use Rattle.log.specs.Answers.{FoundAt}
@@ -24,8 +24,8 @@ use Rattle.log.proofs.Changes.{set-saved}
 use Rattle.log.proofs.Codec.{dec-length}
 use Rattle.log.proofs.Rules.{held-at}
 use Rattle.log.proofs.Steps.{sizes, same, count-is, dec-at, found-row, chunks-back, as-chunks}
-use Rattle.sweep.specs.Sweep.{stays, plain, kept, triple-of}
-use Rattle.sweep.specs.Marks.{mark, marked, swept}
+use Rattle.sweep.specs.Sweep.{stays, plain, kept-chunks, triple-of}
+use Rattle.sweep.specs.Marks.{mark, with-marks, swept}
 use Rattle.sweep.proofs.Tags.{tag-map}
 
 -- ---- one chunk
@@ -66,8 +66,8 @@ marks-plain : (test : Stored → Bool) (xs : List Stored) → Low 1 xs → map p
 marks-plain test [] l = refl
 marks-plain test (x ∷ xs) l = same-cons (mark-plain test x (l 0 (omega arith))) (marks-plain test xs (λ i h. l (suc i) (suc-le-suc h)))
 
-marks-kept : (test : Stored → Bool) (xs : List Stored) → Low 1 xs → kept (map (mark test) xs) ≡ only test xs
-unfolding kept only
+marks-kept : (test : Stored → Bool) (xs : List Stored) → Low 1 xs → kept-chunks (map (mark test) xs) ≡ only test xs
+unfolding kept-chunks only
 marks-kept test [] l = refl
 marks-kept test (x ∷ xs) l =
     rw (mark-stays test x (l 0 (omega arith)), mark-plain test x (l 0 (omega arith)), marks-kept test xs (λ i h. l (suc i) (suc-le-suc h)))
@@ -85,11 +85,11 @@ pub fits-marks : {L w : ℕ} (test : Stored → Bool) {xs : List Stored} → Fit
 fits-marks test f = record { few = rw length-map (f .few); sized = sized-marks test (f .sized) }
 
 -- ---- a log's words
-marked-is : (L w : ℕ) (test : Stored → Bool) (v : List ℕ) → marked L w test v ≡ write-log L (map (mark test) (read-log L w v)) v
-unfolding marked
+marked-is : (L w : ℕ) (test : Stored → Bool) (v : List ℕ) → with-marks L w test v ≡ write-log L (map (mark test) (read-log L w v)) v
+unfolding with-marks
 marked-is L w test v = refl
 
-module _ {top : ℕ} (L w : ℕ) (ws : List ℕ) (len : ℕ) (hl : length ws ≡ log-words L w) (o : LogWith top L w ws len) where
+module _ {top : ℕ} (L w : ℕ) (ws : List ℕ) (len : ℕ) (hl : length ws ≡ log-size L w) (o : LogWith top L w ws len) where
   read-fits : Fits L w (read-log L w ws)
   read-fits = fits-read L w ws hl (o .few)
 
@@ -98,24 +98,24 @@ module _ {top : ℕ} (L w : ℕ) (ws : List ℕ) (len : ℕ) (hl : length ws ≡
       let q : i < getD ws 0 0 = rw (length-read L w ws hl (o .few)) at h in
       rw (read-saved L w ws hl (o .few) i q) (o .flags i q)
 
-  pub read-marked : (test : Stored → Bool) → read-log L w (marked L w test ws) ≡ map (mark test) (read-log L w ws)
-  unfolding marked
+  pub read-marked : (test : Stored → Bool) → read-log L w (with-marks L w test ws) ≡ map (mark test) (read-log L w ws)
+  unfolding with-marks
   read-marked test = read-write L w (map (mark test) (read-log L w ws)) ws hl (fits-marks test read-fits)
 
   -- marks of one test over marks of another
   pub marked-twice : (a b : Stored → Bool) → ((x : Stored) (s : ℕ) → a (with-saved s x) ≡ a x)
-      → marked L w a (marked L w b ws) ≡ marked L w (λ y. a y or b y) ws
+      → with-marks L w a (with-marks L w b ws) ≡ with-marks L w (λ y. a y or b y) ws
   marked-twice a b blind =
       let xs = read-log L w ws in
       let m = map (mark b) xs in
-      marked-is L w a (marked L w b ws)
+      marked-is L w a (with-marks L w b ws)
       ∙ rw (read-marked b) (ap (write-log L (map (mark a) m)) (marked-is L w b ws)
       ∙ write-write L w (map (mark a) m) m ws hl (fits-marks a (fits-marks b read-fits)) (fits-marks b read-fits)
       (rw (length-map m (mark a)) (le-refl (length m)))
       ∙ ap (λ (l : List Stored). write-log L l ws) (marks-twice a b blind xs) ∙ sym (marked-is L w (λ y. a y or b y) ws))
 
   -- tests that agree leave the same marks
-  pub marked-same : (a b : Stored → Bool) → ((x : Stored) → a x ≡ b x) → marked L w a ws ≡ marked L w b ws
+  pub marked-same : (a b : Stored → Bool) → ((x : Stored) → a x ≡ b x) → with-marks L w a ws ≡ with-marks L w b ws
   marked-same a b e =
       marked-is L w a ws ∙ ap (λ (l : List Stored). write-log L l ws) (each (read-log L w ws)) ∙ sym (marked-is L w b ws)
     where
@@ -124,7 +124,7 @@ module _ {top : ℕ} (L w : ℕ) (ws : List ℕ) (len : ℕ) (hl : length ws ≡
       each (x ∷ xs) = rw (e x, each xs)
 
   -- where the test picks no chunk, nothing changes
-  pub unmarked : (test : Stored → Bool) → ((i : ℕ) → i < length (read-log L w ws) → test (stored-at (read-log L w ws) i) ≡ false) → marked L w test ws ≡ ws
+  pub unmarked : (test : Stored → Bool) → ((i : ℕ) → i < length (read-log L w ws) → test (stored-at (read-log L w ws) i) ≡ false) → with-marks L w test ws ≡ ws
   unmarked test f =
       marked-is L w test ws ∙ ap (λ (l : List Stored). write-log L l ws) (each (read-log L w ws) f) ∙ write-read L w ws hl (o .few) (o .order)
     where
@@ -132,7 +132,7 @@ module _ {top : ℕ} (L w : ℕ) (ws : List ℕ) (len : ℕ) (hl : length ws ≡
       each [] f = refl
       each (x ∷ xs) f = rw (f 0 (omega arith), each xs (λ i h. f (suc i) (suc-le-suc h)))
 
-  pub log-marked : top ≤ 3 → (test : Stored → Bool) → LogWith 3 L w (marked L w test ws) len
+  pub log-marked : top ≤ 3 → (test : Stored → Bool) → LogWith 3 L w (with-marks L w test ws) len
   log-marked t test =
       let xs = read-log L w ws in
       let n : length (map (mark test) xs) ≡ length xs = length-map xs (mark test) in
@@ -149,8 +149,8 @@ module _ {top : ℕ} (L w : ℕ) (ws : List ℕ) (len : ℕ) (hl : length ws ≡
       key i h = ap (λ (x : Stored). x .key) (at i h) ∙ mark-key test (stored-at (read-log L w ws) i)
 
 -- ---- what a sweep leaves of a log with marks
-module _ (L w : ℕ) (ws : List ℕ) (len : ℕ) (hl : length ws ≡ log-words L w) (o : IsLog L w ws len) where
-  pub swept-marked : (test : Stored → Bool) → swept L w (marked L w test ws) ≡ write-log L (only test (read-log L w ws)) ws
+module _ (L w : ℕ) (ws : List ℕ) (len : ℕ) (hl : length ws ≡ log-size L w) (o : IsLog L w ws len) where
+  pub swept-marked : (test : Stored → Bool) → swept L w (with-marks L w test ws) ≡ write-log L (only test (read-log L w ws)) ws
   unfolding swept
   swept-marked test =
       let xs = read-log L w ws in
@@ -186,7 +186,7 @@ module _ (L w : ℕ) (s : List ℕ) (o : LogWith 3 L w (words s) (length s)) (k 
   key-is i h = ap (λ (c : Chunk). c .key) (dec-at L w s o i h)
 
   pub mark-leaves : (p v q : ℕ) → FoundAt (log-dec L w (words s)) k p → v ≡ row-saved (words s) p → q ≡ 2 + 2 * p
-      → set (words s) q (v % 2 + 2) ≡ marked L w (has-key k) (words s)
+      → set (words s) q (v % 2 + 2) ≡ with-marks L w (has-key k) (words s)
   mark-leaves p v q f ev eq =
       let hl = sizes L w s o in
       let xs = read-log L w (words s) in
@@ -196,7 +196,7 @@ module _ (L w : ℕ) (s : List ℕ) (o : LogWith 3 L w (words s) (length s)) (k 
       rw (e, marked-is L w (has-key k) (words s), ← put-mark k xs p h (sym (key-is p h) ∙ f .same) (distinct-read L w (words s) hl (o .few) (o .order)))
       (rw (same L w s o) at (set-saved L w xs (words s) hl (fits-read L w (words s) hl (o .few)) p (saved-of xs p % 2 + 2) q h eq))
 
-  pub mark-none : held (log-dec L w (words s)) k ≡ false → words s ≡ marked L w (has-key k) (words s)
+  pub mark-none : held (log-dec L w (words s)) k ≡ false → words s ≡ with-marks L w (has-key k) (words s)
   mark-none n =
       sym (marked-is L w (has-key k) (words s) ∙ ap (λ (l : List Stored). write-log L l (words s))
       (none-marked k (read-log L w (words s)) (λ i h e. impossible (sym n ∙ held-at (log-dec L w (words s)) k i
@@ -212,7 +212,7 @@ triples (x ∷ xs) l =
     (by-eq (x .saved) 1 (λ q e. rw (q, e)) (λ q e. let z : x .saved ≡ 0 = omega arith in rw (q, z)))
 
 pub triple-leaves : (L w : ℕ) (s : List ℕ) (o : IsLog L w (words s) (length s)) (n : ℕ) → n ≡ getD (words s) 0 0
-    → write-log L (tag (triple-of (read-log L w (words s))) n (read-log L w (words s))) (words s) ≡ marked L w (λ x. eqb (x .saved) 1) (words s)
+    → write-log L (tag (triple-of (read-log L w (words s))) n (read-log L w (words s))) (words s) ≡ with-marks L w (λ x. eqb (x .saved) 1) (words s)
 triple-leaves L w s o n e =
     let xs = read-log L w (words s) in
     rw (e, ← count-is L w s o, tag-map (λ x. 3 * x .saved) xs, triples xs (read-low L w (words s) (length s) (sizes L w s o) o))
@@ -221,7 +221,7 @@ triple-leaves L w s o n e =
 -- ---- as the rules' chunks
 module _ (L w : ℕ) (s : List ℕ) (o : IsLog L w (words s) (length s)) (b : Below 256 s) where
   only-leaves : (p : Chunk → Bool) (test : Stored → Bool) → ((c : Chunk) → test (from-chunk w c) ≡ p c)
-      → swept L w (marked L w test (words s)) ≡ log-enc L w (only p (log-dec L w (words s))) (words s)
+      → swept L w (with-marks L w test (words s)) ≡ log-enc L w (only p (log-dec L w (words s))) (words s)
   only-leaves p test e =
       let cs = log-dec L w (words s) in
       swept-marked L w (words s) (length s) (sizes L w s o) o test
@@ -229,12 +229,12 @@ module _ (L w : ℕ) (s : List ℕ) (o : IsLog L w (words s) (length s)) (b : Be
       (let z = length-only p cs in let f = o .few in let l = dec-length L w (words s) (sizes L w s o) in omega arith)
       (map-only (from-chunk w) p test e cs ∙ ap (only test) (chunks-back L w s o b))
 
-  pub keep-saved-leaves : swept L w (marked L w (λ x. eqb (x .saved) 1) (words s)) ≡ log-enc L w (only-saved (log-dec L w (words s))) (words s)
+  pub keep-saved-leaves : swept L w (with-marks L w (λ x. eqb (x .saved) 1) (words s)) ≡ log-enc L w (only-saved (log-dec L w (words s))) (words s)
   unfolding only-saved
   keep-saved-leaves = only-leaves (λ c. c .saved) (λ x. eqb (x .saved) 1) (λ c. by (c .saved) (λ q. rw q) (λ q. rw q))
 
   -- marks on the chunks that a test of the key names, and a sweep
   pub keep-named-leaves : (named : ℕ → Bool)
-      → swept L w (marked L w (λ x. named (x .key)) (words s)) ≡ log-enc L w (only-named named (log-dec L w (words s))) (words s)
+      → swept L w (with-marks L w (λ x. named (x .key)) (words s)) ≡ log-enc L w (only-named named (log-dec L w (words s))) (words s)
   unfolding only-named
   keep-named-leaves named = only-leaves (λ c. named (c .key)) (λ x. named (x .key)) (λ c. refl)

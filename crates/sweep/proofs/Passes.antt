@@ -143,7 +143,7 @@ module _ (L w : ℕ) (ws : List ℕ) (hl : length ws ≡ 1 + 3 * L + L * w) (cs 
         tag-turn (plain-of cs) i cs h,
       )
 
-  -- the row and the cell go to their place
+  -- the row and the cell go to their index
   carried : (n : ℕ) (T : List ℕ) → length T ≡ 2 * L
       → moved L w i (length (kept-first cs i)) (set (set (lay n (over (enc-all row-of (kept-first cs i)) T) (positions-in L ws)
       (over (enc-all cell-of (kept-first cs i)) (cells-in L ws)))

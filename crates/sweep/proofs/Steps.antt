@@ -13,7 +13,7 @@ use Rattle.log.proofs.Positions as order
 use Rattle.log.proofs.Chunks.{length-read, read-saved, read-cell, sized-read, fits-read, write-saved}
 use Rattle.log.proofs.Changes.{tag-length, tag-fits}
 use Rattle.log.proofs.Steps.{sizes, count-is, tagged, tag-start}
-use Rattle.sweep.specs.Sweep.{RenumberStep, PackStep, stays, plain, kept, kept-first, rank, tag-of, next-by, pick-first, put-positions, numbered}
+use Rattle.sweep.specs.Sweep.{RenumberStep, PackStep, stays, plain, kept-chunks, kept-first, rank, tag-of, next-by, pick-first, put-positions, numbered}
 use Rattle.sweep.specs.Sweep.{packing, moved, packed, triple-of}
 use Rattle.sweep.proofs.Tags.{tag-past}
 use Rattle.sweep.proofs.Kept.{kept-first-few}
@@ -199,7 +199,7 @@ module _ (L w : ℕ) (s : List ℕ) (o : LogWith 3 L w (words s) (length s)) (n 
       second = rw (← first, count) e2
 
       pub swept-words : (v3 : List ℕ) (m : ℕ) → v3 ≡ packing L (read-log L w v2) n v2 → m ≡ length (kept-first (read-log L w v2) n)
-          → set v3 0 m ≡ write-log L (kept (read-log L w (words s))) (write-log L (map plain (read-log L w (words s))) (words s))
+          → set v3 0 m ≡ write-log L (kept-chunks (read-log L w (words s))) (write-log L (map plain (read-log L w (words s))) (words s))
       swept-words v3 m e3 em =
           let ed : read-log L w v2 ≡ tag (tag-of cs) (length cs) cs =
           rw second (read-renumbered L w (words s) hl (o .few) (o .order) cs refl (saved-low L w s o)) in

@@ -20,7 +20,7 @@ use Rattle.log.proofs.Regions.{over-over, regions}
 use Rattle.log.proofs.Chunks.{length-row-words, length-positions-of, fits-read, rows-over, cells-over, distinct-read, position-over, write-count}
 use Rattle.log.proofs.Chunks.{write-rows, write-position, write-cells, length-write, read-write, write-saved, write-pos, positions-of-below, write-as}
 use Rattle.log.proofs.Changes.{tag-length, tag-fits}
-use Rattle.sweep.specs.Sweep.{stays, plain, kept, kept-first, rank, tag-of, plain-of, pick-first, put-positions, packing}
+use Rattle.sweep.specs.Sweep.{stays, plain, kept-chunks, kept-first, rank, tag-of, plain-of, pick-first, put-positions, packing}
 use Rattle.sweep.proofs.Tags.{tag-at, tag-cells, tag-position, tag-same, tag-map, tag-tag}
 use Rattle.sweep.proofs.Kept.{kept-first-kept, kept-first-yes, kept-first-no, kept-first-none, position-kept}
 use Rattle.sweep.proofs.Passes.{pick-first-yes, pick-first-no, pick-first-few, put-rows, put-in, put-cells, read-put}
@@ -66,7 +66,7 @@ module _ (cs : List Stored) (low : (i : ℕ) → i < length cs → saved-of cs i
       (λ e. kept-first-yes tags i (es ∙ e) ∙ rw (ep, kept-first-tags i (le-of-lt h)) (sym (kept-first-yes cs i e)))
       (λ e. kept-first-no tags i (es ∙ e) ∙ kept-first-tags i (le-of-lt h) ∙ sym (kept-first-no cs i e))
 
-  pub kept-tags : kept-first tags (length cs) ≡ kept cs
+  pub kept-tags : kept-first tags (length cs) ≡ kept-chunks cs
   kept-tags = kept-first-tags (length cs) (le-refl (length cs)) ∙ kept-first-kept cs
 
   pub plain-tags : tag (plain-of tags) (length cs) tags ≡ map plain cs
@@ -126,7 +126,7 @@ module _ (L w : ℕ) (ws : List ℕ) (hl : length ws ≡ 1 + 3 * L + L * w) (few
       quarter : (s r : ℕ) → s ≤ 3 → (s + 4 * r) / 4 ≡ r
       quarter s r l = omega arith
 
-  position-new : pick-first L ranked (length cs) ≡ positions-of (kept cs)
+  position-new : pick-first L ranked (length cs) ≡ positions-of (kept-chunks cs)
   position-new =
       picks (length cs) (le-refl (length cs))
       ∙ ap (pick (λ q. stays (saved-of cs q)) (rank (saved-of cs))) (take-all (length cs) (positions-of cs) (rw length-positions-of (le-refl (length cs))))
@@ -168,7 +168,7 @@ module _ (L w : ℕ) (ws : List ℕ) (hl : length ws ≡ 1 + 3 * L + L * w) (few
       (rw (length-row-words (tag (tag-of cs) (length cs) cs), length-row-words (map plain cs), n-tags, lp) (le-refl (2 * length cs)))
       ∙ sym (write-rows L w (map plain cs) ws hl fp)
 
-  position-swept : positions-in L renumbered ≡ over (positions-of (kept cs)) (positions-in L (write-log L (map plain cs) ws))
+  position-swept : positions-in L renumbered ≡ over (positions-of (kept-chunks cs)) (positions-in L (write-log L (map plain cs) ws))
   position-swept =
       put-in L w (pick-first L ranked (length cs)) ranked length-ranked few-new
       ∙ rw (position-new, ← tag-map (λ x. x .saved % 2) cs, tag-positions (tag-of cs), tag-positions (plain-of cs))
@@ -180,10 +180,10 @@ module _ (L w : ℕ) (ws : List ℕ) (hl : length ws ≡ 1 + 3 * L + L * w) (few
 
   -- what the passes leave
   pub swept : set (packing L (tag (tag-of cs) (length cs) cs) (length cs) renumbered) 0 (length (kept-first (tag (tag-of cs) (length cs) cs) (length cs)))
-      ≡ write-log L (kept cs) (write-log L (map plain cs) ws)
+      ≡ write-log L (kept-chunks cs) (write-log L (map plain cs) ws)
   swept =
       set-packing L (tag (tag-of cs) (length cs) cs) (length cs) renumbered (length (kept-first (tag (tag-of cs) (length cs) cs) (length cs)))
-      ∙ rw (kept-tags cs low, plain-tags cs low, rows-swept, position-swept, cells-swept) (sym (write-as L (kept cs) (write-log L (map plain cs) ws)))
+      ∙ rw (kept-tags cs low, plain-tags cs low, rows-swept, position-swept, cells-swept) (sym (write-as L (kept-chunks cs) (write-log L (map plain cs) ws)))
 
 -- ---- where the passes start
 over-none : (X : List ℕ) → over [] X ≡ X

@@ -4,7 +4,7 @@ use mathlib.Core.List.{List, map}
 use Prim.Native.Nat.{ℕ, _+_, _%_}
 use Rattle.log.specs.Log.{Stored, write-log, read-log}
 use Rattle.log.specs.Steps.{with-saved}
-use Rattle.sweep.specs.Sweep.{plain, kept}
+use Rattle.sweep.specs.Sweep.{plain, kept-chunks}
 
 -- a chunk that stays
 abbrev pub with-mark : Stored → Stored
@@ -14,9 +14,9 @@ with-mark x = with-saved (x .saved % 2 + 2) x
 abbrev pub mark : (Stored → Bool) → Stored → Stored
 mark test x = cond (test x) (with-mark x) x
 
-unfoldable pub marked : ℕ → ℕ → (Stored → Bool) → List ℕ → List ℕ
-marked chunks width test ws = write-log chunks (map (mark test) (read-log chunks width ws)) ws
+unfoldable pub with-marks : ℕ → ℕ → (Stored → Bool) → List ℕ → List ℕ
+with-marks chunks width test ws = write-log chunks (map (mark test) (read-log chunks width ws)) ws
 
 -- the chunks without a mark gone, and all marks off
 unfoldable pub swept : ℕ → ℕ → List ℕ → List ℕ
-swept chunks width ws = let xs = read-log chunks width ws in write-log chunks (kept xs) (write-log chunks (map plain xs) ws)
+swept chunks width ws = let xs = read-log chunks width ws in write-log chunks (kept-chunks xs) (write-log chunks (map plain xs) ws)

@@ -21,9 +21,9 @@ abbrev pub plain : Stored → Stored
 plain x = with-saved (x .saved % 2) x
 
 -- the chunks that stay, without their marks
-unfoldable pub kept : List Stored → List Stored
-kept [] = []
-kept (x ∷ xs) = cond (stays (x .saved)) (plain x ∷ kept xs) (kept xs)
+unfoldable pub kept-chunks : List Stored → List Stored
+kept-chunks [] = []
+kept-chunks (x ∷ xs) = cond (stays (x .saved)) (plain x ∷ kept-chunks xs) (kept-chunks xs)
 
 -- ---- the passes, step by step
 -- those of the first i that stay
@@ -43,7 +43,7 @@ tag-of xs i = saved-of xs i + 4 * rank (saved-of xs) i
 abbrev pub plain-of : List Stored → ℕ → ℕ
 plain-of xs i = saved-of xs i % 2
 
--- the place after a row with saved word v
+-- the index after a row with saved word v
 abbrev pub next-by : ℕ → ℕ → ℕ
 next-by v o = cond (stays v) (o + 1) o
 
@@ -57,7 +57,7 @@ pick-first chunks ws (suc j) =
 unfoldable pub put-positions : ℕ → List ℕ → List ℕ → List ℕ
 put-positions chunks xs ws = lay (getD ws 0 0) (rows-in chunks ws) (over xs (positions-in chunks ws)) (cells-in chunks ws)
 
--- the position at place j, where its row stays, at place o
+-- the position at index j, where its row stays, at index o
 unfoldable pub numbered : ℕ → ℕ → ℕ → List ℕ → List ℕ
 numbered chunks j o ws = cond (stays (row-saved ws (position-at chunks ws j))) (set ws (1 + 2 * chunks + o) (row-saved ws (position-at chunks ws j) / 4)) ws
 
@@ -67,11 +67,11 @@ packing chunks xs i ws =
     lay (getD ws 0 0) (over (enc-all row-of (kept-first xs i)) (over (enc-all row-of (tag (plain-of xs) i xs)) (rows-in chunks ws))) (positions-in chunks ws)
     (over (enc-all cell-of (kept-first xs i)) (cells-in chunks ws))
 
--- cell i at place o
+-- cell i at index o
 unfoldable pub moved : ℕ → ℕ → ℕ → ℕ → List ℕ → List ℕ
 moved chunks width i o ws = paste ws (1 + 3 * chunks + o * width) (drop (1 + 3 * chunks + i * width) ws) width
 
--- row i without its mark, and where it stays at place o with its cell
+-- row i without its mark, and where it stays at index o with its cell
 unfoldable pub packed : ℕ → ℕ → ℕ → ℕ → List ℕ → List ℕ
 packed chunks width i o ws =
     cond (stays (row-saved ws i))

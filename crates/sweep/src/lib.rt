@@ -8,9 +8,9 @@ ghost use lib.Seq.{paste};
 ghost use Rattle.words.specs.Words.{words};
 ghost use Rattle.rules.specs.Chunks.{only-saved};
 ghost use Rattle.codec.specs.Codec.{change};
-ghost use Rattle.log.specs.Log.{chunks-codec, log-words, position-at, LogWith, IsLog};
+ghost use Rattle.log.specs.Log.{chunks-codec, log-size, position-at, LogWith, IsLog};
 ghost use Rattle.sweep.specs.Sweep.{ranked, pick-first, put-positions, moved, RenumberStep, PackStep, PackAll};
-ghost use Rattle.sweep.specs.Marks.{marked, swept};
+ghost use Rattle.sweep.specs.Marks.{with-marks, swept};
 use rules::numbers::ChunkKey;
 
 // Each saved word gets four times its row's rank among the rows that stay.
@@ -29,7 +29,7 @@ fn rank(log: &mut [u8], chunks: usize, width: usize, n: usize)
     }
 }
 
-// The position at place j, where its row stays, goes to place o as the row's rank.
+// The position at index j, where its row stays, goes to index o as the row's rank.
 fn renumber_at(log: &mut [u8], chunks: usize, j: usize, o: usize) -> usize
     requires { ⌜ (o ≤ j) × (j < chunks) × (position-at chunks (words (now log)) j < chunks) × (8 * (1 + 3 * chunks) ≤ length (now log)) ⌝ }
     ensures { λ r. ⌜ RenumberStep chunks j o (words (now (log .entry))) (words (now (log .exit))) r ⌝ }
@@ -44,7 +44,7 @@ fn renumber_at(log: &mut [u8], chunks: usize, j: usize, o: usize) -> usize
 }
 
 fn renumber(log: &mut [u8], chunks: usize, width: usize, n: usize)
-    requires { ⌜ (n ≤ chunks) × (length (now log) ≡ 8 * log-words chunks width) ⌝ }
+    requires { ⌜ (n ≤ chunks) × (length (now log) ≡ 8 * log-size chunks width) ⌝ }
     requires { ⌜ ((j : ℕ) → j < n → position-at chunks (words (now log)) j < n) ⌝ }
     ensures { λ _. ⌜ words (now (log .exit)) ≡ put-positions chunks (pick-first chunks (words (now (log .entry))) n) (words (now (log .entry))) ⌝ }
 {
@@ -67,9 +67,9 @@ fn carry(log: &mut [u8], from: usize, to: usize, n: usize)
     }
 }
 
-// Cell i goes to place o.
+// Cell i goes to index o.
 fn carry_cell(log: &mut [u8], chunks: usize, width: usize, i: usize, o: usize)
-    requires { ⌜ (o ≤ i) × (i < chunks) × (length (now log) ≡ 8 * log-words chunks width) ⌝ }
+    requires { ⌜ (o ≤ i) × (i < chunks) × (length (now log) ≡ 8 * log-size chunks width) ⌝ }
     ensures { λ _. ⌜ words (now (log .exit)) ≡ moved chunks width i o (words (now (log .entry))) ⌝ }
 {
     let from = words::offset(i, width, chunks);
@@ -77,9 +77,9 @@ fn carry_cell(log: &mut [u8], chunks: usize, width: usize, i: usize, o: usize)
     carry(log, 1 + 3 * chunks + from, 1 + 3 * chunks + to, width);
 }
 
-// Row i loses its mark and rank, and where it stays goes to place o with its cell.
+// Row i loses its mark and rank, and where it stays goes to index o with its cell.
 fn pack_at(log: &mut [u8], chunks: usize, width: usize, i: usize, o: usize) -> usize
-    requires { ⌜ (o ≤ i) × (i < chunks) × (length (now log) ≡ 8 * log-words chunks width) ⌝ }
+    requires { ⌜ (o ≤ i) × (i < chunks) × (length (now log) ≡ 8 * log-size chunks width) ⌝ }
     ensures { λ r. ⌜ PackStep chunks width i o (words (now (log .entry))) (words (now (log .exit))) r ⌝ }
 {
     let key = words::read(log, 1 + 2 * i);
@@ -95,7 +95,7 @@ fn pack_at(log: &mut [u8], chunks: usize, width: usize, i: usize, o: usize) -> u
 }
 
 fn pack(log: &mut [u8], chunks: usize, width: usize, n: usize) -> usize
-    requires { ⌜ (n ≤ chunks) × (length (now log) ≡ 8 * log-words chunks width) × (n ≡ getD (words (now log)) 0 0) ⌝ }
+    requires { ⌜ (n ≤ chunks) × (length (now log) ≡ 8 * log-size chunks width) × (n ≡ getD (words (now log)) 0 0) ⌝ }
     ensures { λ r. ⌜ PackAll chunks width n (words (now (log .entry))) (words (now (log .exit))) r ⌝ }
 {
     let mut o = 0;
@@ -122,7 +122,7 @@ pub fn keep_marked(log: &mut [u8], chunks: usize, width: usize)
 // The chunk with the key, where there is one, gets a mark, and so stays at the next sweep.
 pub fn mark_key(log: &mut [u8], chunks: usize, width: usize, k: ChunkKey)
     requires { ⌜ LogWith 3 chunks width (words (now log)) (length (now log)) ⌝ }
-    ensures { λ _. ⌜ words (now (log .exit)) ≡ marked chunks width (λ x. eqb (k .0) (x .key)) (words (now (log .entry))) ⌝ }
+    ensures { λ _. ⌜ words (now (log .exit)) ≡ with-marks chunks width (λ x. eqb (k .0) (x .key)) (words (now (log .entry))) ⌝ }
 {
     match log::find(log, chunks, width, k) {
         log::Found::At(p) => {
@@ -136,7 +136,7 @@ pub fn mark_key(log: &mut [u8], chunks: usize, width: usize, k: ChunkKey)
 // The saved chunks get marks.
 fn mark_saved(log: &mut [u8], chunks: usize, width: usize)
     requires { ⌜ IsLog chunks width (words (now log)) (length (now log)) ⌝ }
-    ensures { λ _. ⌜ words (now (log .exit)) ≡ marked chunks width (λ x. eqb (x .saved) 1) (words (now (log .entry))) ⌝ }
+    ensures { λ _. ⌜ words (now (log .exit)) ≡ with-marks chunks width (λ x. eqb (x .saved) 1) (words (now (log .entry))) ⌝ }
 {
     let n = words::read(log, 0) as usize;
     let mut i = 0;

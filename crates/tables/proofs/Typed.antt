@@ -8,8 +8,8 @@ use lib.ListN.{length, getD, drop, set, drop-of-length-le}
 use lib.Seq.{take-all}
 use Rattle.lists.specs.Tests.{only}
 use Rattle.lists.proofs.Lists.{getD-map-in, map-only}
-use Rattle.lists.specs.Rows.{table-words, table-dec, table-enc, row}
-use Rattle.tables.specs.Tables.{insert-at, remove-at}
+use Rattle.lists.specs.Rows.{table-words, table-dec, table-enc, row-words}
+use Rattle.tables.specs.Tables.{insert-at, without-index}
 use Rattle.codec.specs.Codec.{Row}
 use Rattle.codec.proofs.Laws.{Exact, all-sized}
 use Rattle.lists.proofs.Rows.{length-rows, enc-raw, dec-raw, table-back, table-over}
@@ -19,7 +19,7 @@ map-insert f zero x l = refl
 map-insert f (suc p) x [] = refl
 map-insert {A} {B} f (suc p) x (y ∷ l) = ap (λ (r : List B). f y ∷ r) (map-insert f p x l)
 
-map-remove : {A B : Type 0} (f : A → B) (p : ℕ) (l : List A) → map f (remove-at p l) ≡ remove-at p (map f l)
+map-remove : {A B : Type 0} (f : A → B) (p : ℕ) (l : List A) → map f (without-index p l) ≡ without-index p (map f l)
 map-remove f zero [] = refl
 map-remove f zero (y ∷ l) = refl
 map-remove f (suc p) [] = refl
@@ -32,13 +32,13 @@ map-set {A} {B} f (suc p) x (y ∷ l) = ap (λ (r : List B). f y ∷ r) (map-set
 
 -- rows that are values, written
 pub typed : {A : Type 0} (r : Row A) (l : List A) (rs : List (List ℕ)) → rs ≡ map (r .write) l → (ws : List ℕ)
-    → table-enc (r .size) row rs ws ≡ table-enc (r .size) (r .write) l ws
+    → table-enc (r .size) row-words rs ws ≡ table-enc (r .size) (r .write) l ws
 typed r l rs e ws = rw e (enc-raw (r .size) (r .write) l ws)
 
 module _ {A : Type 0} {r : Row A} (x : Exact r) (most : ℕ) (ws : List ℕ) (hl : length ws ≡ table-words (r .size) most) where
   -- the rows, as lists of words and as values
   abbrev raw : List (List ℕ)
-  raw = table-dec (r .size) row ws
+  raw = table-dec (r .size) row-words ws
 
   abbrev values : List A
   values = table-dec (r .size) (r .read) ws
@@ -59,27 +59,27 @@ module _ {A : Type 0} {r : Row A} (x : Exact r) (most : ℕ) (ws : List ℕ) (hl
     unfolding table-dec
     typed-length = length-rows (r .size) (r .read) (getD ws 0 0) (drop 1 ws)
 
-    pub typed-insert : (p : ℕ) (a : A) → table-enc (r .size) row (insert-at p (r .write a) raw) ws ≡ table-enc (r .size) (r .write) (insert-at p a values) ws
+    pub typed-insert : (p : ℕ) (a : A) → table-enc (r .size) row-words (insert-at p (r .write a) raw) ws ≡ table-enc (r .size) (r .write) (insert-at p a values) ws
     typed-insert p a = typed r (insert-at p a values) (insert-at p (r .write a) raw) (rw typed-rows (sym (map-insert (r .write) p a values))) ws
 
     -- at the end
     pub typed-append : (n : ℕ) (a : A) → n ≡ getD ws 0 0
-        → table-enc (r .size) row (insert-at n (r .write a) raw) ws ≡ table-enc (r .size) (r .write) (values ++ a ∷ []) ws
+        → table-enc (r .size) row-words (insert-at n (r .write a) raw) ws ≡ table-enc (r .size) (r .write) (values ++ a ∷ []) ws
     typed-append n a e =
         let l : length values ≤ n = rw (typed-length, e) (le-refl (getD ws 0 0)) in
         typed-insert n a
         ∙ ap (λ (k : List A). table-enc (r .size) (r .write) k ws) (rw (take-all n values l, drop-of-length-le values l))
 
-    pub typed-remove : (p : ℕ) → table-enc (r .size) row (remove-at p raw) ws ≡ table-enc (r .size) (r .write) (remove-at p values) ws
-    typed-remove p = typed r (remove-at p values) (remove-at p raw) (rw typed-rows (sym (map-remove (r .write) p values))) ws
+    pub typed-remove : (p : ℕ) → table-enc (r .size) row-words (without-index p raw) ws ≡ table-enc (r .size) (r .write) (without-index p values) ws
+    typed-remove p = typed r (without-index p values) (without-index p raw) (rw typed-rows (sym (map-remove (r .write) p values))) ws
 
     pub typed-only : (test : List ℕ → Bool) (p : A → Bool) → ((a : A) → test (r .write a) ≡ p a)
-        → table-enc (r .size) row (only test raw) ws ≡ table-enc (r .size) (r .write) (only p values) ws
+        → table-enc (r .size) row-words (only test raw) ws ≡ table-enc (r .size) (r .write) (only p values) ws
     typed-only test p e = typed r (only p values) (only test raw) (rw typed-rows (sym (map-only (r .write) p test e values))) ws
 
-    -- the value at a place, and another in its stead
+    -- the value at a index, and another in its stead
     pub typed-at : (p : ℕ) (d : A) → p < getD ws 0 0 → getD raw p [] ≡ r .write (getD values p d)
     typed-at p d h = rw typed-rows (getD-map-in (r .write) values p [] d (rw typed-length h))
 
-    pub typed-set : (p : ℕ) (a : A) → table-enc (r .size) row (set raw p (r .write a)) ws ≡ table-enc (r .size) (r .write) (set values p a) ws
+    pub typed-set : (p : ℕ) (a : A) → table-enc (r .size) row-words (set raw p (r .write a)) ws ≡ table-enc (r .size) (r .write) (set values p a) ws
     typed-set p a = typed r (set values p a) (set raw p (r .write a)) (rw typed-rows (sym (map-set (r .write) p a values))) ws

@@ -6,9 +6,9 @@ ghost use Prim.Native.Nat.{_+_, _*_, _≤_, _<_};
 ghost use lib.ListN.{length, getD};
 ghost use Rattle.lists.specs.Tests.{all-below};
 ghost use Rattle.words.specs.Words.{words};
-ghost use Rattle.lists.specs.Rows.{table-dec, row};
-ghost use Rattle.tables.specs.Tables.{change-table, cell-at, set-cell, insert-at, remove-at, copied, same-at, same-rows};
-ghost use Rattle.tables.specs.Tables.{TwoTables, IsTable, Sorted, RowsBelow, RowsFrom, RowPlace};
+ghost use Rattle.lists.specs.Rows.{table-dec, row-words};
+ghost use Rattle.tables.specs.Tables.{change-table, cell-at, set-cell, insert-at, without-index, copied, same-at, same-rows};
+ghost use Rattle.tables.specs.Tables.{TwoTables, IsTable, Sorted, RowsBelow, RowsFrom, LowerBound};
 ghost use Rattle.tables.specs.Spots.{SpotOf};
 
 // ---- look-up
@@ -17,15 +17,15 @@ ghost use Rattle.tables.specs.Spots.{SpotOf};
 pub fn cell(t: &[u8], width: usize, most: usize, i: usize, j: usize) -> u64
     requires { ⌜ IsTable width most (words (now t)) (length (now t)) ⌝ }
     requires { ⌜ (i < getD (words (now t)) 0 0) × (j < width) ⌝ }
-    ensures { λ r. ⌜ r ≡ cell-at i j (table-dec width row (words (now (t .entry)))) ⌝ }
+    ensures { λ r. ⌜ r ≡ cell-at i j (table-dec width row-words (words (now (t .entry)))) ⌝ }
 {
     words::read(t, 1 + words::offset(i, width, most) + j)
 }
 
-// The first place whose row does not begin below x.
-fn place(t: &[u8], width: usize, most: usize, x: u64) -> usize
+// The first index whose row does not begin below x.
+fn lower_bound(t: &[u8], width: usize, most: usize, x: u64) -> usize
     requires { ⌜ Sorted width most (words (now t)) (length (now t)) ⌝ }
-    ensures { λ r. ⌜ RowPlace width (words (now (t .entry))) x r ⌝ }
+    ensures { λ r. ⌜ LowerBound width (words (now (t .entry))) x r ⌝ }
 {
     let mut lo = 0;
     let mut hi = words::read(t, 0) as usize;
@@ -41,7 +41,7 @@ fn place(t: &[u8], width: usize, most: usize, x: u64) -> usize
     lo
 }
 
-// Does the row before place p begin below x? Before the first there is none.
+// Does the row before index p begin below x? Before the first there is none.
 fn is_after(t: &[u8], width: usize, most: usize, x: u64, p: usize) -> bool
     requires { ⌜ Sorted width most (words (now t)) (length (now t)) × (p ≤ getD (words (now t)) 0 0) ⌝ }
     ensures { λ r. ⌜ (r ≡ true → RowsBelow width (words (now (t .entry))) x p) ⌝ }
@@ -65,10 +65,10 @@ fn is_before(t: &[u8], width: usize, most: usize, x: u64, p: usize) -> bool
     x <= words::read(t, 1 + at)
 }
 
-// The same place as `place` gives, looked for at a guess first.
-fn place_near(t: &[u8], width: usize, most: usize, x: u64, guess: usize) -> usize
+// The same index as `lower_bound` gives, looked for at a guess first.
+fn lower_bound_near(t: &[u8], width: usize, most: usize, x: u64, guess: usize) -> usize
     requires { ⌜ Sorted width most (words (now t)) (length (now t)) ⌝ }
-    ensures { λ r. ⌜ RowPlace width (words (now (t .entry))) x r ⌝ }
+    ensures { λ r. ⌜ LowerBound width (words (now (t .entry))) x r ⌝ }
 {
     if guess <= words::read(t, 0) as usize {
         if is_after(t, width, most, x, guess) {
@@ -77,18 +77,18 @@ fn place_near(t: &[u8], width: usize, most: usize, x: u64, guess: usize) -> usiz
             }
         }
     }
-    place(t, width, most, x)
+    lower_bound(t, width, most, x)
 }
 
-// Where the row that begins with x is, or the place before which it would go.
+// Where the row that begins with x is, or the index before which it would go.
 pub enum Spot {
     Here(usize),
     Gap(usize),
 }
 
-// Which of the two the first place is whose row does not begin below x.
+// Which of the two the first index is whose row does not begin below x.
 fn spot_at(t: &[u8], width: usize, most: usize, x: u64, p: usize) -> Spot
-    requires { ⌜ Sorted width most (words (now t)) (length (now t)) × RowPlace width (words (now t)) x p ⌝ }
+    requires { ⌜ Sorted width most (words (now t)) (length (now t)) × LowerBound width (words (now t)) x p ⌝ }
     ensures { λ r. ⌜ SpotOf width (words (now (t .entry))) x r ⌝ }
 {
     if p < words::read(t, 0) as usize {
@@ -105,15 +105,21 @@ pub fn find(t: &[u8], width: usize, most: usize, x: u64) -> Spot
     requires { ⌜ Sorted width most (words (now t)) (length (now t)) ⌝ }
     ensures { λ r. ⌜ SpotOf width (words (now (t .entry))) x r ⌝ }
 {
-    spot_at(t, width, most, x, place(t, width, most, x))
+    spot_at(t, width, most, x, lower_bound(t, width, most, x))
 }
 
-// The same, looked for at a guess first: a table like one in which the row was found has it at the same place.
+// The same, looked for at a guess first: a table like one in which the row was found has it at the same index.
 pub fn find_near(t: &[u8], width: usize, most: usize, x: u64, guess: usize) -> Spot
     requires { ⌜ Sorted width most (words (now t)) (length (now t)) ⌝ }
     ensures { λ r. ⌜ SpotOf width (words (now (t .entry))) x r ⌝ }
 {
-    spot_at(t, width, most, x, place_near(t, width, most, x, guess))
+    spot_at(
+        t,
+        width,
+        most,
+        x,
+        lower_bound_near(t, width, most, x, guess),
+    )
 }
 
 // ---- comparison
@@ -156,7 +162,7 @@ pub fn set_cell(t: &mut [u8], width: usize, most: usize, i: usize, j: usize, v: 
     words::write(t, 1 + words::offset(i, width, most) + j, v)
 }
 
-// A row more, before place p; at the end, where p is the count.
+// A row more, before index p; at the end, where p is the count.
 pub fn insert_row(t: &mut [u8], width: usize, most: usize, p: usize, list: &[u64])
     requires { ⌜ IsTable width most (words (now t)) (length (now t)) ⌝ }
     requires { ⌜ (p ≤ getD (words (now t)) 0 0) × (getD (words (now t)) 0 0 < most) × (length (now list) ≡ width) ⌝ }
@@ -174,7 +180,7 @@ pub fn insert_row(t: &mut [u8], width: usize, most: usize, p: usize, list: &[u64
 pub fn remove_row(t: &mut [u8], width: usize, most: usize, p: usize)
     requires { ⌜ IsTable width most (words (now t)) (length (now t)) ⌝ }
     requires { ⌜ p < getD (words (now t)) 0 0 ⌝ }
-    ensures { λ _. ⌜ words (now (t .exit)) ≡ change-table width (remove-at p) (words (now (t .entry))) ⌝ }
+    ensures { λ _. ⌜ words (now (t .exit)) ≡ change-table width (without-index p) (words (now (t .entry))) ⌝ }
 {
     let last = words::read(t, 0) as usize - 1;
     let at = words::offset(p, width, most);

@@ -13,44 +13,44 @@ use Rattle.lists.proofs.Tests.{impossible}
 use Rattle.decimal.specs.Decimal.{and-then}
 use Rattle.decimal.proofs.Laws.{then-some}
 use Rattle.rules.specs.Event.{Event, put, copy, savelog, map, send, deliver, drop, savemap, done, get, abandon, learn, reset, crash, lose, rise, join, view}
-use Rattle.rules.specs.Event.{fetch, ready, mend, collect, unknown, kind-count, Kind, kinds, no-kind, kind-at, Parts, event-of, parts-of}
-use Rattle.text.specs.Lines.{parts, line-of, read-parts, is-event, is-well-formed, event-line, read-event, has-line}
+use Rattle.rules.specs.Event.{fetch, ready, mend, collect, unknown, kind-count, Kind, kinds, no-kind, kind-at, EventFields, event-of, event-fields}
+use Rattle.text.specs.Lines.{make-fields, line-of, read-fields, is-event, is-well-formed, event-line, read-event, has-line}
 use Rattle.text.proofs.Laws.{kinds-count}
-use Rattle.text.proofs.RoundTrip.{WellFormed, well-formed, parts-of-line, line-of-parts, parts-well-formed}
+use Rattle.text.proofs.RoundTrip.{WellFormed, well-formed, fields-of-line, line-of-fields, fields-well-formed}
 
 -- ---- an event is made again of its parts
-pub event-of-parts-of : (e : Event) → event-of (parts-of e) ≡ e
-unfolding event-of parts-of kind-at kinds
-event-of-parts-of (put p i b d) = refl
-event-of-parts-of (copy k) = refl
-event-of-parts-of (savelog i) = refl
-event-of-parts-of (map p b) = refl
-event-of-parts-of (send b) = refl
-event-of-parts-of (deliver n) = refl
-event-of-parts-of (drop n) = refl
-event-of-parts-of (savemap i) = refl
-event-of-parts-of (done p b) = refl
-event-of-parts-of (get p b) = refl
-event-of-parts-of (abandon p b) = refl
-event-of-parts-of (learn p) = refl
-event-of-parts-of (reset p) = refl
-event-of-parts-of (crash i) = refl
-event-of-parts-of (lose i) = refl
-event-of-parts-of (rise i) = refl
-event-of-parts-of (join i) = refl
-event-of-parts-of view = refl
-event-of-parts-of (fetch g) = refl
-event-of-parts-of (ready g) = refl
-event-of-parts-of (mend i) = refl
-event-of-parts-of (collect i) = refl
-event-of-parts-of unknown = refl
+pub event-of-event-fields : (e : Event) → event-of (event-fields e) ≡ e
+unfolding event-of event-fields kind-at kinds
+event-of-event-fields (put p i b d) = refl
+event-of-event-fields (copy k) = refl
+event-of-event-fields (savelog i) = refl
+event-of-event-fields (map p b) = refl
+event-of-event-fields (send b) = refl
+event-of-event-fields (deliver n) = refl
+event-of-event-fields (drop n) = refl
+event-of-event-fields (savemap i) = refl
+event-of-event-fields (done p b) = refl
+event-of-event-fields (get p b) = refl
+event-of-event-fields (abandon p b) = refl
+event-of-event-fields (learn p) = refl
+event-of-event-fields (reset p) = refl
+event-of-event-fields (crash i) = refl
+event-of-event-fields (lose i) = refl
+event-of-event-fields (rise i) = refl
+event-of-event-fields (join i) = refl
+event-of-event-fields view = refl
+event-of-event-fields (fetch g) = refl
+event-of-event-fields (ready g) = refl
+event-of-event-fields (mend i) = refl
+event-of-event-fields (collect i) = refl
+event-of-event-fields unknown = refl
 
 -- ---- and parts of their event, where there are as many numbers as the kind has and no bytes where it has no data
 
 abbrev Back : ℕ → Kind → Type 0
 Back k f =
     (ns bs : List ℕ) → length ns ≡ f .numbers → (f .payload ≡ false → bs ≡ [])
-    → parts-of (f .make (getD ns 0 0) (getD ns 1 0) (getD ns 2 0) bs) ≡ parts k ns bs
+    → event-fields (f .make (getD ns 0 0) (getD ns 1 0) (getD ns 2 0) bs) ≡ make-fields k ns bs
 
 -- every row of a table, whose first is of kind k
 data Rows : ℕ → List Kind → Type 0 where
@@ -62,25 +62,25 @@ row-at end i h = absurd (omega arith)
 row-at {k} (row {f} {fs} b r) zero h = rw (add-zero k) b
 row-at {k} (row {f} {fs} b r) (suc i) h = rw (add-suc k i, ← suc-add k i) (row-at r i (omega arith))
 
-none-back : (k : ℕ) (e : Event) → parts-of e ≡ parts k [] [] → (ns bs : List ℕ) → length ns ≡ 0 → (false ≡ false → bs ≡ []) → parts-of e ≡ parts k ns bs
+none-back : (k : ℕ) (e : Event) → event-fields e ≡ make-fields k [] [] → (ns bs : List ℕ) → length ns ≡ 0 → (false ≡ false → bs ≡ []) → event-fields e ≡ make-fields k ns bs
 none-back k e h [] bs n z = rw (z refl) h
 none-back k e h (a ∷ ns) bs n z = absurd (omega arith)
 
-one-back : (k : ℕ) (f : ℕ → Event) → ((a : ℕ) → parts-of (f a) ≡ parts k (a ∷ []) [])
-    → (ns bs : List ℕ) → length ns ≡ 1 → (false ≡ false → bs ≡ []) → parts-of (f (getD ns 0 0)) ≡ parts k ns bs
+one-back : (k : ℕ) (f : ℕ → Event) → ((a : ℕ) → event-fields (f a) ≡ make-fields k (a ∷ []) [])
+    → (ns bs : List ℕ) → length ns ≡ 1 → (false ≡ false → bs ≡ []) → event-fields (f (getD ns 0 0)) ≡ make-fields k ns bs
 one-back k f h [] bs n z = absurd (omega arith)
 one-back k f h (a ∷ []) bs n z = rw (z refl) (h a)
 one-back k f h (a ∷ b ∷ ns) bs n z = absurd (omega arith)
 
-two-back : (k : ℕ) (f : ℕ → ℕ → Event) → ((a b : ℕ) → parts-of (f a b) ≡ parts k (a ∷ b ∷ []) [])
-    → (ns bs : List ℕ) → length ns ≡ 2 → (false ≡ false → bs ≡ []) → parts-of (f (getD ns 0 0) (getD ns 1 0)) ≡ parts k ns bs
+two-back : (k : ℕ) (f : ℕ → ℕ → Event) → ((a b : ℕ) → event-fields (f a b) ≡ make-fields k (a ∷ b ∷ []) [])
+    → (ns bs : List ℕ) → length ns ≡ 2 → (false ≡ false → bs ≡ []) → event-fields (f (getD ns 0 0) (getD ns 1 0)) ≡ make-fields k ns bs
 two-back k f h [] bs n z = absurd (omega arith)
 two-back k f h (a ∷ []) bs n z = absurd (omega arith)
 two-back k f h (a ∷ b ∷ []) bs n z = rw (z refl) (h a b)
 two-back k f h (a ∷ b ∷ c ∷ ns) bs n z = absurd (omega arith)
 
-three-back : (ns bs : List ℕ) → length ns ≡ 3 → (true ≡ false → bs ≡ []) → parts-of (put (getD ns 0 0) (getD ns 1 0) (getD ns 2 0) bs) ≡ parts 1 ns bs
-unfolding parts-of
+three-back : (ns bs : List ℕ) → length ns ≡ 3 → (true ≡ false → bs ≡ []) → event-fields (put (getD ns 0 0) (getD ns 1 0) (getD ns 2 0) bs) ≡ make-fields 1 ns bs
+unfolding event-fields
 three-back [] bs n z = absurd (omega arith)
 three-back (a ∷ []) bs n z = absurd (omega arith)
 three-back (a ∷ b ∷ []) bs n z = absurd (omega arith)
@@ -88,7 +88,7 @@ three-back (a ∷ b ∷ c ∷ []) bs n z = refl
 three-back (a ∷ b ∷ c ∷ d ∷ ns) bs n z = absurd (omega arith)
 
 rows : Rows 1 kinds
-unfolding parts-of kinds
+unfolding event-fields kinds
 rows =
     row three-back
     (row (one-back 2 copy (λ a. refl))
@@ -118,26 +118,26 @@ unfolding kind-at
 back-at zero h g = absurd (omega arith)
 back-at (suc i) h g = rw (← one-add i) (row-at rows i (omega (arith, kinds-count)))
 
-pub parts-of-event-of : (p : Parts) → 1 ≤ p .kind → p .kind ≤ kind-count → length (p .numbers) ≡ kind-at (p .kind) .numbers
-    → (kind-at (p .kind) .payload ≡ false → p .bytes ≡ []) → parts-of (event-of p) ≡ p
+pub event-fields-of-event : (p : EventFields) → 1 ≤ p .kind → p .kind ≤ kind-count → length (p .numbers) ≡ kind-at (p .kind) .numbers
+    → (kind-at (p .kind) .payload ≡ false → p .bytes ≡ []) → event-fields (event-of p) ≡ p
 unfolding event-of
-parts-of-event-of p h g n z = back-at (p .kind) h g (p .numbers) (p .bytes) n z
+event-fields-of-event p h g n z = back-at (p .kind) h g (p .numbers) (p .bytes) n z
 
 no-bytes : (b : Bool) (S : ℕ) (bs : List ℕ) → length bs ≡ cond b S 0 → b ≡ false → bs ≡ []
 no-bytes true S bs n e = impossible (sym e)
 no-bytes false S [] n e = refl
 no-bytes false S (b ∷ bs) n e = absurd (omega arith)
 
-formed-parts : (S : ℕ) (p : Parts) → WellFormed S p → parts-of (event-of p) ≡ p
-formed-parts S p w =
-    parts-of-event-of p (w .least) (w .most) (w .arity) (no-bytes (kind-at (p .kind) .payload) S (p .bytes) (w .size))
+formed-fields : (S : ℕ) (p : EventFields) → WellFormed S p → event-fields (event-of p) ≡ p
+formed-fields S p w =
+    event-fields-of-event p (w .least) (w .most) (w .arity) (no-bytes (kind-at (p .kind) .payload) S (p .bytes) (w .size))
 
 -- ---- events and lines
 
 -- THEOREM. The line of an event whose fields are below 2^64 and whose data has S bytes is read as that event.
 pub read-event-line : (S : ℕ) (e : Event) → has-line S e ≡ true → read-event S (event-line e) ≡ some e
 unfolding has-line read-event event-line and-then
-read-event-line S e h = rw (parts-of-line S (parts-of e) h) (ap some (event-of-parts-of e))
+read-event-line S e h = rw (fields-of-line S (event-fields e) h) (ap some (event-of-event-fields e))
 
 record Was (S : ℕ) (l : List ℕ) (e : Event) : Type 0 where
   line : event-line e ≡ l
@@ -146,13 +146,13 @@ record Was (S : ℕ) (l : List ℕ) (e : Event) : Type 0 where
 was : (S : ℕ) (l : List ℕ) (e : Event) → read-event S l ≡ some e → Was S l e
 unfolding read-event event-line has-line
 was S l e t =
-    let r = then-some (read-parts S l) _ e t in
-    let p : Parts = r .0 in
+    let r = then-some (read-fields S l) _ e t in
+    let p : EventFields = r .0 in
     let made : some (event-of p) ≡ some e = r .2 in
     let same : e ≡ event-of p = cc in
-    let formed = parts-well-formed S l p (r .1) in
-    let back : parts-of e ≡ p = ap parts-of same ∙ formed-parts S p (well-formed S p formed) in
-    record { line = ap line-of back ∙ line-of-parts S l p (r .1); fits = ap (is-well-formed S) back ∙ formed }
+    let formed = fields-well-formed S l p (r .1) in
+    let back : event-fields e ≡ p = ap event-fields same ∙ formed-fields S p (well-formed S p formed) in
+    record { line = ap line-of back ∙ line-of-fields S l p (r .1); fits = ap (is-well-formed S) back ∙ formed }
 
 -- THEOREM. A line that is read as an event is that event's line ..
 pub event-line-read : (S : ℕ) (l : List ℕ) (e : Event) → read-event S l ≡ some e → event-line e ≡ l
@@ -164,5 +164,5 @@ read-has-line S l e t = was S l e t .fits
 
 -- what stands for a refused line has none
 pub unknown-no-line : (S : ℕ) → has-line S unknown ≡ false
-unfolding has-line is-well-formed is-event parts-of _and_
+unfolding has-line is-well-formed is-event event-fields _and_
 unknown-no-line S = refl

@@ -7,17 +7,17 @@ use Prim.Native.Nat.{_^_, _-_}
 use Prim.Native.String.{String}
 use Rattle.lists.specs.Tests.{_and_, same-numbers}
 use Rattle.decimal.specs.Decimal.{digits, decimal, push, and-then, spelled, number-of}
-use Rattle.hex.specs.Hex.{hex-digit, hex, is-digit, digit-value, only-digits, unhex, spells-bytes, bytes-of}
-use Rattle.rules.specs.Event.{ascii, kinds, kind-at, Parts}
-use Rattle.text.specs.Words.{kind-from, kind-of-word}
+use Rattle.hex.specs.Hex.{hex-digit, hex, is-digit, digit-value, only-digits, unhex, spells-bytes, hex-bytes}
+use Rattle.rules.specs.Event.{ascii, kinds, kind-at, EventFields}
+use Rattle.text.specs.Kinds.{kind-from, kind-of-word}
 use Rattle.text.specs.Fields.{parted, before, fields}
-use Rattle.text.specs.Lines.{parts, field-texts, line-of, take-numbers, take-bytes, parts-of-kind, parts-of-fields, is-line, without-feed, read-parts}
+use Rattle.text.specs.Lines.{make-fields, field-texts, line-of, take-numbers, take-bytes, fields-of-kind, fields-of-texts, is-line, without-feed, read-fields}
 use Rattle.text.specs.Lines.{settings-at, settings-of-fields, read-settings}
 
-reads : String → Option Parts
-reads s = read-parts 8 (ascii s)
+reads : String → Option EventFields
+reads s = read-fields 8 (ascii s)
 
-is-none : Option Parts → Bool
+is-none : Option EventFields → Bool
 is-none none = true
 is-none (some e) = false
 
@@ -29,22 +29,22 @@ only-refused (s ∷ ss) = one (is-none (reads s)) (only-refused ss)
     one true b = b
     one false b = false
 
-get-read : reads "get,0,5\n" ≡ some (parts 10 (0 ∷ 5 ∷ []) [])
+get-read : reads "get,0,5\n" ≡ some (make-fields 10 (0 ∷ 5 ∷ []) [])
 unfolding reads push and-then spelled number-of ascii kinds kind-at same-numbers kind-from kind-of-word before fields take-numbers take-bytes
-    parts-of-kind parts-of-fields is-line without-feed read-parts _and_
+    fields-of-kind fields-of-texts is-line without-feed read-fields _and_
 get-read = refl
 
-put-read : reads "put,0,0,5,a1a1a1a1a1a1a10f\n" ≡ some (parts 1 (0 ∷ 0 ∷ 5 ∷ []) (161 ∷ 161 ∷ 161 ∷ 161 ∷ 161 ∷ 161 ∷ 161 ∷ 15 ∷ []))
-unfolding reads push and-then spelled number-of is-digit digit-value only-digits unhex spells-bytes bytes-of ascii kinds kind-at same-numbers kind-from
-    kind-of-word before fields take-numbers take-bytes parts-of-kind parts-of-fields is-line without-feed read-parts _and_
+put-read : reads "put,0,0,5,a1a1a1a1a1a1a10f\n" ≡ some (make-fields 1 (0 ∷ 0 ∷ 5 ∷ []) (161 ∷ 161 ∷ 161 ∷ 161 ∷ 161 ∷ 161 ∷ 161 ∷ 15 ∷ []))
+unfolding reads push and-then spelled number-of is-digit digit-value only-digits unhex spells-bytes hex-bytes ascii kinds kind-at same-numbers kind-from
+    kind-of-word before fields take-numbers take-bytes fields-of-kind fields-of-texts is-line without-feed read-fields _and_
 put-read = refl
 
-largest-read : reads "copy,18446744073709551615\n" ≡ some (parts 2 ((2 ^ 64 - 1) ∷ []) [])
+largest-read : reads "copy,18446744073709551615\n" ≡ some (make-fields 2 ((2 ^ 64 - 1) ∷ []) [])
 unfolding reads push and-then spelled number-of ascii kinds kind-at same-numbers kind-from kind-of-word before fields take-numbers take-bytes
-    parts-of-kind parts-of-fields is-line without-feed read-parts _and_
+    fields-of-kind fields-of-texts is-line without-feed read-fields _and_
 largest-read = refl
 
-put-written : line-of (parts 1 (0 ∷ 10 ∷ 5 ∷ []) (161 ∷ 15 ∷ [])) ≡ ascii "put,0,10,5,a10f\n"
+put-written : line-of (make-fields 1 (0 ∷ 10 ∷ 5 ∷ []) (161 ∷ 15 ∷ [])) ≡ ascii "put,0,10,5,a10f\n"
 unfolding digits decimal hex-digit hex ascii kinds kind-at parted field-texts line-of
 put-written = refl
 
@@ -59,6 +59,6 @@ none-read : only-refused (
     ∷ "GET,0,5\n" ∷ "get\n" ∷ "get,0\n" ∷ "get,0,\n" ∷ "get,,5\n" ∷ "get,0,5,\n" ∷ "get,0,5,6\n" ∷ "view,\n" ∷ "views\n" ∷ "vie\n" ∷ ",0\n"
     ∷ "copy,18446744073709551616\n" ∷ "copy,1a\n" ∷ "put,0,0,5\n" ∷ "put,0,0,5,\n" ∷ "put,0,0,5,a1a1a1a1a1a1a1\n" ∷ "put,0,0,5,A1a1a1a1a1a1a1a1\n"
     ∷ "put,0,0,5,a1a1a1a1a1a1a1a1a1\n" ∷ "put,0,0,5,a1a1a1a1a1a1a1a\n" ∷ "put,0,0,5,a1a1a1a1a1a1a1a1,\n" ∷ []) ≡ true
-unfolding reads is-none only-refused push and-then spelled number-of is-digit digit-value only-digits unhex spells-bytes bytes-of ascii kinds kind-at
-    same-numbers kind-from kind-of-word before fields take-numbers take-bytes parts-of-kind parts-of-fields is-line without-feed read-parts _and_
+unfolding reads is-none only-refused push and-then spelled number-of is-digit digit-value only-digits unhex spells-bytes hex-bytes ascii kinds kind-at
+    same-numbers kind-from kind-of-word before fields take-numbers take-bytes fields-of-kind fields-of-texts is-line without-feed read-fields _and_
 none-read = refl

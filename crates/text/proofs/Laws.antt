@@ -14,7 +14,7 @@ use Rattle.lists.proofs.Tests.{by, by-lt, and-l, and-r, all-at, same-numbers-eq
 use Rattle.area.specs.Area.{onto}
 use Rattle.area.proofs.Each.{Above, each-of}
 use Rattle.rules.specs.Event.{kind-count, ascii, Kind, kinds, no-kind, kind-at}
-use Rattle.text.specs.Words.{kind-from, kind-of-word}
+use Rattle.text.specs.Kinds.{kind-from, kind-of-word}
 use Rattle.text.specs.Table.{shape-of, kind-number}
 use Rattle.text.specs.declared.Shape.{Shape}
 

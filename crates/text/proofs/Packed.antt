@@ -14,7 +14,7 @@ use lib.Seq.{ext-getD}
 use Rattle.lists.specs.Tests.{_and_, all-below, every, same-numbers}
 use Rattle.lists.proofs.Tests.{by, by-lt, clash, and-l, and-r, all-at, same-numbers-eq, same-numbers-self}
 use Rattle.rules.specs.Event.{kind-count, ascii, Kind, kinds, no-kind}
-use Rattle.text.specs.Words.{kind-from, kind-of-word, packed-upto, packed, packed-from, kind-of-packed}
+use Rattle.text.specs.Kinds.{kind-from, kind-of-word, packed-upto, packed, packed-from, kind-of-packed}
 use Rattle.text.specs.Table.{kind-number}
 use Rattle.text.proofs.Laws.{form-ok, kind-some, Passed, passed-at}
 

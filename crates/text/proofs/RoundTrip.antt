@@ -17,11 +17,11 @@ use Rattle.decimal.proofs.Laws.{then-some}
 use Rattle.decimal.proofs.RoundTrip.{number-there, number-back, number-fits, decimal-above}
 use Rattle.hex.specs.Hex.{hex}
 use Rattle.hex.proofs.Laws.{bytes-there, bytes-back, hex-all-above}
-use Rattle.rules.specs.Event.{kind-count, kind-at, Parts}
-use Rattle.text.specs.Words.{kind-of-word}
+use Rattle.rules.specs.Event.{kind-count, kind-at, EventFields}
+use Rattle.text.specs.Kinds.{kind-of-word}
 use Rattle.text.specs.Fields.{parted, fields}
-use Rattle.text.specs.Lines.{parts, longest, line-feed, field-texts, line-of, Taken, taken, take-numbers, take-bytes, parts-of-kind, parts-of-fields}
-use Rattle.text.specs.Lines.{is-line, without-feed, read-parts, only-below, is-event, is-well-formed}
+use Rattle.text.specs.Lines.{make-fields, longest, line-feed, field-texts, line-of, Taken, taken, take-numbers, take-bytes, fields-of-kind, fields-of-texts}
+use Rattle.text.specs.Lines.{is-line, without-feed, read-fields, only-below, is-event, is-well-formed}
 use Rattle.text.proofs.Laws.{form-ok, KindIs, kind-some}
 use Rattle.text.proofs.Fields.{Plain, fields-there, first, fields-back}
 
@@ -36,7 +36,7 @@ of-below each-none = refl
 of-below {n} (each-more {x} {xs} h r) = both _ _ (lt-ltb x n h) (of-below r)
 
 -- what `is-well-formed` tests
-pub record WellFormed (S : ℕ) (e : Parts) : Type 0 where
+pub record WellFormed (S : ℕ) (e : EventFields) : Type 0 where
   pub least : 1 ≤ e .kind
   pub most : e .kind ≤ kind-count
   pub arity : length (e .numbers) ≡ kind-at (e .kind) .numbers
@@ -45,7 +45,7 @@ pub record WellFormed (S : ℕ) (e : Parts) : Type 0 where
   pub small : Below 256 (e .bytes)
   pub short : length (line-of e) ≤ longest
 
-pub well-formed : (S : ℕ) (e : Parts) → is-well-formed S e ≡ true → WellFormed S e
+pub well-formed : (S : ℕ) (e : EventFields) → is-well-formed S e ≡ true → WellFormed S e
 unfolding is-well-formed is-event
 well-formed S e t =
     let t6 = and-l _ _ t in
@@ -63,7 +63,7 @@ well-formed S e t =
       short = leb-true (length (line-of e)) longest (and-r _ _ t);
     }
 
-pub formed-well : (S : ℕ) (e : Parts) → WellFormed S e → is-well-formed S e ≡ true
+pub formed-well : (S : ℕ) (e : EventFields) → WellFormed S e → is-well-formed S e ≡ true
 unfolding is-well-formed is-event
 formed-well S e w =
     both _ _ (both _ _ (both _ _ (both _ _ (both _ _ (both _ _ (le-leb 1 (e .kind) (w .least)) (le-leb (e .kind) kind-count (w .most)))
@@ -136,21 +136,21 @@ payload-back true S (f ∷ g ∷ fs) bs e = let z : _≡_ {A = ℕ} 0 1 = cc in 
 -- ---- the line
 
 -- a line without its line feed
-body-of : Parts → List ℕ
+body-of : EventFields → List ℕ
 body-of e = kind-at (e .kind) .word ++ parted (field-texts e)
 
-line-body : (e : Parts) → line-of e ≡ body-of e ++ (line-feed ∷ [])
+line-body : (e : EventFields) → line-of e ≡ body-of e ++ (line-feed ∷ [])
 unfolding line-of body-of
 line-body e = sym (append-assoc (kind-at (e .kind) .word) (parted (field-texts e)) (line-feed ∷ []))
 
-fields-of-body : (S : ℕ) (e : Parts) → WellFormed S e → fields (body-of e) ≡ kind-at (e .kind) .word ∷ field-texts e
+fields-of-body : (S : ℕ) (e : EventFields) → WellFormed S e → fields (body-of e) ≡ kind-at (e .kind) .word ∷ field-texts e
 unfolding body-of field-texts
 fields-of-body S e w =
     fields-there (form-ok (e .kind) (w .least) (w .most) .plain)
     (each-append (plain-numbers (w .fit)) (plain-payload (kind-at (e .kind) .payload) (e .bytes)))
 
-of-fields : (S : ℕ) (e : Parts) → WellFormed S e → parts-of-fields S (kind-at (e .kind) .word ∷ field-texts e) ≡ some e
-unfolding parts-of-fields parts-of-kind and-then field-texts
+of-fields : (S : ℕ) (e : EventFields) → WellFormed S e → fields-of-texts S (kind-at (e .kind) .word ∷ field-texts e) ≡ some e
+unfolding fields-of-texts fields-of-kind and-then field-texts
 of-fields S e w =
     rw (
       form-ok (e .kind) (w .least) (w .most) .kind,
@@ -160,9 +160,9 @@ of-fields S e w =
     )
 
 -- a body with its line feed is read as its fields are
-body-parts : (S : ℕ) (body : List ℕ) → length body < longest → read-parts S (body ++ (line-feed ∷ [])) ≡ parts-of-fields S (fields body)
-unfolding read-parts is-line without-feed _and_
-body-parts S body h =
+body-event-fields : (S : ℕ) (body : List ℕ) → length body < longest → read-fields S (body ++ (line-feed ∷ [])) ≡ fields-of-texts S (fields body)
+unfolding read-fields is-line without-feed _and_
+body-event-fields S body h =
     let n : length (body ++ (line-feed ∷ [])) ≡ length body + 1 = length-append body (line-feed ∷ []) in
     let m : length (body ++ (line-feed ∷ [])) - 1 ≡ length body = omega arith in
     rw (
@@ -173,16 +173,16 @@ body-parts S body h =
     )
 
 -- THEOREM. The line of a well-formed event is read as that event.
-pub parts-of-line : (S : ℕ) (e : Parts) → is-well-formed S e ≡ true → read-parts S (line-of e) ≡ some e
-parts-of-line S e t =
+pub fields-of-line : (S : ℕ) (e : EventFields) → is-well-formed S e ≡ true → read-fields S (line-of e) ≡ some e
+fields-of-line S e t =
     let w = well-formed S e t in
     let n : length (line-of e) ≡ length (body-of e) + 1 = ap length (line-body e) ∙ length-append (body-of e) (line-feed ∷ []) in
-    rw (line-body e, body-parts S (body-of e) (omega (arith, w .short)), fields-of-body S e w) (of-fields S e w)
+    rw (line-body e, body-event-fields S (body-of e) (omega (arith, w .short)), fields-of-body S e w) (of-fields S e w)
 
-record Line (S : ℕ) (l : List ℕ) (e : Parts) : Type 0 where
+record Line (S : ℕ) (l : List ℕ) (e : EventFields) : Type 0 where
   whole : without-feed l ++ (line-feed ∷ []) ≡ l
   short : length l ≤ longest
-  inside : parts-of-fields S (fields (without-feed l)) ≡ some e
+  inside : fields-of-texts S (fields (without-feed l)) ≡ some e
 
 ended : (l : List ℕ) → getD l (length l - 1) 0 ≡ line-feed → without-feed l ++ (line-feed ∷ []) ≡ l
 unfolding without-feed
@@ -191,40 +191,40 @@ ended (b ∷ l) q =
     let n : suc (length (b ∷ l) - 1) ≡ length (b ∷ l) = omega arith in
     rw (← q) (sym (take-suc (b ∷ l) (length (b ∷ l) - 1) 0 (omega arith)) ∙ ap (λ (k : ℕ). take k (b ∷ l)) n ∙ take-all (length (b ∷ l)) (b ∷ l) (omega arith))
 
-line-parts : (S : ℕ) (l : List ℕ) (e : Parts) → read-parts S l ≡ some e → Line S l e
-unfolding read-parts is-line
-line-parts S l e t =
+line-fields : (S : ℕ) (l : List ℕ) (e : EventFields) → read-fields S l ≡ some e → Line S l e
+unfolding read-fields is-line
+line-fields S l e t =
     by (is-line l)
     (λ p. record {
       whole = ended l (eqb-true (getD l (length l - 1) 0) line-feed (and-r _ _ p));
       short = leb-true (length l) longest (and-l _ _ p);
       inside = rw p at t;
     })
-    (λ p. let y : _≡_ {A = Option Parts} none (some e) = rw p at t in let z : _≡_ {A = ℕ} 0 1 = cc in absurd (omega arith))
+    (λ p. let y : _≡_ {A = Option EventFields} none (some e) = rw p at t in let z : _≡_ {A = ℕ} 0 1 = cc in absurd (omega arith))
 
-record Inside (S : ℕ) (w : List ℕ) (fs : List (List ℕ)) (e : Parts) : Type 0 where
+record Inside (S : ℕ) (w : List ℕ) (fs : List (List ℕ)) (e : EventFields) : Type 0 where
   kind : KindIs w (e .kind)
   numbers : TakenFrom (kind-at (e .kind) .numbers) fs (taken (e .numbers) (cond (kind-at (e .kind) .payload) (hex (e .bytes) ∷ []) []))
   size : length (e .bytes) ≡ cond (kind-at (e .kind) .payload) S 0
   small : Below 256 (e .bytes)
 
-of-fields-back : (S : ℕ) (w : List ℕ) (fs : List (List ℕ)) (e : Parts) → parts-of-fields S (w ∷ fs) ≡ some e → Inside S w fs e
-unfolding parts-of-fields parts-of-kind
+of-fields-back : (S : ℕ) (w : List ℕ) (fs : List (List ℕ)) (e : EventFields) → fields-of-texts S (w ∷ fs) ≡ some e → Inside S w fs e
+unfolding fields-of-texts fields-of-kind
 of-fields-back S w fs e t =
     let a = then-some (kind-of-word w) _ e t in
     let b = then-some (take-numbers (kind-at (a .0) .numbers) fs) _ e (a .2) in
     let c = then-some (take-bytes (kind-at (a .0) .payload) S (b .0 .left)) _ e (b .2) in
-    let g : some (parts (a .0) (b .0 .numbers) (c .0)) ≡ some e = c .2 in
-    let same : e ≡ parts (a .0) (b .0 .numbers) (c .0) = cc in
+    let g : some (make-fields (a .0) (b .0 .numbers) (c .0)) ≡ some e = c .2 in
+    let same : e ≡ make-fields (a .0) (b .0 .numbers) (c .0) = cc in
     let p = payload-back (kind-at (a .0) .payload) S (b .0 .left) (c .0) (c .1) in
     let q = take-back (kind-at (a .0) .numbers) fs (b .0) (b .1) in
     rw same (record { kind = kind-some w (a .0) (a .1); numbers = rw (p .texts) q; size = p .size; small = p .small })
 
-body-back : (S : ℕ) (body w : List ℕ) (fs : List (List ℕ)) (e : Parts) → fields body ≡ w ∷ fs → Inside S w fs e → body-of e ≡ body
+body-back : (S : ℕ) (body w : List ℕ) (fs : List (List ℕ)) (e : EventFields) → fields body ≡ w ∷ fs → Inside S w fs e → body-of e ≡ body
 unfolding body-of field-texts
 body-back S body w fs e f i = rw (i .kind .word, i .numbers .texts) (fields-back body w fs f)
 
-read-back : (S : ℕ) (l : List ℕ) (e : Parts) → Line S l e → (line-of e ≡ l) × WellFormed S e
+read-back : (S : ℕ) (l : List ℕ) (e : EventFields) → Line S l e → (line-of e ≡ l) × WellFormed S e
 read-back S l e p =
     let body : List ℕ = without-feed l in
     let f = first body in
@@ -243,9 +243,9 @@ read-back S l e p =
     )
 
 -- THEOREM. A line that is read as an event is that event's line ..
-pub line-of-parts : (S : ℕ) (l : List ℕ) (e : Parts) → read-parts S l ≡ some e → line-of e ≡ l
-line-of-parts S l e t = read-back S l e (line-parts S l e t) .0
+pub line-of-fields : (S : ℕ) (l : List ℕ) (e : EventFields) → read-fields S l ≡ some e → line-of e ≡ l
+line-of-fields S l e t = read-back S l e (line-fields S l e t) .0
 
 -- .. and the event is well formed.
-pub parts-well-formed : (S : ℕ) (l : List ℕ) (e : Parts) → read-parts S l ≡ some e → is-well-formed S e ≡ true
-parts-well-formed S l e t = formed-well S e (read-back S l e (line-parts S l e t) .1)
+pub fields-well-formed : (S : ℕ) (l : List ℕ) (e : EventFields) → read-fields S l ≡ some e → is-well-formed S e ≡ true
+fields-well-formed S l e t = formed-well S e (read-back S l e (line-fields S l e t) .1)

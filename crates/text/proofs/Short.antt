@@ -10,7 +10,7 @@ use borrow.Author.Tests.{eqb-true, leb-true, le-leb}
 use Rattle.lists.specs.Tests.{_and_}
 use Rattle.lists.proofs.Tests.{and-l, and-r, both}
 use Rattle.rules.specs.Limits.{max-size}
-use Rattle.rules.specs.Event.{Event, kind-count, kind-at, Parts, parts-of}
+use Rattle.rules.specs.Event.{Event, kind-count, kind-at, EventFields, event-fields}
 use Rattle.decimal.specs.Decimal.{decimal}
 use Rattle.decimal.proofs.Laws.{decimal-most}
 use Rattle.hex.specs.Hex.{hex}
@@ -31,7 +31,7 @@ unfolding parted
 data-short true S bytes e = omega (arith, length-append (hex bytes) [], hex-length bytes)
 data-short false S bytes e = omega arith
 
-line-short : (S : ℕ) (p : Parts) → S ≤ max-size → 1 ≤ p .kind → p .kind ≤ kind-count → length (p .numbers) ≡ kind-at (p .kind) .numbers
+line-short : (S : ℕ) (p : EventFields) → S ≤ max-size → 1 ≤ p .kind → p .kind ≤ kind-count → length (p .numbers) ≡ kind-at (p .kind) .numbers
     → length (p .bytes) ≡ cond (kind-at (p .kind) .payload) S 0 → length (line-of p) ≤ longest
 unfolding line-of field-texts
 line-short S p small least most arity size =
@@ -55,10 +55,10 @@ line-short S p small least most arity size =
     )
 
 -- THEOREM. Every event whose fields are below 2^64 and whose data has S bytes has a line, and its line is read as that event.
-pub event-has-line : (S : ℕ) (e : Event) → S ≤ max-size → is-event S (parts-of e) ≡ true → has-line S e ≡ true
+pub event-has-line : (S : ℕ) (e : Event) → S ≤ max-size → is-event S (event-fields e) ≡ true → has-line S e ≡ true
 unfolding has-line is-well-formed is-event
 event-has-line S e small y =
-    let p = parts-of e in
+    let p = event-fields e in
     let size = and-l _ _ y in
     let numbers = and-l _ _ size in
     let arity = and-l _ _ numbers in
@@ -67,5 +67,5 @@ event-has-line S e small y =
     (le-leb _ _ (line-short S p small (leb-true 1 (p .kind) (and-l _ _ kind)) (leb-true (p .kind) kind-count (and-r _ _ kind)) (eqb-true _ _ (and-r _ _ arity))
     (eqb-true _ _ (and-r _ _ size))))
 
-pub every-event-read : (S : ℕ) (e : Event) → S ≤ max-size → is-event S (parts-of e) ≡ true → read-event S (event-line e) ≡ some e
+pub every-event-read : (S : ℕ) (e : Event) → S ≤ max-size → is-event S (event-fields e) ≡ true → read-event S (event-line e) ≡ some e
 every-event-read S e small y = read-event-line S e (event-has-line S e small y)

@@ -1,4 +1,4 @@
-pub mod Words
+pub mod Kinds
 pub mod Fields
 pub mod Lines
 pub mod Table

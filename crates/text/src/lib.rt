@@ -4,7 +4,7 @@ ghost use Prim.Native.Nat.{_≤_, _<_};
 ghost use lib.ListN.{length, drop};
 ghost use Rattle.area.specs.Area.{onto};
 ghost use Rattle.rules.specs.Event.{kind-count, kinds, kind-at};
-ghost use Rattle.text.specs.Words.{packed, packed-from, kind-of-packed};
+ghost use Rattle.text.specs.Kinds.{packed, packed-from, kind-of-packed};
 ghost use Rattle.text.specs.Lines.{is-line};
 ghost use Rattle.text.specs.Table.{shape-of, kind-number};
 

@@ -10,12 +10,12 @@ use borrow.Author.Tests.{ne-eqb}
 use Rattle.lists.proofs.Tests.{by}
 use Rattle.rules.specs.declared.settings.Settings.{Settings}
 use Rattle.rules.specs.State.{State}
-use Rattle.rules.specs.Event.{Parts, event-of}
+use Rattle.rules.specs.Event.{EventFields, event-of}
 use Rattle.decimal.specs.Decimal.{and-then}
 use Rattle.text.specs.Lines.{line-feed, read-event, read-settings}
 use Rattle.answers.specs.Answers.{header}
-use Rattle.lines.specs.Lines.{kept, lines-from, lines}
-use Rattle.lines.proofs.Kept.{kept-parts, kept-settings, kept-none, kept-some, kept-more}
+use Rattle.lines.specs.Lines.{kept-bytes, lines-from, lines}
+use Rattle.lines.proofs.Kept.{kept-fields, kept-settings, kept-none, kept-some, kept-more}
 use Rattle.traces.specs.Trace.{can-trace, refused, event-or-unknown, event-in, outcome, answer-text, answers, with-settings, trace-lines}
 use Rattle.traces.specs.Trace.{trace-text}
 use Rattle.traces.specs.Machine.{Phase, opening, running, stopped, Machine, Fed, settings-said, settings-next, line-said, line-next}
@@ -23,17 +23,17 @@ use Rattle.traces.specs.Machine.{at-phase, feed, start, ended, last-said
 use Rattle.traces.proofs.Machine.{feed-append}
 
 -- ---- a cut line is answered as the whole line is
-kept-event : (S : ℕ) (l : List ℕ) → event-in S (kept l) ≡ event-in S l
+kept-event : (S : ℕ) (l : List ℕ) → event-in S (kept-bytes l) ≡ event-in S l
 unfolding event-in read-event
-kept-event S l = ap (λ (o : Option Parts). event-or-unknown (and-then o (λ p. some (event-of p)))) (kept-parts S l)
+kept-event S l = ap (λ (o : Option EventFields). event-or-unknown (and-then o (λ p. some (event-of p)))) (kept-fields S l)
 
-kept-said : (p : Phase) (l : List ℕ) → line-said p (kept l) ≡ line-said p l
+kept-said : (p : Phase) (l : List ℕ) → line-said p (kept-bytes l) ≡ line-said p l
 unfolding line-said
 kept-said opening l = ap settings-said (kept-settings l)
 kept-said (running n s) l = rw (kept-event (s .settings .size) l)
 kept-said stopped l = refl
 
-kept-next : (p : Phase) (l : List ℕ) → line-next p (kept l) ≡ line-next p l
+kept-next : (p : Phase) (l : List ℕ) → line-next p (kept-bytes l) ≡ line-next p l
 unfolding line-next
 kept-next opening l = ap settings-next (kept-settings l)
 kept-next (running n s) l = rw (kept-event (s .settings .size) l)
@@ -44,30 +44,30 @@ abbrev in-phase : Phase → List (List ℕ) → List ℕ
 in-phase p [] = ended p
 in-phase p (l ∷ ls) = line-said p l ++ in-phase (line-next p l) ls
 
-whole-line : (p : Phase) (l : List ℕ) (ls : List (List ℕ)) → line-said p (kept l) ++ in-phase (line-next p (kept l)) ls ≡ in-phase p (l ∷ ls)
+whole-line : (p : Phase) (l : List ℕ) (ls : List (List ℕ)) → line-said p (kept-bytes l) ++ in-phase (line-next p (kept-bytes l)) ls ≡ in-phase p (l ∷ ls)
 whole-line p l ls = rw (kept-said p l, kept-next p l)
 
-last-line : (p : Phase) (begun : List ℕ) → last-said (at-phase p (kept begun)) ≡ in-phase p (lines-from begun [])
+last-line : (p : Phase) (begun : List ℕ) → last-said (at-phase p (kept-bytes begun)) ≡ in-phase p (lines-from begun [])
 unfolding last-said lines-from
 last-line p [] = rw kept-none
 last-line p (b ∷ l) =
-    rw (ne-eqb (length (kept (b ∷ l))) 0 (λ e. omega (arith, kept-some (b ∷ l) (omega arith))), ne-eqb (length (b ∷ l)) 0 (λ e. omega arith))
+    rw (ne-eqb (length (kept-bytes (b ∷ l))) 0 (λ e. omega (arith, kept-some (b ∷ l) (omega arith))), ne-eqb (length (b ∷ l)) 0 (λ e. omega arith))
     (whole-line p (b ∷ l) [])
 
 -- bytes that come after the beginning of a line
 abbrev all-said : Machine → List ℕ → List ℕ
 all-said m input = feed m input .said ++ last-said (feed m input .after)
 
-go-on : (input : List ℕ) (p : Phase) (begun : List ℕ) → all-said (at-phase p (kept begun)) input ≡ in-phase p (lines-from begun input)
+go-on : (input : List ℕ) (p : Phase) (begun : List ℕ) → all-said (at-phase p (kept-bytes begun)) input ≡ in-phase p (lines-from begun input)
 unfolding feed lines-from
 go-on [] p begun = last-line p begun
 go-on (b ∷ input) p begun =
-    let h = kept begun in
+    let h = kept-bytes begun in
     let l = begun ++ (b ∷ []) in
-    let cut : kept (h ++ (b ∷ [])) ≡ kept l = kept-more begun (b ∷ []) in
+    let cut : kept-bytes (h ++ (b ∷ [])) ≡ kept-bytes l = kept-more begun (b ∷ []) in
     by (eqb b line-feed)
-    (λ y. rw (y, append-assoc, cut) (ap (λ (h : List ℕ). line-said p (kept l) ++ all-said (at-phase (line-next p (kept l)) h) input) (sym kept-none)
-    ∙ ap (λ (t : List ℕ). line-said p (kept l) ++ t) (go-on input (line-next p (kept l)) [])
+    (λ y. rw (y, append-assoc, cut) (ap (λ (h : List ℕ). line-said p (kept-bytes l) ++ all-said (at-phase (line-next p (kept-bytes l)) h) input) (sym kept-none)
+    ∙ ap (λ (t : List ℕ). line-said p (kept-bytes l) ++ t) (go-on input (line-next p (kept-bytes l)) [])
     ∙ whole-line p l (lines-from [] input)))
     (λ n. rw (n, cut) (go-on input p l))
 

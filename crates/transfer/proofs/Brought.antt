@@ -11,7 +11,7 @@ use Rattle.lists.proofs.Runs.{fits-in, run-length, run-of-run, paste-run, on-by
 use Rattle.words.specs.Words.{words, unwords}
 use Rattle.words.proofs.Laws.{lent-run, length-words}
 use Rattle.rules.specs.declared.settings.Settings.{Settings}
-use Rattle.rules.specs.Chunks.{Chunk, chunk, append, bytes-in}
+use Rattle.rules.specs.Chunks.{Chunk, new-chunk, append, bytes-in}
 use Rattle.log.specs.Log.{IsLog}
 use Rattle.log.specs.Steps.{with-next}
 use Rattle.log.specs.Answers.{FoundAt}
@@ -136,11 +136,11 @@ module _ (c : Settings) (bs : List ℕ) (v : StoreOf c bs) (p : ℕ) (l : p < c 
         → words new ≡ on-run (log-at c) (log-words c) (with-next (c .chunks) width k saved) (words part)
         → words (take from vs ++ (new ++ drop (to - from) (drop from vs)))
         ≡ render (with-chunks (decode (words bs)) (decode (words bs) .ids p)
-        (append (log-at-place (decode (words bs)) p) (chunk k saved (unwords (take width d))))) (words bs)
+        (append (log-at-place (decode (words bs)) p) (new-chunk k saved (unwords (take width d))))) (words bs)
     entered k saved new ln en =
         let g : List ℕ → List ℕ = with-next (c .chunks) width k saved in
         let bytes : List ℕ = unwords (take width d) in
-        let grown : List Chunk = append (log-at-place (decode (words bs)) p) (chunk k saved bytes) in
+        let grown : List Chunk = append (log-at-place (decode (words bs)) p) (new-chunk k saved bytes) in
         lent-run vs new from (to - from) (place-at c p) (place-words c) (on-run (log-at c) (log-words c) g) (span .start) (omega (arith, span .size))
         (omega (arith, fits)) (ln ∙ part-length) en
         ∙ on-within (place-at c p) (place-words c) (log-at c) (log-words c) g (words vs) wide (omega arith)
@@ -148,5 +148,5 @@ module _ (c : Settings) (bs : List ℕ) (v : StoreOf c bs) (p : ℕ) (l : p < c 
         ∙ sym (on-twice (log-from c p) (log-words c) (λ x. paste x at d width) g (words bs) inside moved-length)
         ∙ on-by (log-from c p) (log-words c) (λ x. g (paste x at d width)) (log-codec c .enc grown) (words bs)
         (placed (c .chunks) width log (8 * log-words c) good long some-room d at refl ld k saved
-        ∙ ap (λ (x : List Chunk). log-codec c .enc (append x (chunk k saved bytes)) log) (log-read c bs v p l o))
+        ∙ ap (λ (x : List Chunk). log-codec c .enc (append x (new-chunk k saved bytes)) log) (log-read c bs v p l o))
         ∙ sym (log-changed c bs v p l o grown)

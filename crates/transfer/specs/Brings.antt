@@ -6,7 +6,7 @@ use lib.ListN.{length, getD}
 use Rattle.lists.specs.Runs.{run}
 use Rattle.words.specs.Words.{words}
 use Rattle.rules.specs.declared.settings.Settings.{Settings}
-use Rattle.rules.specs.Chunks.{Chunk, chunk, append, bytes-in}
+use Rattle.rules.specs.Chunks.{Chunk, new-chunk, append, bytes-in}
 use Rattle.rules.specs.State.{State}
 use Rattle.log.specs.Answers.{FoundAt}
 use Rattle.layout.specs.Layout.{word-bytes, log-words, log-at}
@@ -21,7 +21,7 @@ log-at-place s place = s .bricks .log (s .ids place)
 -- the brick at one place gets the chunk that the one at another holds, after its other chunks
 abbrev pub brought : State → ℕ → ℕ → ℕ → Bool → State
 brought s from to key saved =
-    with-chunks s (s .ids to) (append (log-at-place s to) (chunk key saved (bytes-in (log-at-place s from) key)))
+    with-chunks s (s .ids to) (append (log-at-place s to) (new-chunk key saved (bytes-in (log-at-place s from) key)))
 
 -- ---- what the steps ask and say
 -- the brick at one place holds the chunk in this row, and the log of the one at the other has room

@@ -4,7 +4,7 @@ ghost use Prim.Native.Nat.{_+_, _/_, _<_, _≤_};
 ghost use lib.ListN.{length};
 ghost use Rattle.lists.specs.Runs.{on-run};
 ghost use Rattle.words.specs.Words.{words};
-ghost use Rattle.rules.proofs.Limits.{Limits};
+ghost use Rattle.rules.specs.Limits.{Limits};
 ghost use Rattle.log.specs.Steps.{with-next};
 ghost use Rattle.layout.specs.Layout.{log-words, store-words, log-at};
 ghost use Rattle.layout.specs.Store.{decode, render};

@@ -8,8 +8,8 @@ use Rattle.lists.specs.Tests.{count-below}
 use Rattle.words.specs.Words.{words}
 use Rattle.rules.specs.declared.settings.Settings.{Settings}
 use Rattle.rules.specs.State.{State}
-use Rattle.rules.specs.Pairs.{Slots, at}
-use Rattle.rules.specs.Parts.{is-up}
+use Rattle.rules.specs.Pairs.{Assignments, id-in}
+use Rattle.rules.specs.Derived.{is-up}
 use Rattle.rules.specs.Views.{view-pairs, viewed-bucket, view-effect}
 use Rattle.codec.specs.Codec.{change}
 use Rattle.codec.proofs.Focus.{_through_}
@@ -37,15 +37,15 @@ heading s view started = record {
   known = s .known;
 }
 
-abbrev paired : State → Slots → State
-paired s slots = record {
+abbrev paired : State → Assignments → State
+paired s assigned = record {
   settings = s .settings;
   ids = s .ids;
   given = s .given;
   view = s .view;
   started = s .started;
   bricks = s .bricks;
-  bucket = λ g. viewed-bucket (at slots (2 * g)) (at slots (2 * g + 1)) (s .bucket g);
+  bucket = λ g. viewed-bucket (id-in assigned (2 * g)) (id-in assigned (2 * g + 1)) (s .bucket g);
   bag = s .bag;
   items = s .items;
   known = s .known;
@@ -71,15 +71,15 @@ module _ (c : Settings) (bs : List ℕ) (v : StoreOf c bs) (started : ℕ) where
       ∙ sym (again-word (words bs) sd (head-in own through started-in) first head-written refl refl (refl, (((refl, refl), refl), refl)))
 
   -- the header and the buckets' records
-  abbrev pub records-written : Slots → State
-  records-written slots = paired head-written slots
+  abbrev pub records-written : Assignments → State
+  records-written assigned = paired head-written assigned
 
   -- and the places, from byte o to byte e: the whole effect
-  pub viewed : (slots : Slots) → started ≡ count-below (c .places) (is-up s) → slots ≡ view-pairs s → (vs : List ℕ)
-      → words vs ≡ render (records-written slots) (words bs) → length vs ≡ length bs → (o e : ℕ) → o ≡ 8 * places-at c → e ≡ o + 8 * all-places-codec c .size
+  pub viewed : (assigned : Assignments) → started ≡ count-below (c .places) (is-up s) → assigned ≡ view-pairs s → (vs : List ℕ)
+      → words vs ≡ render (records-written assigned) (words bs) → length vs ≡ length bs → (o e : ℕ) → o ≡ 8 * places-at c → e ≡ o + 8 * all-places-codec c .size
       → (part : List ℕ) → length part ≡ e - o → words part ≡ change (all-places-codec c) (λ places p. begun (places p)) (words (take (e - o) (drop o vs)))
       → words (take o vs ++ (part ++ drop (e - o) (drop o vs))) ≡ render (view-effect s) (words bs)
   unfolding view-effect
-  viewed slots es ep vs w l o e eo ee part lp et =
-      places-changed c bs v (records-written slots) refl refl vs w l o e eo ee (view-effect s) refl (rw (es, ← settings-are c bs v) refl) (rw ep refl) refl refl
+  viewed assigned es ep vs w l o e eo ee part lp et =
+      places-changed c bs v (records-written assigned) refl refl vs w l o e eo ee (view-effect s) refl (rw (es, ← settings-are c bs v) refl) (rw ep refl) refl refl
       begun refl part lp et

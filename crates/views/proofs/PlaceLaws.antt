@@ -9,11 +9,11 @@ use Rattle.lists.proofs.Rows.{count-cons}
 use Rattle.rules.specs.declared.settings.Settings.{Settings}
 use Rattle.codec.specs.Codec.{Clean, change}
 use Rattle.codec.proofs.Changes.{part-written}
-use Rattle.codec.proofs.Focus.{slot-none}
-use Rattle.layout.specs.Disk.{Status, Place}
+use Rattle.codec.proofs.Focus.{if-present-none}
+use Rattle.layout.specs.Contents.{Status, Place}
 use Rattle.layout.specs.Layout.{brick-codec, place-codec, buffer-codec, place-words, buffer-at}
 use Rattle.layout.proofs.Foci.{buffer-of}
-use Rattle.parts.specs.Parts.{with-status}
+use Rattle.records.specs.Records.{with-status}
 use Rattle.views.specs.Begin.{begun-status, begun}
 
 module _ (c : Settings) (w : List ℕ) (h : length w ≡ place-words c) where
@@ -21,7 +21,7 @@ module _ (c : Settings) (w : List ℕ) (h : length w ≡ place-words c) where
   pub begin-empty : place-codec c .dec w .fst ≡ 0 → w ≡ change (place-codec c) begun w
   begin-empty z =
       count-cons w (omega arith)
-      ∙ ap (λ (v : List ℕ). getD w 0 0 ∷ v) (sym (slot-none (brick-codec c) (getD w 0 0) (begun (place-codec c .dec w) .snd) (drop 1 w) z))
+      ∙ ap (λ (v : List ℕ). getD w 0 0 ∷ v) (sym (if-present-none (brick-codec c) (getD w 0 0) (begun (place-codec c .dec w) .snd) (drop 1 w) z))
 
   -- one with a brick: its status is written, then its buffer emptied
   pub begin-brick : Clean (place-codec c) w → 0 < place-codec c .dec w .fst → (s : Status) → s ≡ begun-status (place-codec c .dec w .snd .status)

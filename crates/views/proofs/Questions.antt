@@ -7,7 +7,7 @@ use borrow.Author.Tests.{ltb-true}
 use Rattle.lists.specs.Tests.{_and_, count-below}
 use Rattle.words.specs.Words.{words}
 use Rattle.rules.specs.declared.settings.Settings.{Settings}
-use Rattle.rules.specs.Limits.{max-number}
+use Rattle.rules.specs.Limits.{max-view-or-order}
 use Rattle.rules.specs.State.{State}
 use Rattle.rules.specs.Question.{first-no}
 use Rattle.rules.specs.Views.{view-asks}
@@ -25,6 +25,6 @@ module _ (c : Settings) (bs : List ℕ) (v : StoreOf c bs) where
   count-of staying n e = e ∙ ap (λ (x : Settings). count-below (x .places) (counted staying s)) (sym (settings-are c bs v))
 
   -- a view number is left
-  pub view-yes : first-no (view-asks s) ≡ 0 → s .view < max-number
+  pub view-yes : first-no (view-asks s) ≡ 0 → s .view < max-view-or-order
   unfolding _and_
-  view-yes e = ltb-true (s .view) max-number (all-yes (view-asks s) refl e .0)
+  view-yes e = ltb-true (s .view) max-view-or-order (all-yes (view-asks s) refl e .0)

@@ -15,7 +15,7 @@ use Rattle.words.specs.Words.{words}
 use Rattle.rules.specs.declared.settings.Settings.{Settings}
 use Rattle.rules.specs.State.{State}
 use Rattle.rules.specs.Pairs.{ids-of}
-use Rattle.rules.proofs.Parts.{ids-in}
+use Rattle.rules.proofs.Derived.{ids-in}
 use Rattle.rules.proofs.Ids.{Lowest, lowest-none, lowest-first}
 use Rattle.layout.specs.Store.{decode}
 use Rattle.lent.specs.Stores.{StoreOf}
@@ -28,7 +28,7 @@ module _ (c : Settings) (bs : List ℕ) (v : StoreOf c bs) where
   standing : (i : ℕ) → decode (words bs) .bricks .up i ≡ true → (q : ℕ) × (q < c .places) × (decode (words bs) .ids q ≡ i)
   standing i y =
       let b = facts c bs v .bricks in
-      let t = b .somewhere i (b .up-here i y) in
+      let t = b .somewhere i (b .up-present i y) in
       (t .0, omega (arith, t .1, ap (λ (x : Settings). x .places) (settings-are c bs v)), t .2)
 
   pub next-found : (from least : ℕ) → 0 < from → from ≤ ids → Lowest (decode (words bs) .ids) (decode (words bs) .bricks .up) from ids (c .places) least

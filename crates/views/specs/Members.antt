@@ -7,7 +7,7 @@ use Rattle.lists.specs.Tests.{_and_, only, within}
 use Rattle.rules.specs.Limits.{max-id}
 use Rattle.rules.specs.State.{State}
 use Rattle.rules.specs.Pairs.{ids-of}
-use Rattle.rules.specs.Parts.{is-up}
+use Rattle.rules.specs.Derived.{is-up}
 
 -- ids are below this
 abbrev pub ids : ℕ

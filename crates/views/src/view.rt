@@ -18,7 +18,7 @@ fn asks(store: &[u8], settings: Settings) -> u64
     requires { ⌜ StoreOf settings (now store) ⌝ }
     ensures { λ r. ⌜ r ≡ first-no (view-asks (decode (words (now (store .entry))))) ⌝ }
 {
-    if constants::MAX_NUMBER <= lent::store::view(store, settings) {
+    if constants::MAX_VIEW_OR_ORDER <= lent::store::view(store, settings) {
         return 12;
     }
     if members::count(store, settings, false) <= 1 {

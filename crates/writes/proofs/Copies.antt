@@ -7,19 +7,19 @@ use native.Mathlib.Omega.{arith}
 use lib.Dec.{eqb, ltb, leb}
 use lib.ListN.{length}
 use borrow.Author.Tests.{eq-eqb, ne-eqb, lt-ltb, le-ltb, le-leb, ltb-true}
-use Rattle.lists.specs.Tests.{_and_, some}
+use Rattle.lists.specs.Tests.{_and_, any}
 use Rattle.lists.proofs.Tests.{and-l, both, clash, no-first, or-l, or-r, or-no}
 use Rattle.words.specs.Words.{words}
 use Rattle.rules.specs.declared.settings.Settings.{Settings}
 use Rattle.rules.specs.Limits.{max-id}
 use Rattle.rules.specs.Numbers.{home-of}
-use Rattle.rules.specs.Chunks.{chunk, append, held, bytes-in}
+use Rattle.rules.specs.Chunks.{new-chunk, append, held, bytes-in}
 use Rattle.rules.specs.State.{State}
-use Rattle.rules.specs.Parts.{up-member}
+use Rattle.rules.specs.Derived.{up-member}
 use Rattle.rules.specs.Question.{AllYes}
 use Rattle.rules.specs.Writes.{target, nothing-to-copy, copy-asks, copy-effect}
 use Rattle.log.specs.Answers.{FoundAt}
-use Rattle.layout.specs.Disk.{Brick, blank-brick}
+use Rattle.layout.specs.Contents.{Brick, blank-brick}
 use Rattle.layout.specs.Store.{brick-in, decode, render}
 use Rattle.lent.specs.Stores.{StoreOf}
 use Rattle.lent.specs.Places.{Stands, with-chunks}
@@ -42,7 +42,7 @@ module _ (c : Settings) (s : State) (key : ℕ) where
 
   -- a brick that stands nowhere holds nothing, and is not up
   pub none-held : (id : ℕ) → brick-in s id ≡ blank-brick → held (s .bricks .log id) key ≡ false
-  unfolding held some
+  unfolding held any
   none-held id e = ap (λ (b : Brick). held (b .log) key) e
 
   pub none-up : {A : Type 0} (id : ℕ) → brick-in s id ≡ blank-brick → up-member s id ≡ true → A
@@ -96,7 +96,7 @@ module _ (c : Settings) (bs : List ℕ) (so : StoreOf c bs) (key : ℕ) where
           ∙ rw (target-lacks c s key place at)
         where
           to-place : ℕ → ℕ → State
-          to-place to id = with-chunks s to (append (s .bricks .log to) (chunk key false (bytes-in (s .bricks .log id) key)))
+          to-place to id = with-chunks s to (append (s .bricks .log to) (new-chunk key false (bytes-in (s .bricks .log id) key)))
 
   pub none-copied : nothing-to-copy s key ≡ true → words bs ≡ render (copy-effect s key) (words bs)
   unfolding copy-effect

@@ -14,7 +14,7 @@ use Rattle.log.proofs.Codec.{dec-length}
 use Rattle.codec.specs.Codec.{change}
 use Rattle.codec.proofs.Focus.{part-length}
 use Rattle.codec.proofs.Changes.{part-stays, value-changed}
-use Rattle.layout.specs.Disk.{Place}
+use Rattle.layout.specs.Contents.{Place}
 use Rattle.layout.specs.Layout.{log-codec, place-codec, log-words, log-at}
 use Rattle.layout.specs.Store.{decode}
 use Rattle.layout.proofs.Foci.{log-of}

@@ -23,11 +23,11 @@ use Rattle.rules.specs.Writes.{put-asks, new-key, raised, put-effect}
 use Rattle.codec.specs.Codec.{change}
 use Rattle.codec.proofs.Focus.{Focus}
 use Rattle.tables.specs.Tables.{Sorted}
-use Rattle.entries.specs.Words.{entry-words}
+use Rattle.entries.specs.Entries.{entry-words}
 use Rattle.entries.proofs.Words.{takes-room}
-use Rattle.layout.specs.Disk.{Status, Place}
-use Rattle.layout.specs.Layout.{items-codec, disk-codec, proxy-at, items-at}
-use Rattle.layout.specs.Store.{to-disk, decode, render}
+use Rattle.layout.specs.Contents.{Status, Place}
+use Rattle.layout.specs.Layout.{items-codec, store-codec, proxy-at, items-at}
+use Rattle.layout.specs.Store.{contents-of, decode, render}
 use Rattle.layout.proofs.Foci.{items-focus}
 use Rattle.lent.specs.Stores.{StoreOf}
 use Rattle.lent.proofs.Stores.{settings-are, facts}
@@ -147,10 +147,10 @@ module _ {c : Settings} {bs : List ℕ} (so : StoreOf c bs) {proxy place block :
   abbrev between : State
   between = put-bricks old id bytes
 
-  abbrev items : Focus (disk-codec c) items-codec
+  abbrev items : Focus (store-codec c) items-codec
   items = items-focus c proxy (may .proxy-in)
 
-  here : items .Else (to-disk old) (to-disk old)
+  here : items .Else (contents-of old) (contents-of old)
   here = ((((refl, refl), refl), λ j l z. refl), refl)
 
   still : items-codec .dec (words (take (e - o) (drop o v))) ≡ old .items proxy

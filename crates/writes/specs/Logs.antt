@@ -5,12 +5,12 @@ use mathlib.Core.Bool.{false}
 use Prim.Native.Nat.{ℕ}
 use lib.ListN.{length}
 use Rattle.rules.specs.declared.settings.Settings.{Settings}
-use Rattle.rules.specs.Chunks.{Chunk, chunk, append}
+use Rattle.rules.specs.Chunks.{Chunk, new-chunk, append}
 use Rattle.transfer.specs.Brings.{LogRoom}
 
 -- one unsaved chunk more
 abbrev pub with-chunk : ℕ → List ℕ → List Chunk → List Chunk
-with-chunk key bytes log = append log (chunk key false bytes)
+with-chunk key bytes log = append log (new-chunk key false bytes)
 
 -- len bytes, with the words w, are a place whose log has room for the chunk
 pub record AppendFits (c : Settings) (w : List ℕ) (len : ℕ) (bytes : List ℕ) : Type 0 where

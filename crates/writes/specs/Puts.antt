@@ -12,13 +12,13 @@ use Rattle.rules.specs.declared.settings.Settings.{Settings}
 use Rattle.rules.specs.Limits.{max-items, ceiling-step}
 use Rattle.rules.specs.Numbers.{sequences, is-data}
 use Rattle.rules.specs.State.{State, set-bricks}
-use Rattle.rules.specs.Parts.{up-member}
+use Rattle.rules.specs.Derived.{up-member}
 use Rattle.rules.specs.Question.{Question, _asks_, is-proxy, is-block, belongs, has-item}
 use Rattle.rules.specs.Writes.{new-key, raised, put-effect}
-use Rattle.layout.specs.Disk.{Status, Place}
+use Rattle.layout.specs.Contents.{Status, Place}
 use Rattle.layout.specs.Layout.{place-codec, log-words, log-at}
 use Rattle.layout.specs.Store.{decode, render}
-use Rattle.parts.specs.Parts.{with-status}
+use Rattle.records.specs.Records.{with-status}
 use Rattle.lent.specs.Places.{HoldsBrick, on-log}
 use Rattle.writes.specs.Logs.{with-chunk}
 
@@ -54,7 +54,7 @@ abbrev pub put-bricks : State → ℕ → List ℕ → State
 put-bricks s id bytes =
     let old = s .bricks in
     set-bricks s (record {
-      here = old .here;
+      present = old .present;
       up = old .up;
       member = old .member;
       began = old .began;

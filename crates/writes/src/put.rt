@@ -22,7 +22,7 @@ use lent::Answer;
 use lent::place;
 use lent::place::Span;
 use lent::proxy;
-use parts::status::Status;
+use records::status::Status;
 use rules::constants;
 use rules::numbers::BlockNumber;
 use rules::numbers::ChunkKey;
@@ -99,7 +99,7 @@ fn put_place(part: &mut [u8], settings: Settings, key: ChunkKey, bytes: &[u8])
     requires { ⌜ PutFits settings (words (now part)) (length (now part)) (now bytes) ⌝ }
     ensures { λ _. ⌜ words (now (part .exit)) ≡ change (place-codec settings) (put-in (key .0) (now (bytes .entry))) (words (now (part .entry))) ⌝ }
 {
-    let old = parts::place::read_status(part, settings);
+    let old = records::place::read_status(part, settings);
     let new = Status {
         up: old.up,
         member: old.member,
@@ -107,7 +107,7 @@ fn put_place(part: &mut [u8], settings: Settings, key: ChunkKey, bytes: &[u8])
         next: old.next + 1,
         ceiling: raised(old.next, old.ceiling),
     };
-    parts::place::write_status(part, settings, new);
+    records::place::write_status(part, settings, new);
     grow::append(part, settings, key, bytes);
 }
 

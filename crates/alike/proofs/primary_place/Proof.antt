@@ -1,7 +1,7 @@
 use mathlib.Core.Path.{ap, subst}
 use Prim.Native.Nat.{ℕ}
 use Rattle.words.specs.Words.{words}
-use Rattle.layout.specs.Disk.{Agreed}
+use Rattle.layout.specs.Contents.{Agreed}
 use Rattle.layout.specs.Store.{decode}
 use Rattle.lent.specs.Places.{PlaceOf}
 use borrow.Author.Needs.{needs}

@@ -2,7 +2,7 @@ use mathlib.Core.Path.{_∙_}
 use native.Mathlib.Omega.{arith}
 use Rattle.words.specs.Words.{words}
 use Rattle.words.proofs.Laws.{length-words}
-use Rattle.layout.specs.Disk.{relay}
+use Rattle.layout.specs.Contents.{relay}
 use Rattle.bag.proofs.Laws.{append-leaves}
 use borrow.Author.Needs.{needs}
 use Rattle.bag.proofs.append.Statement.{statement}

@@ -5,7 +5,7 @@ use lib.ListN.{length, getD}
 use Rattle.lists.specs.Runs.{on-run}
 use Rattle.words.specs.Words.{words}
 use Rattle.words.proofs.Laws.{room}
-use Rattle.entries.specs.Words.{entries-words}
+use Rattle.entries.specs.Entries.{entries-words}
 use Rattle.rules.specs.Limits.{buckets}
 use Rattle.buffers.proofs.Drained.{drained, drain-start, still-sorted, drain-turn, drain-end}
 use native.Mathlib.Numerals.{add-one}

@@ -2,7 +2,7 @@ use mathlib.Core.Path.{_≡_, refl, sym, _∙_}
 use Prim.Native.Nat.{_+_, _*_, _-_}
 use native.Mathlib.Omega.{arith}
 use lib.ListN.{length, take, drop}
-use Rattle.rules.specs.Entries.{entry, take-in}
+use Rattle.rules.specs.Entries.{entry, insert-if-room}
 use Rattle.lists.proofs.Runs.{run-length}
 use Rattle.words.proofs.Laws.{words-part, lent-run}
 use Rattle.buffers.specs.Steps.{drained-at}
@@ -80,7 +80,7 @@ returns c =
       ← after-read2 .read2
           .ensures,
     ) (lent-run v (after-insert-or-drop .insert-or-drop .last .0) o k (s .args .copy) (1 + s .args .most * 2)
-    (change (entries-codec (s .args .most)) (λ l. take-in (s .args .most) l x)) refl (omega arith) (omega arith) (omega arith)
+    (change (entries-codec (s .args .most)) (λ l. insert-if-room (s .args .most) l x)) refl (omega arith) (omega arith) (omega arith)
     (after-insert-or-drop .insert-or-drop .ensures))
 
 same-length-2 : tie.Need-same-length-2

@@ -6,9 +6,9 @@ use lib.ListN.{length, getD, set}
 use Rattle.words.specs.Words.{words}
 use Rattle.words.proofs.Laws.{length-words}
 use Rattle.rules.specs.Limits.{buckets}
-use Rattle.tables.specs.Tables.{kept, sifting}
+use Rattle.tables.specs.Tables.{kept-rows, sifting}
 use Rattle.tables.proofs.Changes.{sift-start, no-kept}
-use Rattle.buffers.specs.Steps.{stays}
+use Rattle.buffers.specs.Steps.{row-stays}
 use Rattle.buffers.proofs.Sifted.{buffer-low, buffer-turn, buffer-next, buffer-end}
 use native.Mathlib.Numerals.{add-one}
 use borrow.Author.Needs.{needs}
@@ -17,8 +17,8 @@ use Rattle.buffers.proofs.drop_bucket.Tie as tie
 
 abbrev Inv-loop : tie.InvT-loop
 Inv-loop t₀ most settings g n o₀ i₀ t o i =
-    (i ≤ n) × (n ≡ getD (words t₀) 0 0) × (length t ≡ length t₀) × (o ≡ length (kept 2 (stays (buckets settings) g) i (words t₀)))
-    × (words t ≡ sifting 2 (stays (buckets settings) g) i (words t₀))
+    (i ≤ n) × (n ≡ getD (words t₀) 0 0) × (length t ≡ length t₀) × (o ≡ length (kept-rows 2 (row-stays (buckets settings) g) i (words t₀)))
+    × (words t ≡ sifting 2 (row-stays (buckets settings) g) i (words t₀))
 
 abbrev μ-loop : tie.MeasureT-loop
 μ-loop t₀ most settings g n o₀ i₀ t o i = n - i
@@ -29,7 +29,7 @@ read-requires c κs = search needs
 loop-holds : tie.Need-loop-holds Inv-loop μ-loop
 loop-holds c =
     let s : tie.Start Inv-loop μ-loop = search in
-    let k = stays (buckets (s .args .settings)) (s .args .g) in (
+    let k = row-stays (buckets (s .args .settings)) (s .args .g) in (
       search needs,
       search needs,
       search needs,

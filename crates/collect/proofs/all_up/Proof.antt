@@ -7,7 +7,7 @@ use borrow.Author.Tests.{not-true, not-false}
 use Rattle.lists.specs.Tests.{_or_}
 use Rattle.lists.proofs.Tests.{all-true, all-false}
 use Rattle.words.specs.Words.{words}
-use Rattle.rules.specs.Parts.{is-empty, up-member}
+use Rattle.rules.specs.Derived.{is-empty, up-member}
 use Rattle.layout.specs.Store.{decode}
 use borrow.Author.Needs.{needs}
 use Rattle.collect.proofs.all_up.Statement.{statement}

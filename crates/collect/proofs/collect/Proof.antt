@@ -4,7 +4,7 @@ use Rattle.words.specs.Words.{words}
 use Rattle.rules.specs.declared.settings.Settings.{Settings}
 use Rattle.rules.specs.Event.{Event}
 use Rattle.rules.specs.Limits.{buckets}
-use Rattle.rules.specs.Parts.{calm}
+use Rattle.rules.specs.Derived.{nothing-pending}
 use Rattle.rules.specs.Step.{rule}
 use Rattle.rules.specs.Upkeep.{collect-asks}
 use Rattle.rules.proofs.Questions.{all-yes, front-none}
@@ -42,7 +42,7 @@ collect-log-requires c κs =
       store = b .pre;
       inside = y .inside;
       some = y .filled;
-      calm = ap (λ (d : Settings). all-below (buckets d) (λ g. calm (s .bucket g))) (sym (settings-are k bs (b .pre)))
+      nothing-pending = ap (λ (d : Settings). all-below (buckets d) (λ g. nothing-pending (s .bucket g))) (sym (settings-are k bs (b .pre)))
           ∙ all-yes (collect-asks s (b .args .place)) refl none .1 .1 .1 .0;
     }
 

@@ -5,7 +5,7 @@ use Rattle.lists.specs.Tests.{_or_, all-below}
 use Rattle.words.specs.Words.{words}
 use Rattle.rules.specs.declared.settings.Settings.{Settings}
 use Rattle.rules.specs.Limits.{buckets}
-use Rattle.rules.specs.Parts.{is-empty, up-member, calm}
+use Rattle.rules.specs.Derived.{is-empty, up-member, nothing-pending}
 use Rattle.rules.proofs.Questions.{first-yes, first-stop, none-asked}
 use Rattle.layout.specs.Store.{decode}
 use Rattle.lent.proofs.Stores.{settings-are}
@@ -22,13 +22,13 @@ ups c q =
     ap (λ (d : Settings). all-below (d .places) (λ p. is-empty s p or up-member s (s .ids p))) (settings-are (b .args .settings) (b .args .store .now) (b .pre))
     ∙ sym (c .all-up .ensures) ∙ q
 
-calms : (c : tie.After-all-calm) {x : Bool} → c .all-calm .result ≡ x
-    → let s = decode (words (c .before .before .before .before .args .store .now)) in all-below (buckets (s .settings)) (λ g. calm (s .bucket g)) ≡ x
+calms : (c : tie.After-all-nothing-pending) {x : Bool} → c .all-nothing-pending .result ≡ x
+    → let s = decode (words (c .before .before .before .before .args .store .now)) in all-below (buckets (s .settings)) (λ g. nothing-pending (s .bucket g)) ≡ x
 calms c q =
     let b : tie.Start = search in
     let s = decode (words (b .args .store .now)) in
-    ap (λ (d : Settings). all-below (buckets d) (λ g. calm (s .bucket g))) (settings-are (b .args .settings) (b .args .store .now) (b .pre))
-    ∙ sym (c .all-calm .ensures) ∙ q
+    ap (λ (d : Settings). all-below (buckets d) (λ g. nothing-pending (s .bucket g))) (settings-are (b .args .settings) (b .args .store .now) (b .pre))
+    ∙ sym (c .all-nothing-pending .ensures) ∙ q
 
 all-up-requires : tie.Need-all-up-requires
 all-up-requires c κs = search needs
@@ -36,8 +36,8 @@ all-up-requires c κs = search needs
 returns : tie.Need-returns
 returns c = sym (first-stop 13 _ (ups (c .before) (not-true _ (c .if1 .taken))))
 
-all-calm-requires : tie.Need-all-calm-requires
-all-calm-requires c κs = search needs
+all-nothing-pending-requires : tie.Need-all-nothing-pending-requires
+all-nothing-pending-requires c κs = search needs
 
 returns-2 : tie.Need-returns-2
 returns-2 c =
@@ -49,14 +49,14 @@ no-items-requires c κs = search needs
 
 returns-3 : tie.Need-returns-3
 returns-3 c =
-    let calm : tie.Else2 = search in let up : tie.Else1 = search in
-    sym (first-yes 13 _ (ups (up .before) (not-false _ (up .if1 .left))) ∙ first-yes 13 _ (calms (calm .before) (not-false _ (calm .if2 .left)))
+    let nothing-pending : tie.Else2 = search in let up : tie.Else1 = search in
+    sym (first-yes 13 _ (ups (up .before) (not-false _ (up .if1 .left))) ∙ first-yes 13 _ (calms (nothing-pending .before) (not-false _ (nothing-pending .if2 .left)))
     ∙ first-yes 13 _ (sym (c .before .no-items .ensures) ∙ c .if3 .taken) ∙ none-asked)
 
 returns-4 : tie.Need-returns-4
 returns-4 c =
-    let calm : tie.Else2 = search in let up : tie.Else1 = search in
-    sym (first-yes 13 _ (ups (up .before) (not-false _ (up .if1 .left))) ∙ first-yes 13 _ (calms (calm .before) (not-false _ (calm .if2 .left)))
+    let nothing-pending : tie.Else2 = search in let up : tie.Else1 = search in
+    sym (first-yes 13 _ (ups (up .before) (not-false _ (up .if1 .left))) ∙ first-yes 13 _ (calms (nothing-pending .before) (not-false _ (nothing-pending .if2 .left)))
     ∙ first-stop 13 _ (sym (c .before .no-items .ensures) ∙ c .if3 .left))
 
 pub idle-asks-spec : {M : Type 1} → statement M
@@ -65,7 +65,7 @@ idle-asks-spec =
     (tie.spec
     all-up-requires
     returns
-    all-calm-requires
+    all-nothing-pending-requires
     returns-2
     no-items-requires
     returns-3

@@ -4,7 +4,7 @@ use native.Mathlib.Omega.{arith}
 use Rattle.words.specs.Words.{words}
 use Rattle.words.proofs.Laws.{length-words}
 use Rattle.codec.proofs.Loops.{table-cleared}
-use Rattle.layout.specs.Disk.{entry-row}
+use Rattle.layout.specs.Contents.{entry-row}
 use borrow.Author.Needs.{needs}
 use Rattle.entries.proofs.clear.Statement.{statement}
 use Rattle.entries.proofs.clear.Tie as tie

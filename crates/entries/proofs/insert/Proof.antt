@@ -38,7 +38,7 @@ insert-row-requires c κs =
     (after-find .find .ensures) in
     let r = gap-room (s .args .most) (words (s .args .t .now)) (length (s .args .t .now)) (length-words (s .args .t .now) ∙ omega arith) (s .pre .0)
     (s .args .b .0) (after-p2 .p2 .given .0 .0) g (s .pre .1) in
-    (record { few = s .pre .0 .few; size = s .pre .0 .size }, (g .place .within, r, refl))
+    (record { few = s .pre .0 .few; size = s .pre .0 .size }, (g .bound .within, r, refl))
 
 same-length : tie.Need-same-length
 same-length c = search needs

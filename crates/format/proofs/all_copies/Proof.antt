@@ -11,7 +11,7 @@ use Rattle.rules.specs.Limits.{buckets}
 use Rattle.layout.specs.Layout.{copies-codec, copies-words}
 use Rattle.layout.proofs.Codecs.{copies-law}
 use Rattle.layout.proofs.Lent.{lent-turn}
-use Rattle.layout.specs.Disk.{blank-copies}
+use Rattle.layout.specs.Contents.{blank-copies}
 use Rattle.format.proofs.all_copies.Statement.{statement}
 use Rattle.format.proofs.all_copies.Tie as tie
 

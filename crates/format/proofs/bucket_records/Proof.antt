@@ -8,7 +8,7 @@ use Rattle.words.specs.Words.{words}
 use Rattle.words.proofs.Laws.{length-words}
 use Rattle.codec.specs.Codec.{enc-many}
 use Rattle.codec.proofs.Loops.{written, loop-start, loop-end}
-use Rattle.layout.specs.Disk.{Agreed}
+use Rattle.layout.specs.Contents.{Agreed}
 use Rattle.layout.specs.Layout.{agreed-codec, agreed-words}
 use Rattle.layout.proofs.Codecs.{agreed-law}
 use Rattle.layout.proofs.Lent.{lent-turn}
@@ -17,11 +17,11 @@ use Rattle.format.proofs.bucket_records.Statement.{statement}
 use Rattle.format.proofs.bucket_records.Tie as tie
 
 abbrev Inv-loop : tie.InvT-loop
-Inv-loop s₀ slots count g₀ s g =
-    (g ≤ count) × (length s ≡ length s₀) × (words s ≡ written agreed-codec g (agreed-in slots) (words s₀))
+Inv-loop s₀ assigned count g₀ s g =
+    (g ≤ count) × (length s ≡ length s₀) × (words s ≡ written agreed-codec g (agreed-in assigned) (words s₀))
 
 abbrev μ-loop : tie.MeasureT-loop
-μ-loop s₀ slots count g₀ s g = count - g
+μ-loop s₀ assigned count g₀ s g = count - g
 
 buckets-requires : tie.Need-buckets-requires Inv-loop μ-loop
 buckets-requires c κs = search needs
@@ -30,7 +30,7 @@ loop-holds : tie.Need-loop-holds Inv-loop μ-loop
 loop-holds c =
     let b = c .before .before .before in
     let s = b .args .s .now in
-    let f = agreed-in (b .args .slots .now) in
+    let f = agreed-in (b .args .assigned .now) in
     (search needs, search needs, loop-start agreed-codec agreed-law (c .buckets .result) f (words s) (length-words s ∙ omega arith))
 
 offset-requires : tie.Need-offset-requires Inv-loop μ-loop
@@ -100,7 +100,7 @@ loop-again c =
     let o = 8 * at-offset .offset .result in
     let n : ℕ = o + 8 * agreed-words - o in
     let put = v .write .ensures ∙ ap (λ (a : Agreed). agreed-codec .enc a (words (take n (drop o (l .s))))) (v .before .before .first-agreed .ensures) in
-    let turn = lent-turn agreed-codec agreed-law count (agreed-in (b .args .slots .now)) (words s0)
+    let turn = lent-turn agreed-codec agreed-law count (agreed-in (b .args .assigned .now)) (words s0)
     (length-words s0 ∙ omega arith) (l .g) (omega arith) (l .s) (v .write .last .0) o n
     (omega arith) (omega arith) (omega arith) (omega arith) (l .inv .2) put in
     (search needs, search needs, turn)
@@ -112,7 +112,7 @@ returns : tie.Need-returns Inv-loop μ-loop
 returns c =
     let b = c .before .before .before .before .before in
     let s0 = b .args .s .now in
-    let f = agreed-in (b .args .slots .now) in
+    let f = agreed-in (b .args .assigned .now) in
     let n = c .before .before .buckets in
     let e : c .before .loop .g ≡ n .result = omega arith in
     rw e at (c .before .loop .inv .2)

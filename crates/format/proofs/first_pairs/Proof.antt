@@ -25,7 +25,7 @@ assign-requires : tie.Need-assign-requires
 assign-requires c κs =
     let b = c .before .before .before .before .before in
     let e = c .buckets .ensures in
-    let long : length (b .args .slots .now) ≡ 2 * buckets (b .args .settings) = ap length (b .pre .1) ∙ length-replicate _ 0 in
+    let long : length (b .args .assigned .now) ≡ 2 * buckets (b .args .settings) = ap length (b .pre .1) ∙ length-replicate _ 0 in
     (omega arith, omega (arith, few-buckets (b .args .settings)), ids-few (b .args .settings .places - 0))
 
 same-length : tie.Need-same-length

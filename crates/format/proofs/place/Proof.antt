@@ -4,9 +4,9 @@ use Prim.Native.Nat.{ℕ, _*_, _-_}
 use native.Mathlib.Omega.{arith}
 use Rattle.words.specs.Words.{words}
 use Rattle.words.proofs.Laws.{length-words, lent-run}
-use Rattle.layout.specs.Disk.{blank-copies}
+use Rattle.layout.specs.Contents.{blank-copies}
 use Rattle.layout.specs.Layout.{status-codec, all-copies-codec, status-words, all-copies-at}
-use Rattle.parts.specs.Parts.{status-of}
+use Rattle.records.specs.Records.{status-of}
 use Rattle.format.proofs.First.{place-steps}
 use borrow.Author.Needs.{needs}
 use Rattle.format.proofs.place.Statement.{statement}

@@ -7,7 +7,7 @@ use Rattle.lists.proofs.Runs.{run-length}
 use Rattle.words.specs.Words.{words}
 use Rattle.words.proofs.Laws.{length-words}
 use Rattle.codec.proofs.Loops.{written, loop-start, loop-end}
-use Rattle.layout.specs.Disk.{blank-proxy}
+use Rattle.layout.specs.Contents.{blank-proxy}
 use Rattle.layout.specs.Layout.{proxy-codec, proxy-words}
 use Rattle.layout.proofs.Codecs.{proxy-law}
 use Rattle.layout.proofs.Lent.{lent-turn}

@@ -6,7 +6,7 @@ use lib.ListN.{length, take, drop}
 use Rattle.lists.proofs.Runs.{run-length}
 use Rattle.words.specs.Words.{words}
 use Rattle.words.proofs.Laws.{length-words, lent-run}
-use Rattle.layout.specs.Disk.{blank-proxy}
+use Rattle.layout.specs.Contents.{blank-proxy}
 use Rattle.layout.specs.Layout.{head-codec, all-agreed-codec, all-proxies-codec, all-places-codec, head-words, store-words}
 use Rattle.layout.specs.Layout.{proxies-at, bag-at, places-at}
 use Rattle.layout.proofs.Lent.{lent-length}
@@ -136,7 +136,7 @@ returns c =
     let k3 : length (three .last .0) ≡ n3 = three .kept .0 ∙ run-length o3 n3 s2 (omega arith) in
     let s4 = four .last .0 in
     let e1 = lent-run s0 (one .last .0) 0 64 0 head-words (head-codec .enc (first-head t)) refl refl (omega arith) k1 (one .ensures) in
-    let e2 = lent-run s1 (two .last .0) 64 n2 head-words (all-agreed-codec t .size) (all-agreed-codec t .enc (agreed-in (b .args .slots .now))) refl
+    let e2 = lent-run s1 (two .last .0) 64 n2 head-words (all-agreed-codec t .size) (all-agreed-codec t .enc (agreed-in (b .args .assigned .now))) refl
     (omega arith) (omega arith) (omega arith) (two .ensures) in
     let e3 = lent-run s2 (three .last .0) o3 n3 (pa .result) (all-proxies-codec .size) (all-proxies-codec .enc (λ _. blank-proxy)) refl
     (omega arith) (omega arith) (omega arith) (three .ensures) in
@@ -147,7 +147,7 @@ returns c =
     let k5 : length (five .last .0) ≡ n5 = five .kept .0 ∙ run-length o5 n5 s4 (omega arith) in
     let e5 = lent-run s4 (five .last .0) o5 n5 (qa .result) (all-places-codec t .size) (all-places-codec t .enc first-place) refl
     (omega arith) (omega arith) (omega arith) (five .ensures) in
-    first-steps t (b .args .slots .now) (b .pre .2) (pa .result) (ba .result) (qa .result) (words s0) _ _ _ _ _ (length-words s0 ∙ omega arith) ep eb eq e1 e2 e3 (four .ensures) e5
+    first-steps t (b .args .assigned .now) (b .pre .2) (pa .result) (ba .result) (qa .result) (words s0) _ _ _ _ _ (length-words s0 ∙ omega arith) ep eb eq e1 e2 e3 (four .ensures) e5
 
 pub write-spec : {M : Type 1} → statement M
 write-spec =

@@ -10,24 +10,24 @@ use Rattle.lists.proofs.Tests.{by-eq, either, clash, only-in, one-more}
 use Rattle.lists.proofs.Columns.{upd-same, upd-other, upd-all}
 use Rattle.rules.specs.Limits.{buckets}
 use Rattle.rules.specs.Numbers.{bucket-of}
-use Rattle.rules.specs.Entries.{Entry, entry, look, insert, remove}
+use Rattle.rules.specs.Entries.{Entry, entry, key-for, insert, remove}
 use Rattle.rules.specs.Event.{Event}
 use Rattle.rules.specs.State.{State, Bucket, with-copies}
-use Rattle.rules.specs.Parts.{bucket-no, bucket-at, item}
+use Rattle.rules.specs.Derived.{bucket-no, bucket-at, item}
 use Rattle.rules.specs.Maps.{map-effect, saved-bucket, savemap-effect, item-goes, learn-effect, reset-effect}
 use Rattle.rules.specs.Step.{rule}
 use Rattle.rules.proofs.Step.{Yes}
-use Rattle.rules.proofs.Parts.{bucket-below}
-use Rattle.rules.proofs.Entries.{look-insert}
+use Rattle.rules.proofs.Derived.{bucket-below}
+use Rattle.rules.proofs.Entries.{key-for-insert}
 use Rattle.rules.proofs.Sound.{Sound}
 use Rattle.history.specs.Claim.{History, number}
 use Rattle.history.proofs.History.{number-most}
 use Rattle.history.proofs.Copies.{copies-map, copies-insert, copies-saved}
-use Rattle.history.proofs.Facts.{item-newest, moves-aged}
-use Rattle.history.proofs.Invariant.{Older, Newest, BucketAge, AgeOf, Aged}
+use Rattle.history.proofs.Facts.{item-newest, moves-ageing}
+use Rattle.history.proofs.AgeingInvariant.{Older, Newest, BucketAge, AgeOf, AgeingInvariant}
 
 -- ---- items
-module _ (s : State) (h : History) (v : Aged s h) where
+module _ (s : State) (h : History) (v : AgeingInvariant s h) where
   abbrev NewestIn : List Entry → Type 0
   NewestIn l = (e : Entry) → List·Memᴰ e l → Newest (h .writes) (e .block) (e .key)
 
@@ -36,23 +36,23 @@ module _ (s : State) (h : History) (v : Aged s h) where
   items-go p b = upd-all (λ _. NewestIn) (s .items) p _ (v .items) (λ e m. v .items p e (only-in _ _ m .0))
 
   -- done and abandon
-  pub item-goes-aged : (p b : ℕ) → Aged (item-goes s p b) h
+  pub item-goes-ageing : (p b : ℕ) → AgeingInvariant (item-goes s p b) h
   unfolding item-goes
-  item-goes-aged p b = search (items-go p b)
+  item-goes-ageing p b = search (items-go p b)
 
-  pub learn-aged : (p : ℕ) → Aged (rule s (Event.learn p) .after) h
+  pub learn-ageing : (p : ℕ) → AgeingInvariant (rule s (Event.learn p) .after) h
   unfolding rule learn-effect
-  learn-aged p = search
+  learn-ageing p = search
 
   none-left : (p q : ℕ) → NewestIn (upd (s .items) p [] q)
   none-left p = upd-all (λ _. NewestIn) (s .items) p [] (v .items) (λ e m. absurd (List·Memᴰ·not-nil m))
 
-  pub reset-aged : (p : ℕ) → Aged (rule s (Event.reset p) .after) h
+  pub reset-ageing : (p : ℕ) → AgeingInvariant (rule s (Event.reset p) .after) h
   unfolding rule reset-effect
-  reset-aged p = search (none-left p)
+  reset-ageing p = search (none-left p)
 
 -- ---- map: into the memory of a ready bucket's primary, or into its buffer
-module _ (s : State) (h : History) (v : Aged s h) (o : Sound s) (p b : ℕ) (y : Yes s (Event.map p b)) where
+module _ (s : State) (h : History) (v : AgeingInvariant s h) (o : Sound s) (p b : ℕ) (y : Yes s (Event.map p b)) where
   abbrev own : Bucket
   own = bucket-at s b
 
@@ -87,8 +87,8 @@ module _ (s : State) (h : History) (v : Aged s h) (o : Sound s) (p b : ℕ) (y :
       let apart : own .backup ≡ home → ⊥ = λ e. o .buckets-ok which inside .pair .apart (sym e) in
       let l = insert (own .memory home) b key in
       let at-backup : upd (own .memory) home l (own .backup) ≡ own .memory (own .backup) = upd-other (own .memory) home (own .backup) l apart in
-      let at-primary : (c : ℕ) → look (upd (own .memory) home l home) c ≡ upd (look (own .memory home)) b key c
-      = λ c. rw (upd-same (own .memory) home l) (look-insert (own .memory home) b key c) in
+      let at-primary : (c : ℕ) → key-for (upd (own .memory) home l home) c ≡ upd (key-for (own .memory home)) b key c
+      = λ c. rw (upd-same (own .memory) home l) (key-for-insert (own .memory home) b key c) in
       record {
         same = u .same;
         copies = copies-insert _ (u .copies) home b key (record {
@@ -118,7 +118,7 @@ module _ (s : State) (h : History) (v : Aged s h) (o : Sound s) (p b : ℕ) (y :
       (one-more {P = WaitsNow home} (s .bricks .buffer home) (λ e m. inl m) (inr (refl, refl)))
 
   in-buffer : own .ready ≡ false → (j : ℕ) → j < buckets (s .settings)
-      → BucketAge (h .writes) (h .mark) (buckets (s .settings)) (s .view) (s .bag) buffer′ (s .bricks .here) (s .bricks .member) j (s .bucket j)
+      → BucketAge (h .writes) (h .mark) (buckets (s .settings)) (s .view) (s .bag) buffer′ (s .bricks .present) (s .bricks .member) j (s .bucket j)
   in-buffer unready j z =
       let u = v .buckets j z in
       let bucket-is : (e : Entry) → e ≡ entry b key → bucket-of (buckets (s .settings)) (e .block) ≡ j → which ≡ j
@@ -143,14 +143,14 @@ module _ (s : State) (h : History) (v : Aged s h) (o : Sound s) (p b : ℕ) (y :
         flight = u .flight;
       }
 
-  pub map-aged : Aged (rule s (Event.map p b) .after) h
+  pub map-ageing : AgeingInvariant (rule s (Event.map p b) .after) h
   unfolding rule map-effect
-  map-aged = either (λ (t : State). Aged t h) (own .ready)
-      (λ ready. moves-aged v (v .relays) (upd-all (AgeOf s h) (s .bucket) which _ (v .buckets) (in-memory ready)))
-      (λ unready. moves-aged v (v .relays) (in-buffer unready))
+  map-ageing = either (λ (t : State). AgeingInvariant t h) (own .ready)
+      (λ ready. moves-ageing v (v .relays) (upd-all (AgeOf s h) (s .bucket) which _ (v .buckets) (in-memory ready)))
+      (λ unready. moves-ageing v (v .relays) (in-buffer unready))
 
 -- ---- savemap
-module _ (s : State) (h : History) (v : Aged s h) where
+module _ (s : State) (h : History) (v : AgeingInvariant s h) where
   saved : (x g : ℕ) → AgeOf s h g (saved-bucket x (s .bucket g))
   unfolding upd
   saved x g z =
@@ -169,6 +169,6 @@ module _ (s : State) (h : History) (v : Aged s h) where
         };
       }
 
-  pub savemap-aged : (i : ℕ) → Aged (rule s (Event.savemap i) .after) h
+  pub savemap-ageing : (i : ℕ) → AgeingInvariant (rule s (Event.savemap i) .after) h
   unfolding rule savemap-effect
-  savemap-aged i = moves-aged v (v .relays) (saved (s .ids i))
+  savemap-ageing i = moves-ageing v (v .relays) (saved (s .ids i))

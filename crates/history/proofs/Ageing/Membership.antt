@@ -9,42 +9,42 @@ use Rattle.lists.specs.Columns.{upd}
 use Rattle.lists.proofs.Tests.{by, by-eq, only-in}
 use Rattle.lists.proofs.Columns.{upd-other, upd-all, unflag}
 use Rattle.rules.specs.Limits.{buckets}
-use Rattle.rules.specs.Entries.{Entry, look}
+use Rattle.rules.specs.Entries.{Entry, key-for}
 use Rattle.rules.specs.Chunks.{Chunk, only-saved}
 use Rattle.rules.specs.Event.{Event}
 use Rattle.rules.specs.State.{State, Relay}
-use Rattle.rules.specs.Membership.{crashed-bucket, crash-effect, blank-copies, lose-effect, rise-effect, join-effect}
+use Rattle.rules.specs.Membership.{crashed-bucket, crash-effect, blanked-copies, lose-effect, rise-effect, join-effect}
 use Rattle.rules.specs.Step.{rule}
 use Rattle.rules.proofs.Sound.{Sound, key-stays}
 use Rattle.history.specs.Claim.{History}
 use Rattle.history.proofs.Copies.{ReliedOn, copies-map, copies-crashed, copies-blank}
 use Rattle.history.proofs.Sound.Groups.{next-grows}
 use Rattle.history.proofs.Facts.{not-joined, joined-here, joined-relied, lost-relied, zero-number, readable-fewer, emptied}
-use Rattle.history.proofs.Invariant.{Writes, Older, Honest, Queue, Flight, BucketAge, Aged}
+use Rattle.history.proofs.AgeingInvariant.{Writes, Older, BytesOfWrite, Queue, Flight, BucketAge, AgeingInvariant}
 
 -- a brick that is no member any more, and whose memory shows no later writes
 module _ {w : Writes} {g : ℕ} {memory disk : ℕ → List Entry} {member : ℕ → Bool} {bag : List Relay} {view order taken primary backup : ℕ} {ready : Bool} where
-  flight-struck : (x : ℕ) (memory′ disk′ : ℕ → List Entry) → ((i : ℕ) → (i ≡ x → ⊥) → memory′ i ≡ memory i)
-      → (ready ≡ true → (b : ℕ) → Older w b (look (memory′ backup) b) (look (memory backup) b))
-      → (ready ≡ true → (b : ℕ) → Older w b (look (disk′ backup) b) (look (memory′ backup) b))
+  flight-after-failure : (x : ℕ) (memory′ disk′ : ℕ → List Entry) → ((i : ℕ) → (i ≡ x → ⊥) → memory′ i ≡ memory i)
+      → (ready ≡ true → (b : ℕ) → Older w b (key-for (memory′ backup) b) (key-for (memory backup) b))
+      → (ready ≡ true → (b : ℕ) → Older w b (key-for (disk′ backup) b) (key-for (memory′ backup) b))
       → Queue w g bag view order ready → Flight w g memory disk member bag view taken primary backup ready
       → Flight w g memory′ disk′ (upd member x false) bag view taken primary backup ready
-  flight-struck x memory′ disk′ others lower disk-lower q f = record {
+  flight-after-failure x memory′ disk′ others lower disk-lower q f = record {
     behind = λ r m t. omega (arith, f .behind r m t, lower (q .while-ready r m) (r .block));
     disk-behind = disk-lower;
     leads = λ y r m. let z = unflag member x primary y in rw (others primary (z .1)) (f .leads (z .0) r m);
     ahead = λ y u b. let z = unflag member x primary u in rw (others primary (z .1)) (omega (arith, f .ahead y (z .0) b, lower y b));
   }
 
-module _ (s : State) (h : History) (v : Aged s h) where
+module _ (s : State) (h : History) (v : AgeingInvariant s h) where
   -- ---- rise
-  pub rise-aged : (i : ℕ) → Aged (rule s (Event.rise i) .after) h
+  pub rise-ageing : (i : ℕ) → AgeingInvariant (rule s (Event.rise i) .after) h
   unfolding rule rise-effect
-  rise-aged i = search
+  rise-ageing i = search
 
   -- ---- crash
   crashed : (x g : ℕ) → g < buckets (s .settings)
-      → BucketAge (h .writes) (h .mark) (buckets (s .settings)) (s .view) (s .bag) (upd (s .bricks .buffer) x []) (s .bricks .here)
+      → BucketAge (h .writes) (h .mark) (buckets (s .settings)) (s .view) (s .bag) (upd (s .bricks .buffer) x []) (s .bricks .present)
       (upd (s .bricks .member) x false) g (crashed-bucket x (s .bucket g))
   unfolding upd
   crashed x g z =
@@ -56,17 +56,17 @@ module _ (s : State) (h : History) (v : Aged s h) where
         copies = copies-map _ _ (readable-fewer less) (λ _ r. r) (copies-crashed _ (u .copies) x);
         waiting = λ i e m. u .waiting i e (less i e m);
         queue = u .queue;
-        flight = flight-struck x _ _ (λ i. upd-other (k .memory) x i (k .disk x))
+        flight = flight-after-failure x _ _ (λ i. upd-other (k .memory) x i (k .disk x))
             (λ y b. by-eq (k .backup) x (λ q e. rw (q, ← e) (u .flight .disk-behind y b)) (λ q _. rw q (omega arith)))
             (λ y b. by-eq (k .backup) x (λ q e. rw (q, e) (omega arith)) (λ q _. rw q (u .flight .disk-behind y b))) (u .queue) (u .flight);
       }
 
   abbrev HonestIn : ℕ → List Chunk → Type 0
-  HonestIn _ l = (c : Chunk) → List·Memᴰ c l → Honest (h .writes) (c .key) (c .bytes)
+  HonestIn _ l = (c : Chunk) → List·Memᴰ c l → BytesOfWrite (h .writes) (c .key) (c .bytes)
 
-  pub crash-aged : Sound s → (i : ℕ) → Aged (rule s (Event.crash i) .after) h
+  pub crash-ageing : Sound s → (i : ℕ) → AgeingInvariant (rule s (Event.crash i) .after) h
   unfolding rule crash-effect only-saved
-  crash-aged o i =
+  crash-ageing o i =
       let x = s .ids i in
       record {
         keys = λ b k y. next-grows x _ (o .numbers .below x) (v .keys b k y);
@@ -78,12 +78,12 @@ module _ (s : State) (h : History) (v : Aged s h) where
       }
 
   -- ---- a brick blank in every bucket: one that is lost, or one that joins
-  blank : (x : ℕ) (here′ : ℕ → Bool) (g : ℕ) → g < buckets (s .settings)
-      → ((i : ℕ) → ReliedOn here′ (s .bucket g) i → ReliedOn (s .bricks .here) (s .bucket g) i × (i ≡ x → ⊥))
-      → BucketAge (h .writes) (h .mark) (buckets (s .settings)) (s .view) (s .bag) (upd (s .bricks .buffer) x []) here′
-      (upd (s .bricks .member) x false) g (blank-copies x (s .bucket g))
-  unfolding upd look
-  blank x here′ g z still =
+  blank : (x : ℕ) (present′ : ℕ → Bool) (g : ℕ) → g < buckets (s .settings)
+      → ((i : ℕ) → ReliedOn present′ (s .bucket g) i → ReliedOn (s .bricks .present) (s .bucket g) i × (i ≡ x → ⊥))
+      → BucketAge (h .writes) (h .mark) (buckets (s .settings)) (s .view) (s .bag) (upd (s .bricks .buffer) x []) present′
+      (upd (s .bricks .member) x false) g (blanked-copies x (s .bucket g))
+  unfolding upd key-for
+  blank x present′ g z still =
       let k = s .bucket g in
       let u = v .buckets g z in
       let less = emptied (s .bricks .buffer) x in
@@ -92,7 +92,7 @@ module _ (s : State) (h : History) (v : Aged s h) where
         copies = copies-map _ _ (readable-fewer less) (λ _ r. r) (copies-blank _ (u .copies) x still);
         waiting = λ i e m. u .waiting i e (less i e m);
         queue = u .queue;
-        flight = flight-struck x _ _ (λ i. upd-other (k .memory) x i [])
+        flight = flight-after-failure x _ _ (λ i. upd-other (k .memory) x i [])
             (λ y b. by (eqb (k .backup) x) (λ q. rw q (omega (arith, zero-number s h v b))) (λ q. rw q (omega arith)))
             (λ y b. by (eqb (k .backup) x) (λ q. rw q (omega arith)) (λ q. rw q (u .flight .disk-behind y b))) (u .queue) (u .flight);
       }
@@ -100,13 +100,13 @@ module _ (s : State) (h : History) (v : Aged s h) where
   no-log : (x i : ℕ) → HonestIn i (upd (s .bricks .log) x [] i)
   no-log x = upd-all HonestIn (s .bricks .log) x [] (v .logs) (λ c m. absurd (List·Memᴰ·not-nil m))
 
-  pub lose-aged : (i : ℕ) → Aged (rule s (Event.lose i) .after) h
+  pub lose-ageing : (i : ℕ) → AgeingInvariant (rule s (Event.lose i) .after) h
   unfolding rule lose-effect
-  lose-aged i =
+  lose-ageing i =
       let x = s .ids i in
       record {
         keys = λ b k y. key-stays k (omega arith)
-            (λ j _ t. let u = unflag (s .bricks .here) x j t in (u .0, rw (upd-other (s .bricks .next) x j 0 (u .1)) (omega arith))) (v .keys b k y);
+            (λ j _ t. let u = unflag (s .bricks .present) x j t in (u .0, rw (upd-other (s .bricks .next) x j 0 (u .1)) (omega arith))) (v .keys b k y);
         marked = v .marked;
         items = v .items;
         logs = no-log x;
@@ -114,9 +114,9 @@ module _ (s : State) (h : History) (v : Aged s h) where
         buckets = λ g z. blank x _ g z (lost-relied s x (s .bucket g));
       }
 
-  pub join-aged : Sound s → (i : ℕ) → Aged (rule s (Event.join i) .after) h
+  pub join-ageing : Sound s → (i : ℕ) → AgeingInvariant (rule s (Event.join i) .after) h
   unfolding rule join-effect
-  join-aged o i =
+  join-ageing o i =
       let x = suc (s .given) in
       record {
         keys = λ b k y. key-stays k (omega arith)

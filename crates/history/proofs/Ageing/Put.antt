@@ -12,25 +12,25 @@ use Rattle.lists.proofs.Tests.{by-eq, by-lt, is-no, some-of, one-more}
 use Rattle.lists.proofs.Columns.{upd-same, upd-other, upd-all}
 use Rattle.rules.specs.Limits.{buckets}
 use Rattle.rules.specs.Numbers.{sequences, home-of, sequence-of, proxy-of}
-use Rattle.rules.specs.Entries.{Entry, look, has, insert}
-use Rattle.rules.specs.Chunks.{Chunk, chunk, append}
+use Rattle.rules.specs.Entries.{Entry, key-for, has, insert}
+use Rattle.rules.specs.Chunks.{Chunk, new-chunk, append}
 use Rattle.rules.specs.Event.{Event}
 use Rattle.rules.specs.State.{State, Relay}
 use Rattle.rules.specs.Writes.{new-key, put-effect}
 use Rattle.rules.specs.Step.{rule}
 use Rattle.rules.proofs.Step.{Yes}
-use Rattle.rules.proofs.Parts.{home-key, sequence-key}
+use Rattle.rules.proofs.Derived.{home-key, sequence-key}
 use Rattle.rules.proofs.Entries.{insert-in}
 use Rattle.rules.proofs.Sound.{KeyOf, TableOk, Sound}
-use Rattle.history.specs.Claim.{Write, History, number, meaning, hears}
+use Rattle.history.specs.Claim.{Write, History, number, meaning, record-event}
 use Rattle.history.proofs.Sound.Groups.{next-grows, member-here}
 use Rattle.history.proofs.History.{number-new, written-new, one-more-write, number-rises, length-rises, number-stays, written-stays}
 use Rattle.history.proofs.Copies.{copies-map}
-use Rattle.history.proofs.Facts.{look-key}
-use Rattle.history.proofs.Invariant.{Writes, Known, Older, Newest, Honest, Flies, BucketAge, Aged}
+use Rattle.history.proofs.Facts.{key-for-key}
+use Rattle.history.proofs.AgeingInvariant.{Writes, Known, Older, Newest, BytesOfWrite, InBag, BucketAge, AgeingInvariant}
 
 -- `o` and `o′`: the store is sound before and after
-module _ (s : State) (h : History) (v : Aged s h) (o : Sound s) (p i b : ℕ) (d : List ℕ) (y : Yes s (Event.put p i b d))
+module _ (s : State) (h : History) (v : AgeingInvariant s h) (o : Sound s) (p i b : ℕ) (d : List ℕ) (y : Yes s (Event.put p i b d))
     (o′ : Sound (rule s (Event.put p i b d) .after)) where
   abbrev brick : ℕ
   brick = s .ids i
@@ -45,7 +45,7 @@ module _ (s : State) (h : History) (v : Aged s h) (o : Sound s) (p i b : ℕ) (d
   now = one-more-write (h .writes) b new
 
   -- ---- the new key is not in use
-  is-here : s .bricks .here brick ≡ true
+  is-here : s .bricks .present brick ≡ true
   unfolding rule
   is-here = member-here o brick search
 
@@ -66,21 +66,21 @@ module _ (s : State) (h : History) (v : Aged s h) (o : Sound s) (p i b : ℕ) (d
   not-known c j (inl z) e = omega (arith, first)
   not-known c j (inr z) e = not-new j (v .keys c j z) e
 
-  not-read : {P : ℕ → Type 0} {most : ℕ} (l : List Entry) (c : ℕ) → TableOk (KeyOf s) P most l → look l c ≡ key → ⊥
-  not-read l c t e = elim (look-key l c t) [ inl z ↦ omega (arith, first) | inr z ↦ not-new _ z e ]
+  not-read : {P : ℕ → Type 0} {most : ℕ} (l : List Entry) (c : ℕ) → TableOk (KeyOf s) P most l → key-for l c ≡ key → ⊥
+  not-read l c t e = elim (key-for-key l c t) [ inl z ↦ omega (arith, first) | inr z ↦ not-new _ z e ]
 
   -- no two accepted puts answer one key
-  pub put-fresh : (c : ℕ) → number (h .writes c) key ≡ 0
-  put-fresh c = by-lt 0 (number (h .writes c) key) (λ _ z. absurd (not-new key (v .keys c key z) refl)) (λ _ z. omega arith)
+  pub put-key-unused : (c : ℕ) → number (h .writes c) key ≡ 0
+  put-key-unused c = by-lt 0 (number (h .writes c) key) (λ _ z. absurd (not-new key (v .keys c key z) refl)) (λ _ z. omega arith)
 
   -- ---- the groups
   put-keys : (c j : ℕ) → 0 < number (now c) j → KeyOf (rule s (Event.put p i b d) .after) j
   unfolding rule put-effect
   put-keys c j z =
-      let log = append (s .bricks .log brick) (chunk key false d) in
-      let last : List·Memᴰ (chunk key false d) (upd (s .bricks .log) brick log brick)
+      let log = append (s .bricks .log brick) (new-chunk key false d) in
+      let last : List·Memᴰ (new-chunk key false d) (upd (s .bricks .log) brick log brick)
       = rw (upd-same (s .bricks .log) brick log) (Memᴰ·append-right (s .bricks .log brick) (List·Memᴰ·head refl)) in
-      by-eq j key (λ _ e. rw e (o′ .logs brick .each (chunk key false d) last .key))
+      by-eq j key (λ _ e. rw e (o′ .logs brick .each (new-chunk key false d) last .key))
       (λ _ n. next-grows brick _ (omega arith) (v .keys c j (rw (number-stays (h .writes) b new j n c) at z)))
 
   -- an item of another proxy is of another block, and this proxy has none of the block
@@ -89,8 +89,8 @@ module _ (s : State) (h : History) (v : Aged s h) (o : Sound s) (p i b : ℕ) (d
   other-item q e m z =
       let mine : proxy-of (e .block) ≡ q = o .items q .each e m .mine in
       let belongs : proxy-of b ≡ p = search eqb-true in
-      let here : List·Memᴰ e (s .items p) = rw (sym mine ∙ ap proxy-of z ∙ belongs) at m in
-      is-no (has (s .items p) b) (search) (some-of (λ (f : Entry). eqb b (f .block)) (s .items p) e here (eq-eqb b (e .block) (sym z)))
+      let present : List·Memᴰ e (s .items p) = rw (sym mine ∙ ap proxy-of z ∙ belongs) at m in
+      is-no (has (s .items p) b) (search) (some-of (λ (f : Entry). eqb b (f .block)) (s .items p) e present (eq-eqb b (e .block) (sym z)))
 
   abbrev NewestIn : ℕ → List Entry → Type 0
   NewestIn _ l = (e : Entry) → List·Memᴰ e l → Newest now (e .block) (e .key)
@@ -111,20 +111,20 @@ module _ (s : State) (h : History) (v : Aged s h) (o : Sound s) (p i b : ℕ) (d
           record { is-write = rw (u, n) (omega arith); last = rw (u, n) }
 
   abbrev HonestIn : ℕ → List Chunk → Type 0
-  HonestIn _ l = (c : Chunk) → List·Memᴰ c l → Honest now (c .key) (c .bytes)
+  HonestIn _ l = (c : Chunk) → List·Memᴰ c l → BytesOfWrite now (c .key) (c .bytes)
 
-  put-logs : (a : ℕ) → HonestIn a (upd (s .bricks .log) brick (append (s .bricks .log brick) (chunk key false d)) a)
-  put-logs = upd-all HonestIn (s .bricks .log) brick _ old (one-more (s .bricks .log brick) (old brick) honest-new)
+  put-logs : (a : ℕ) → HonestIn a (upd (s .bricks .log) brick (append (s .bricks .log brick) (new-chunk key false d)) a)
+  put-logs = upd-all HonestIn (s .bricks .log) brick _ old (one-more (s .bricks .log brick) (old brick) write-bytes-new)
     where
       old : (a : ℕ) → HonestIn a (s .bricks .log a)
       old a c m e z =
           let n : c .key ≡ key → ⊥ = not-new _ (o .logs a .each c m .key) in
           rw (written-stays (h .writes) b new (c .key) n e) (v .logs a c m e (rw (number-stays (h .writes) b new (c .key) n e) at z))
 
-      honest-new : Honest now key d
-      honest-new c z =
+      write-bytes-new : BytesOfWrite now key d
+      write-bytes-new c z =
           by-eq c b (λ _ e. rw (e, upd-same (h .writes) b (new ∷ h .writes b)) (sym (written-new (h .writes b) new)))
-          (λ _ n. absurd (omega (arith, put-fresh c, rw (upd-other (h .writes) b c (new ∷ h .writes b) n) at z)))
+          (λ _ n. absurd (omega (arith, put-key-unused c, rw (upd-other (h .writes) b c (new ∷ h .writes b) n) at z)))
 
   rises : (c j : ℕ) → number (h .writes c) j ≤ number (now c) j
   rises = number-rises (h .writes) b new
@@ -133,13 +133,13 @@ module _ (s : State) (h : History) (v : Aged s h) (o : Sound s) (p i b : ℕ) (d
   older c j k n u = omega (arith, number-stays (h .writes) b new j n c, rises c k)
 
   put-bucket : (g : ℕ) → g < buckets (s .settings)
-      → BucketAge now (h .mark) (buckets (s .settings)) (s .view) (s .bag) (s .bricks .buffer) (s .bricks .here) (s .bricks .member) g (s .bucket g)
+      → BucketAge now (h .mark) (buckets (s .settings)) (s .view) (s .bag) (s .bricks .buffer) (s .bricks .present) (s .bricks .member) g (s .bucket g)
   put-bucket g z =
       let u = v .buckets g z in
       let f = u .flight in
       let t = o .buckets-ok g z in
       let c = s .bucket g .backup in
-      let not-relay : (r : Relay) → Flies g (s .view) (s .bag) r → r .key ≡ key → ⊥ = λ r m. not-new _ (o .relays r (m .in-bag) .key) in
+      let not-relay : (r : Relay) → InBag g (s .view) (s .bag) r → r .key ≡ key → ⊥ = λ r m. not-new _ (o .relays r (m .in-bag) .key) in
       record {
         same = u .same;
         copies = copies-map _ _ (λ a j q. record {
@@ -166,9 +166,9 @@ module _ (s : State) (h : History) (v : Aged s h) (o : Sound s) (p i b : ℕ) (d
         };
       }
 
-  pub put-aged : Aged (rule s (Event.put p i b d) .after) (hears h (meaning (Event.put p i b d)) (rule s (Event.put p i b d) .said))
+  pub put-ageing : AgeingInvariant (rule s (Event.put p i b d) .after) (record-event h (meaning (Event.put p i b d)) (rule s (Event.put p i b d) .said))
   unfolding rule put-effect meaning
-  put-aged = record {
+  put-ageing = record {
     keys = put-keys;
     marked = λ c. omega (arith, v .marked c, length-rises (h .writes) b new c);
     items = put-items;

@@ -18,27 +18,27 @@ use Rattle.rules.specs.Numbers.{bucket-of}
 use Rattle.rules.specs.Entries.{Entry}
 use Rattle.rules.specs.Event.{Event}
 use Rattle.rules.specs.State.{State}
-use Rattle.rules.specs.Parts.{holder, bucket-no, bucket-at, agree, item}
+use Rattle.rules.specs.Derived.{holder, bucket-no, bucket-at, agree, item}
 use Rattle.rules.specs.Question.{not-pending}
 use Rattle.rules.specs.Reads.{mapped, get-bytes}
 use Rattle.rules.specs.Step.{Answer, rule}
 use Rattle.rules.proofs.Step.{Yes}
-use Rattle.rules.proofs.Parts.{bucket-below, agrees, seek-held}
+use Rattle.rules.proofs.Derived.{bucket-below, agrees, first-holder-held}
 use Rattle.rules.proofs.Sound.{Sound}
-use Rattle.history.specs.Claim.{Write, History, number, meaning, hears, Shown}
+use Rattle.history.specs.Claim.{Write, History, number, meaning, record-event, Shown}
 use Rattle.history.proofs.History.{number-most}
 use Rattle.history.proofs.Copies.{ReliedOn, Copies, copies-map, primary-relied, copies-agreed}
 use Rattle.history.proofs.Sound.Groups.{member-here}
 use Rattle.history.proofs.Facts.{zero-number, item-newest}
-use Rattle.history.proofs.Invariant.{Readable, AgeOf, Aged}
-use Rattle.history.proofs.Ageing.Writes.{honest-held}
-use Rattle.history.proofs.Ageing.Maps.{item-goes-aged}
+use Rattle.history.proofs.AgeingInvariant.{Readable, AgeOf, AgeingInvariant}
+use Rattle.history.proofs.Ageing.Writes.{write-bytes-held}
+use Rattle.history.proofs.Ageing.Maps.{item-goes-ageing}
 
 -- the mark that a get leaves
 no-later : (w : List Write) (k : ℕ) → cond (eqb k 0) 0 (number w k) ≤ number w k
 no-later w k = by-eq k 0 (λ q _. rw q (omega arith)) (λ q _. rw q (omega arith))
 
-module _ (s : State) (h : History) (v : Aged s h) where
+module _ (s : State) (h : History) (v : AgeingInvariant s h) where
   module _ (b m : ℕ) (ready : bucket-at s b .ready ≡ true) (one-key : agree (bucket-at s b) b ≡ true) (top : m ≤ number (h .writes b) (mapped s b)) where
     abbrev marked′ : History
     marked′ = record { writes = h .writes; mark = upd (h .mark) b m }
@@ -63,7 +63,7 @@ module _ (s : State) (h : History) (v : Aged s h) where
       waits = t .waits;
     }
 
-    own-copies : let k = bucket-at s b in Copies (Is (bucket-no s b)) (ReliedOn (s .bricks .here) k) (k .memory) (k .disk)
+    own-copies : let k = bucket-at s b in Copies (Is (bucket-no s b)) (ReliedOn (s .bricks .present) k) (k .memory) (k .disk)
     own-copies =
         let u = v .buckets (bucket-no s b) (bucket-below (s .settings) b) in
         copies-agreed (bucket-at s b) (u .same ready) _ _ (λ c j y. agreed _ c j (λ n _. rw n at (y (rw n one-key)))) (u .copies)
@@ -88,24 +88,24 @@ module _ (s : State) (h : History) (v : Aged s h) where
     mark-least : (c : ℕ) → upd (h .mark) b m c ≤ length (h .writes c)
     mark-least = upd-all (λ c n. n ≤ length (h .writes c)) (h .mark) b m (v .marked) (omega (arith, top, number-most (h .writes b) (mapped s b)))
 
-    pub marked-aged : Aged s marked′
-    marked-aged = record { keys = v .keys; marked = mark-least; items = v .items; logs = v .logs; relays = v .relays; buckets = mark-bucket }
+    pub marked-ageing : AgeingInvariant s marked′
+    marked-ageing = record { keys = v .keys; marked = mark-least; items = v .items; logs = v .logs; relays = v .relays; buckets = mark-bucket }
 
-  pub get-aged : (p b : ℕ) → Yes s (Event.get p b) → Aged (rule s (Event.get p b) .after) (hears h (meaning (Event.get p b)) (rule s (Event.get p b) .said))
+  pub get-ageing : (p b : ℕ) → Yes s (Event.get p b) → AgeingInvariant (rule s (Event.get p b) .after) (record-event h (meaning (Event.get p b)) (rule s (Event.get p b) .said))
   unfolding rule meaning
-  get-aged p b y =
+  get-ageing p b y =
       let ready : bucket-at s b .ready ≡ true = search in
       let settled : not-pending s b ≡ true = search in
-      marked-aged b _ ready (agrees (bucket-at s b) b ready settled) (omega (arith, no-later (h .writes b) (mapped s b)))
+      marked-ageing b _ ready (agrees (bucket-at s b) b ready settled) (omega (arith, no-later (h .writes b) (mapped s b)))
 
-  pub done-aged : (p b : ℕ) (a : Answer) → Yes s (Event.done p b) → Aged (rule s (Event.done p b) .after) (hears h (meaning (Event.done p b)) a)
+  pub done-ageing : (p b : ℕ) (a : Answer) → Yes s (Event.done p b) → AgeingInvariant (rule s (Event.done p b) .after) (record-event h (meaning (Event.done p b)) a)
   unfolding rule meaning
-  done-aged p b a y =
+  done-ageing p b a y =
       let ready : bucket-at s b .ready ≡ true = search in
       let settled : not-pending s b ≡ true = search in
       let its : mapped s b ≡ item s p b = search eqb-true in
       let last = item-newest s h v p b (search) .last in
-      item-goes-aged s _ (marked-aged b _ ready (agrees (bucket-at s b) b ready settled) (omega (arith, last, ap (number (h .writes b)) its))) p b
+      item-goes-ageing s _ (marked-ageing b _ ready (agrees (bucket-at s b) b ready settled) (omega (arith, last, ap (number (h .writes b)) its))) p b
 
   -- what a get answers
   pub get-shown : Sound s → (p b : ℕ) → Yes s (Event.get p b) → Shown (s .settings .size) (h .writes b) (h .mark b) (rule s (Event.get p b) .said)
@@ -120,4 +120,4 @@ module _ (s : State) (h : History) (v : Aged s h) where
       (λ q n.
       let is-write : 0 < number (h .writes b) (mapped s b) = elim (t .known) [ inl z ↦ absurd (n z) | inr z ↦ z ] in
       let found = ltb-true _ _ (or-second _ _ held q) in
-      inr (is-write, rw q (honest-held s h v (holder s (mapped s b)) (mapped s b) (seek-held (s .bricks) (mapped s b) _ found) b is-write), t .floor refl))
+      inr (is-write, rw q (write-bytes-held s h v (holder s (mapped s b)) (mapped s b) (first-holder-held (s .bricks) (mapped s b) _ found) b is-write), t .floor refl))

@@ -13,10 +13,10 @@ use Rattle.lists.proofs.Tests.{by-eq, either, impossible, clash, is-no, only-in
 use Rattle.lists.proofs.Columns.{upd-same, upd-other, upd-all}
 use Rattle.rules.specs.Limits.{buckets}
 use Rattle.rules.specs.Numbers.{bucket-of}
-use Rattle.rules.specs.Entries.{Entry, look, waits-for, drain}
+use Rattle.rules.specs.Entries.{Entry, key-for, is-of-bucket, drain}
 use Rattle.rules.specs.Event.{Event}
 use Rattle.rules.specs.State.{State, Bucket, Relay}
-use Rattle.rules.specs.Parts.{up-member}
+use Rattle.rules.specs.Derived.{up-member}
 use Rattle.rules.specs.Views.{viewed-bucket, view-effect, source, fetched-bucket, fetch-effect, dropped, ready-bucket, ready-effect}
 use Rattle.rules.specs.Step.{rule}
 use Rattle.rules.proofs.Step.{Yes}
@@ -24,31 +24,31 @@ use Rattle.rules.proofs.Sound.{Sound}
 use Rattle.history.specs.Claim.{History}
 use Rattle.history.proofs.Copies.{relied-anew, relied-before, ReliedOn, In, in-drain, copies-map, copies-fetched, copies-ready}
 use Rattle.history.proofs.Sound.Groups.{member-here}
-use Rattle.history.proofs.Facts.{moves-aged, readable-fewer}
-use Rattle.history.proofs.Invariant.{Older, Readable, Flies, BucketAge, AgeOf, Aged}
+use Rattle.history.proofs.Facts.{moves-ageing, readable-fewer}
+use Rattle.history.proofs.AgeingInvariant.{Older, Readable, InBag, BucketAge, AgeOf, AgeingInvariant}
 
 -- the source of a fetch is relied on
-pub source-relied : (s : State) → Sound s → (g : ℕ) → ltb 0 (source s g) ≡ true → ReliedOn (s .bricks .here) (s .bucket g) (source s g)
+pub source-relied : (s : State) → Sound s → (g : ℕ) → ltb 0 (source s g) ≡ true → ReliedOn (s .bricks .present) (s .bucket g) (source s g)
 unfolding source
 source-relied s o g =
     let k = s .bucket g in
-    let P : ℕ → Type 0 = λ i. ltb 0 i ≡ true → ReliedOn (s .bricks .here) k i in
-    either P (up-member s (k .last-primary)) (λ y _. record { present = member-here o _ y; role = inl refl })
-    (λ _. either P (up-member s (k .last-backup)) (λ y _. record { present = member-here o _ y; role = inr (inl refl) }) (λ _. impossible))
+    let P : ℕ → Type 0 = λ i. ltb 0 i ≡ true → ReliedOn (s .bricks .present) k i in
+    either P (up-member s (k .last-primary)) (λ y _. record { is-present = member-here o _ y; role = inl refl })
+    (λ _. either P (up-member s (k .last-backup)) (λ y _. record { is-present = member-here o _ y; role = inr (inl refl) }) (λ _. impossible))
 
 -- so is a primary that has fetched
-pub ready-relied : (s : State) → Sound s → (g : ℕ) → Yes s (Event.ready g) → ReliedOn (s .bricks .here) (s .bucket g) (s .bucket g .primary)
+pub ready-relied : (s : State) → Sound s → (g : ℕ) → Yes s (Event.ready g) → ReliedOn (s .bricks .present) (s .bucket g) (s .bucket g .primary)
 unfolding rule
 ready-relied s o g y =
-    let fetched : s .bucket g .fetched ≡ true = search in record { present = member-here o (s .bucket g .primary) (search); role = inr (inr (fetched, refl)) }
+    let fetched : s .bucket g .fetched ≡ true = search in record { is-present = member-here o (s .bucket g .primary) (search); role = inr (inr (fetched, refl)) }
 
-module _ (s : State) (h : History) (v : Aged s h) where
+module _ (s : State) (h : History) (v : AgeingInvariant s h) where
   -- ---- view: no relay is of the new one
-  pub old-relay : (g : ℕ) (r : Relay) → Flies g (suc (s .view)) (s .bag) r → ⊥
+  pub old-relay : (g : ℕ) (r : Relay) → InBag g (suc (s .view)) (s .bag) r → ⊥
   old-relay g r m = omega (arith, v .relays r (m .in-bag) .past, m .now)
 
   viewed : (g p b : ℕ) → g < buckets (s .settings)
-      → BucketAge (h .writes) (h .mark) (buckets (s .settings)) (suc (s .view)) (s .bag) (λ i. []) (s .bricks .here) (s .bricks .up) g
+      → BucketAge (h .writes) (h .mark) (buckets (s .settings)) (suc (s .view)) (s .bag) (λ i. []) (s .bricks .present) (s .bricks .up) g
       (viewed-bucket p b (s .bucket g))
   viewed g p b z =
       let u = v .buckets g z in
@@ -65,9 +65,9 @@ module _ (s : State) (h : History) (v : Aged s h) where
         };
       }
 
-  pub view-aged : Aged (rule s Event.view .after) h
+  pub view-ageing : AgeingInvariant (rule s Event.view .after) h
   unfolding rule view-effect
-  view-aged = record {
+  view-ageing = record {
     keys = v .keys;
     marked = v .marked;
     items = v .items;
@@ -81,7 +81,7 @@ module _ (s : State) (h : History) (v : Aged s h) where
     own = s .bucket g
 
     -- while the bucket is not ready nothing flies
-    pub still : g < buckets (s .settings) → own .ready ≡ false → (r : Relay) → Flies g (s .view) (s .bag) r → ⊥
+    pub still : g < buckets (s .settings) → own .ready ≡ false → (r : Relay) → InBag g (s .view) (s .bag) r → ⊥
     still z unready r m = clash unready (v .buckets g z .queue .while-ready r m)
 
     -- ---- fetch
@@ -103,13 +103,13 @@ module _ (s : State) (h : History) (v : Aged s h) where
           };
         }
 
-    pub fetch-aged : Yes s (Event.fetch g) → Aged (rule s (Event.fetch g) .after) h
+    pub fetch-ageing : Yes s (Event.fetch g) → AgeingInvariant (rule s (Event.fetch g) .after) h
     unfolding rule fetch-effect
-    fetch-aged y = moves-aged v (v .relays) (upd-all (AgeOf s h) (s .bucket) g _ (v .buckets) (fetched y))
+    fetch-ageing y = moves-ageing v (v .relays) (upd-all (AgeOf s h) (s .bucket) g _ (v .buckets) (fetched y))
 
     -- ---- ready
     abbrev mine : Entry → Bool
-    mine = waits-for (buckets (s .settings)) g
+    mine = is-of-bucket (buckets (s .settings)) g
 
     abbrev waits : List Entry
     waits = s .bricks .buffer (own .primary)
@@ -121,13 +121,13 @@ module _ (s : State) (h : History) (v : Aged s h) where
     drained = drain (s .settings .entries) (own .memory (own .primary)) (only mine waits)
 
     waits-mine : (e : Entry) → List·Memᴰ e (only mine waits) → List·Memᴰ e waits × (bucket-of (buckets (s .settings)) (e .block) ≡ g)
-    unfolding waits-for
+    unfolding is-of-bucket
     waits-mine e m = let t = only-in mine waits m in (t .0, eqb-true _ _ (t .1))
 
     module _ (z : g < buckets (s .settings)) where
       -- what waits yet is of other buckets
       pub waits-yet : (i : ℕ) (e : Entry) → List·Memᴰ e (buffer′ i) → List·Memᴰ e (s .bricks .buffer i) × (bucket-of (buckets (s .settings)) (e .block) ≡ g → ⊥)
-      unfolding upd waits-for
+      unfolding upd is-of-bucket
       waits-yet i e m =
           by-eq i (own .primary)
           (λ q n. let t = only-in (λ f. not (mine f)) waits (rw q at m) in (rw n (t .0), λ l. is-no _ (t .1) (eq-eqb _ _ l)))
@@ -140,7 +140,7 @@ module _ (s : State) (h : History) (v : Aged s h) where
       fewer j = readable-fewer (λ i e m. waits-yet i e m .0)
 
       module _ (y : Yes s (Event.ready g)) where
-        is-relied : ReliedOn (s .bricks .here) own (own .primary)
+        is-relied : ReliedOn (s .bricks .present) own (own .primary)
         is-relied = ready-relied s o g y
 
         top : In (Now g) (own .memory (own .primary))
@@ -156,12 +156,12 @@ module _ (s : State) (h : History) (v : Aged s h) where
               waits = λ i f n l. absurd (waits-yet i f n .1 (ap (bucket-of (buckets (s .settings))) l ∙ t .1));
             })
 
-        drained-later : (b : ℕ) → Older (h .writes) b (look (own .memory (own .primary)) b) (look drained b)
-        drained-later = in-drain (λ b. Older (h .writes) b (look (own .memory (own .primary)) b)) (s .settings .entries) (only mine waits)
+        drained-later : (b : ℕ) → Older (h .writes) b (key-for (own .memory (own .primary)) b) (key-for drained b)
+        drained-later = in-drain (λ b. Older (h .writes) b (key-for (own .memory (own .primary)) b)) (s .settings .entries) (only mine waits)
             (own .memory (own .primary)) (λ b. omega arith)
             (λ e m. v .buckets g z .copies .memory (own .primary) is-relied (e .block) .waits (own .primary) e (waits-mine e m .0) refl)
 
-        readied : BucketAge (h .writes) (h .mark) (buckets (s .settings)) (s .view) (s .bag) buffer′ (s .bricks .here) (s .bricks .member) g
+        readied : BucketAge (h .writes) (h .mark) (buckets (s .settings)) (s .view) (s .bag) buffer′ (s .bricks .present) (s .bricks .member) g
             (ready-bucket (s .bricks .up) drained own)
         unfolding rule
         readied =
@@ -190,7 +190,7 @@ module _ (s : State) (h : History) (v : Aged s h) where
             }
 
       rested : (j : ℕ) → j < buckets (s .settings)
-          → BucketAge (h .writes) (h .mark) (buckets (s .settings)) (s .view) (s .bag) buffer′ (s .bricks .here) (s .bricks .member) j (s .bucket j)
+          → BucketAge (h .writes) (h .mark) (buckets (s .settings)) (s .view) (s .bag) buffer′ (s .bricks .present) (s .bricks .member) j (s .bucket j)
       rested j l =
           let u = v .buckets j l in
           record {
@@ -201,8 +201,8 @@ module _ (s : State) (h : History) (v : Aged s h) where
             flight = u .flight;
           }
 
-    pub ready-aged : Yes s (Event.ready g) → Aged (rule s (Event.ready g) .after) h
+    pub ready-ageing : Yes s (Event.ready g) → AgeingInvariant (rule s (Event.ready g) .after) h
     unfolding rule ready-effect
-    ready-aged y =
+    ready-ageing y =
         let z : g < buckets (s .settings) = search ltb-true in
-        moves-aged v (v .relays) (upd-all (AgeOf (rule s (Event.ready g) .after) h) (s .bucket) g _ (rested z) (λ _. readied z y))
+        moves-ageing v (v .relays) (upd-all (AgeOf (rule s (Event.ready g) .after) h) (s .bucket) g _ (rested z) (λ _. readied z y))

@@ -14,18 +14,18 @@ use Rattle.rules.specs.Step.{rule}
 use Rattle.rules.proofs.Step.{Yes}
 use Rattle.rules.proofs.Chunks.{held-in, save-from}
 use Rattle.history.specs.Claim.{History}
-use Rattle.history.proofs.Invariant.{Writes, Honest, Aged}
+use Rattle.history.proofs.AgeingInvariant.{Writes, BytesOfWrite, AgeingInvariant}
 
-honest-same : (w : Writes) {j k : ℕ} {c d : List ℕ} → j ≡ k → c ≡ d → Honest w j c → Honest w k d
-honest-same w e f o = rw (← e, ← f) o
+write-bytes-same : (w : Writes) {j k : ℕ} {c d : List ℕ} → j ≡ k → c ≡ d → BytesOfWrite w j c → BytesOfWrite w k d
+write-bytes-same w e f o = rw (← e, ← f) o
 
 -- ---- a log in which every chunk has the bytes of its write
-module _ (s : State) (h : History) (v : Aged s h) where
+module _ (s : State) (h : History) (v : AgeingInvariant s h) where
   abbrev pub HonestLog : List Chunk → Type 0
-  HonestLog l = (c : Chunk) → List·Memᴰ c l → Honest (h .writes) (c .key) (c .bytes)
+  HonestLog l = (c : Chunk) → List·Memᴰ c l → BytesOfWrite (h .writes) (c .key) (c .bytes)
 
-  pub log-aged : (x : ℕ) (l : List Chunk) → HonestLog l → Aged (set-bricks s (with-log (s .bricks) x l)) h
-  log-aged x l o = record {
+  pub log-ageing : (x : ℕ) (l : List Chunk) → HonestLog l → AgeingInvariant (set-bricks s (with-log (s .bricks) x l)) h
+  log-ageing x l o = record {
     keys = v .keys;
     marked = v .marked;
     items = v .items;
@@ -35,18 +35,18 @@ module _ (s : State) (h : History) (v : Aged s h) where
   }
 
   -- the bytes that are read of a held key
-  pub honest-held : (x k : ℕ) → held (s .bricks .log x) k ≡ true → Honest (h .writes) k (bytes-in (s .bricks .log x) k)
-  honest-held x k y = let t = held-in (s .bricks .log x) k y in honest-same (h .writes) (t .2) (sym (t .3)) (v .logs x (t .0) (t .1))
+  pub write-bytes-held : (x k : ℕ) → held (s .bricks .log x) k ≡ true → BytesOfWrite (h .writes) k (bytes-in (s .bricks .log x) k)
+  write-bytes-held x k y = let t = held-in (s .bricks .log x) k y in write-bytes-same (h .writes) (t .2) (sym (t .3)) (v .logs x (t .0) (t .1))
 
-  pub honest-save : (test : ℕ → Bool) (l : List Chunk) → HonestLog l → HonestLog (map (save test) l)
-  honest-save test l o c m = let f = save-from test l m in honest-same (h .writes) (f .2) (f .3) (o (f .0) (f .1))
+  pub write-bytes-save : (test : ℕ → Bool) (l : List Chunk) → HonestLog l → HonestLog (map (save test) l)
+  write-bytes-save test l o c m = let f = save-from test l m in write-bytes-same (h .writes) (f .2) (f .3) (o (f .0) (f .1))
 
-  pub savelog-aged : (i : ℕ) → Aged (rule s (Event.savelog i) .after) h
+  pub savelog-ageing : (i : ℕ) → AgeingInvariant (rule s (Event.savelog i) .after) h
   unfolding rule savelog-effect save-all
-  savelog-aged i = log-aged _ _ (honest-save _ _ (v .logs _))
+  savelog-ageing i = log-ageing _ _ (write-bytes-save _ _ (v .logs _))
 
-  pub copy-aged : (k : ℕ) → Yes s (Event.copy k) → Aged (rule s (Event.copy k) .after) h
+  pub copy-ageing : (k : ℕ) → Yes s (Event.copy k) → AgeingInvariant (rule s (Event.copy k) .after) h
   unfolding rule copy-effect
-  copy-aged k y =
-      either (λ (c : Bricks). Aged (set-bricks s c) h) (nothing-to-copy s k) (λ _. v)
-      (λ _. log-aged (target s k) _ (one-more _ (v .logs _) (honest-held (home-of k) k (search))))
+  copy-ageing k y =
+      either (λ (c : Bricks). AgeingInvariant (set-bricks s c) h) (nothing-to-copy s k) (λ _. v)
+      (λ _. log-ageing (target s k) _ (one-more _ (v .logs _) (write-bytes-held (home-of k) k (search))))

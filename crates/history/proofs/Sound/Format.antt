@@ -10,10 +10,10 @@ use borrow.Author.Tests.{ltb-true, leb-true, lt-ltb, le-leb, le-ltb}
 use Rattle.lists.proofs.Tests.{by-lt, and-l, and-r, both}
 use Rattle.rules.specs.declared.settings.Settings.{Settings}
 use Rattle.rules.specs.Limits.{in-limits, buckets}
-use Rattle.rules.specs.Pairs.{at}
+use Rattle.rules.specs.Pairs.{id-in}
 use Rattle.rules.specs.Format.{first-id, is-first, first-pairs, format}
 use Rattle.rules.proofs.Limits.{limits}
-use Rattle.rules.proofs.Parts.{in-ids}
+use Rattle.rules.proofs.Derived.{in-ids}
 use Rattle.rules.proofs.Sound.{PairOk, Sound}
 use Rattle.rules.proofs.SoundTest.{table-none, buffer-none, log-none}
 use Rattle.pairs.proofs.Members.{two-members, pair-at}
@@ -40,7 +40,7 @@ first-place n (suc p) y = let l = first-in n (suc p) y .1 in (p, l, rw (lt-ltb p
 
 module _ (c : Settings) (y : in-limits c ≡ true) where
   -- ---- the first pairs
-  first-pair : (g : ℕ) → g < buckets c → PairOk (c .places) (at (first-pairs c) (2 * g)) (at (first-pairs c) (2 * g + 1))
+  first-pair : (g : ℕ) → g < buckets c → PairOk (c .places) (id-in (first-pairs c) (2 * g)) (id-in (first-pairs c) (2 * g + 1))
   unfolding first-pairs
   first-pair g l =
       let n = c .places in
@@ -68,7 +68,7 @@ module _ (c : Settings) (y : in-limits c ≡ true) where
           stands = λ p z. elim (first-id-is n p) [ inl e ↦ absurd (omega (arith, e .0)) | inr e ↦ rw (e .0) (in-first n (suc p) (omega arith) (e .1)) ];
           somewhere = first-place n;
           first = λ i z. first-in n i z .0;
-          up-here = λ i z. z;
+          up-present = λ i z. z;
           member-up = λ i z. z;
           began-here = λ i z. z;
         };

@@ -10,15 +10,15 @@ use borrow.Author.Tests.{ltb-true}
 use Rattle.lists.specs.Tests.{_or_}
 use Rattle.lists.proofs.Columns.{upd-blank}
 use Rattle.lists.proofs.Tests.{either, and-l, or-second, if-so, one-more, getD-in}
-use Rattle.rules.specs.Limits.{buckets, max-relays, max-waiting, max-number}
+use Rattle.rules.specs.Limits.{buckets, max-relays, max-waiting, max-view-or-order}
 use Rattle.rules.specs.Entries.{Entry, entry, has, remove, takes}
 use Rattle.rules.specs.State.{State, blank-relay, blank-bucket, with-copies}
-use Rattle.rules.specs.Parts.{up-member, bucket-at, primary-memory, backup-memory, item}
+use Rattle.rules.specs.Derived.{up-member, bucket-at, primary-memory, backup-memory, item}
 use Rattle.rules.specs.Question.{AllYes, is-proxy, primary-up, has-item}
 use Rattle.rules.specs.Maps.{map-asks, map-effect, send-asks, new-relay, send-effect, relay-at, is-taken, deliver-asks, remove-at, deliver-effect, drop-effect}
 use Rattle.rules.specs.Maps.{savemap-asks, saved-bucket, savemap-effect, item-goes, learn-effect, reset-effect}
 use Rattle.rules.proofs.Entries.{has-entry}
-use Rattle.rules.proofs.Parts.{bucket-below}
+use Rattle.rules.proofs.Derived.{bucket-below}
 use Rattle.rules.proofs.Sound.{EntryOk, RelayOk, KeyOf, Sound}
 use Rattle.rules.proofs.SoundTest.{table-none}
 use Rattle.history.proofs.Sound.Lists.{table-insert, table-only, buffer-append, remove-at-in, length-remove-at}
@@ -64,7 +64,7 @@ module _ {s : State} (v : Sound s) where
       let t = has-entry (primary-memory k) b search in
       let e = f .memory (k .primary) .each (t .0) (t .1) in
       let room : length (s .bag) < max-relays = search ltb-true in
-      let few : k .order < max-number = search ltb-true in
+      let few : k .last-sent < max-view-or-order = search ltb-true in
       let new : RelayOk (KeyOf s) (buckets (s .settings)) (new-relay s b)
       = record { view = v .view-last; bucket = refl; order = few; small = search ltb-true; key = rw (t .3) (e .key) } in
       let bag : BagOk (KeyOf s) (buckets (s .settings)) (s .bag ++ (new-relay s b ∷ []))
@@ -99,7 +99,7 @@ module _ {s : State} (v : Sound s) where
       let room : takes (s .settings .entries) (backup-memory k) (r .block) ≡ true = if-so (is-taken s n) _ (search) taken in
       let new = table-insert (r .block) (r .key) (f .memory x) room (record { mine = o .bucket; small = o .small; key = o .key }) in
       let memory = one-memory (copies f) x (member-here v x up) (and-l _ _ up) new in
-      let bucket = one-bucket (g .bucket) (r .bucket) inside (bucket-ok (f .pair) (f .last) (f .order) (o .order) memory) in
+      let bucket = one-bucket (g .bucket) (r .bucket) inside (bucket-ok (f .pair) (f .last) (f .last-sent) (o .order) memory) in
       new-parts v (g .logs) (g .buffers) bucket (fewer n) (g .items) (g .known))
       (λ _. drop-sound n)
 
@@ -131,5 +131,5 @@ module _ {s : State} (v : Sound s) where
   unfolding reset-effect
   reset-sound p y =
       let g = groups v in
-      let here = ltb-true p _ y in
-      new-parts v (g .logs) (g .buffers) (g .bucket) (g .bag) (one-items (g .items) p here table-none) (one-known p (g .known) here (omega arith))
+      let present = ltb-true p _ y in
+      new-parts v (g .logs) (g .buffers) (g .bucket) (g .bag) (one-items (g .items) p present table-none) (one-known p (g .known) present (omega arith))

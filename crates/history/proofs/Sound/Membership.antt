@@ -16,9 +16,9 @@ use Rattle.rules.specs.Numbers.{sequences}
 use Rattle.rules.specs.Entries.{Entry}
 use Rattle.rules.specs.Chunks.{Chunk, only-saved}
 use Rattle.rules.specs.State.{State, Bucket, blank-bucket, with-copies}
-use Rattle.rules.specs.Parts.{is-empty}
+use Rattle.rules.specs.Derived.{is-empty}
 use Rattle.rules.specs.Question.{AllYes}
-use Rattle.rules.specs.Membership.{crash-asks, crashed-bucket, crash-effect, lose-asks, blank-copies, lose-effect}
+use Rattle.rules.specs.Membership.{crash-asks, crashed-bucket, crash-effect, lose-asks, blanked-copies, lose-effect}
 use Rattle.rules.specs.Membership.{rise-asks, rise-effect, join-asks, join-effect}
 use Rattle.rules.proofs.Sound.{KeyOk, BufferOk, LogOk, NumbersOk, PairOk, KeyOf, Sound, key-stays}
 use Rattle.rules.proofs.SoundTest.{table-none, buffer-none, log-none}
@@ -28,23 +28,23 @@ use Rattle.history.proofs.Sound.Groups.{copies, bucket-ok, new-copies, 
 
 -- ---- a brick of which nothing is left, or that is new: it may be there, and up, or not
 module _ (x : ℕ) (b : Bool) where
-  blank-numbers : {here : ℕ → Bool} {next ceiling : ℕ → ℕ} → NumbersOk here next ceiling → NumbersOk (upd here x b) (upd next x 0) (upd ceiling x 0)
-  blank-numbers {here} {next} {ceiling} v = record {
+  blank-numbers : {present : ℕ → Bool} {next ceiling : ℕ → ℕ} → NumbersOk present next ceiling → NumbersOk (upd present x b) (upd next x 0) (upd ceiling x 0)
+  blank-numbers {present} {next} {ceiling} v = record {
     below = lower;
     most = upd-all (λ _ m. m ≤ sequences) ceiling x 0 (v .most) (omega arith);
-    blank-next = upd-both here b (λ _ m. m ≡ 0) next x 0 refl (λ i _. v .blank-next i);
-    blank-ceiling = upd-both here b (λ _ m. m ≡ 0) ceiling x 0 refl (λ i _. v .blank-ceiling i);
+    blank-next = upd-both present b (λ _ m. m ≡ 0) next x 0 refl (λ i _. v .blank-next i);
+    blank-ceiling = upd-both present b (λ _ m. m ≡ 0) ceiling x 0 refl (λ i _. v .blank-ceiling i);
   }
     where
       lower : (j : ℕ) → upd next x 0 j ≤ upd ceiling x 0 j
       lower j = unfold upd in by (eqb j x) (λ q. rw q (omega arith)) (λ q. rw q (v .below j))
 
-  blank-logs : {K : ℕ → Type 0} {size chunks : ℕ} {here : ℕ → Bool} {log : ℕ → List Chunk} → LogsOk K size chunks here log
-      → LogsOk K size chunks (upd here x b) (upd log x [])
-  blank-logs {K} {size} {chunks} {here} {log} v = record {
+  blank-logs : {K : ℕ → Type 0} {size chunks : ℕ} {present : ℕ → Bool} {log : ℕ → List Chunk} → LogsOk K size chunks present log
+      → LogsOk K size chunks (upd present x b) (upd log x [])
+  blank-logs {K} {size} {chunks} {present} {log} v = record {
     each = upd-all (λ _ m. LogOk K size m) log x [] (v .each) log-none;
     room = upd-all (λ _ m. length m ≤ chunks) log x [] (v .room) (omega arith);
-    blank = upd-both here b (λ _ m. m ≡ []) log x [] refl (λ i _. v .blank i);
+    blank = upd-both present b (λ _ m. m ≡ []) log x [] refl (λ i _. v .blank i);
   }
 
   blank-buffers : {K : ℕ → Type 0} {up : ℕ → Bool} {buffer : ℕ → List Entry} → BuffersOk K up buffer → BuffersOk K (upd up x b) (upd buffer x [])
@@ -53,21 +53,21 @@ module _ (x : ℕ) (b : Bool) where
     down = upd-both up b (λ _ m. m ≡ []) buffer x [] refl (λ i _. v .down i);
   }
 
-  blank-copies-ok : {K : ℕ → Type 0} {count entries g : ℕ} {here up : ℕ → Bool} {memory disk : ℕ → List Entry}
-      → CopiesOk K count entries here up g memory disk → CopiesOk K count entries (upd here x b) (upd up x b) g (upd memory x []) (upd disk x [])
-  blank-copies-ok {K} {count} {entries} {g} {here} {up} {memory} {disk} v = record {
+  blank-copies-ok : {K : ℕ → Type 0} {count entries g : ℕ} {present up : ℕ → Bool} {memory disk : ℕ → List Entry}
+      → CopiesOk K count entries present up g memory disk → CopiesOk K count entries (upd present x b) (upd up x b) g (upd memory x []) (upd disk x [])
+  blank-copies-ok {K} {count} {entries} {g} {present} {up} {memory} {disk} v = record {
     memories = upd-all (λ _ m. CopyOk K count entries g m) memory x [] (v .memories) table-none;
     disks = upd-all (λ _ m. CopyOk K count entries g m) disk x [] (v .disks) table-none;
-    blank-memory = upd-both here b (λ _ m. m ≡ []) memory x [] refl (λ i _. v .blank-memory i);
-    blank-disk = upd-both here b (λ _ m. m ≡ []) disk x [] refl (λ i _. v .blank-disk i);
+    blank-memory = upd-both present b (λ _ m. m ≡ []) memory x [] refl (λ i _. v .blank-memory i);
+    blank-disk = upd-both present b (λ _ m. m ≡ []) disk x [] refl (λ i _. v .blank-disk i);
     down = upd-both up b (λ i m. m ≡ upd disk x [] i) memory x [] (sym (upd-same disk x [])) (λ i n d. v .down i d ∙ sym (upd-other disk x i [] n));
   }
 
-  blank-buckets : {K : ℕ → Type 0} {c : Settings} {given : ℕ} {here up : ℕ → Bool} {bucket : ℕ → Bucket} (given′ : ℕ) → given ≤ given′
-      → BucketsOk K c given here up bucket → BucketsOk K c given′ (upd here x b) (upd up x b) (λ g. blank-copies x (bucket g))
+  blank-buckets : {K : ℕ → Type 0} {c : Settings} {given : ℕ} {present up : ℕ → Bool} {bucket : ℕ → Bucket} (given′ : ℕ) → given ≤ given′
+      → BucketsOk K c given present up bucket → BucketsOk K c given′ (upd present x b) (upd up x b) (λ g. blanked-copies x (bucket g))
   blank-buckets {given = given} given′ u v =
-      all-buckets v (blank-copies x) (ap₂ (λ (m d : ℕ → List Entry). with-copies blank-bucket m d) (upd-blank [] x) (upd-blank [] x))
-      (λ g o. bucket-ok (wider (o .pair)) (wider (o .last)) (o .order) (o .taken) (blank-copies-ok (copies o)))
+      all-buckets v (blanked-copies x) (ap₂ (λ (m d : ℕ → List Entry). with-copies blank-bucket m d) (upd-blank [] x) (upd-blank [] x))
+      (λ g o. bucket-ok (wider (o .pair)) (wider (o .last)) (o .last-sent) (o .taken) (blank-copies-ok (copies o)))
     where
       wider : {one two : ℕ} → PairOk given one two → PairOk given′ one two
       wider p = record {
@@ -79,12 +79,12 @@ module _ (x : ℕ) (b : Bool) where
       }
 
 -- a crash leaves what is on disk
-crashed-copies : {K : ℕ → Type 0} {count entries g : ℕ} {here up : ℕ → Bool} {memory disk : ℕ → List Entry} (x : ℕ) → here x ≡ true
-    → CopiesOk K count entries here up g memory disk → CopiesOk K count entries here (upd up x false) g (upd memory x (disk x)) disk
-crashed-copies {K} {count} {entries} {g} {here} {up} {memory} {disk} x h v = record {
+crashed-copies : {K : ℕ → Type 0} {count entries g : ℕ} {present up : ℕ → Bool} {memory disk : ℕ → List Entry} (x : ℕ) → present x ≡ true
+    → CopiesOk K count entries present up g memory disk → CopiesOk K count entries present (upd up x false) g (upd memory x (disk x)) disk
+crashed-copies {K} {count} {entries} {g} {present} {up} {memory} {disk} x h v = record {
   memories = upd-all (λ _ m. CopyOk K count entries g m) memory x (disk x) (v .memories) (v .disks x);
   disks = v .disks;
-  blank-memory = upd-up here (λ _ m. m ≡ []) memory x (disk x) h (v .blank-memory);
+  blank-memory = upd-up present (λ _ m. m ≡ []) memory x (disk x) h (v .blank-memory);
   blank-disk = v .blank-disk;
   down = upd-both up false (λ i m. m ≡ disk i) memory x (disk x) refl (λ i _. v .down i);
 }
@@ -108,26 +108,26 @@ module _ {s : State} (v : Sound s) where
       let x = s .ids i in
       let b = v .bricks in
       let g = groups v in
-      let here : k .here x ≡ true = b .up-here x (search) in
-      let more : (j : ℕ) → KeyOf s j → KeyOk (s .given) (k .here) (upd (k .next) x (k .ceiling x)) j = λ j. next-grows x _ (v .numbers .below x) in
+      let present : k .present x ≡ true = b .up-present x (search) in
+      let more : (j : ℕ) → KeyOf s j → KeyOk (s .given) (k .present) (upd (k .next) x (k .ceiling x)) j = λ j. next-grows x _ (v .numbers .below x) in
       let logs = logs-map (g .logs) more in
       from-groups (record {
         limits = v .limits;
-        bricks = new-flags b (λ j m. b .up-here j (unflag (k .up) x j m .0))
+        bricks = new-flags b (λ j m. b .up-present j (unflag (k .up) x j m .0))
             (upd-implies (k .member) (k .up) x false false impossible (b .member-up)) (b .began-here);
         numbers = record {
           below = upd-all (λ j m. m ≤ k .ceiling j) (k .next) x (k .ceiling x) (v .numbers .below) (omega arith);
           most = v .numbers .most;
-          blank-next = upd-up (k .here) (λ _ m. m ≡ 0) (k .next) x _ here (v .numbers .blank-next);
+          blank-next = upd-up (k .present) (λ _ m. m ≡ 0) (k .next) x _ present (v .numbers .blank-next);
           blank-ceiling = v .numbers .blank-ceiling;
         };
         view-first = v .view-first;
         view-last = v .view-last;
         started = v .started;
-        logs = one-log logs x here (log-only (logs .each x) _) (omega (arith, length-only (λ (c : Chunk). c .saved) (k .log x), v .log-room x));
+        logs = one-log logs x present (log-only (logs .each x) _) (omega (arith, length-only (λ (c : Chunk). c .saved) (k .log x), v .log-room x));
         buffers = blank-buffers x false (buffers-map (g .buffers) more);
         bucket = all-buckets (buckets-map (g .bucket) more) (crashed-bucket x)
-            (ap (λ (m : ℕ → List Entry). with-copies blank-bucket m (λ i. [])) (upd-blank [] x)) (λ g o. new-copies o (crashed-copies x here (copies o)));
+            (ap (λ (m : ℕ → List Entry). with-copies blank-bucket m (λ i. [])) (upd-blank [] x)) (λ g o. new-copies o (crashed-copies x present (copies o)));
         bag = bag-map (g .bag) more;
         items = items-map (g .items) more;
         known = g .known;
@@ -150,9 +150,9 @@ module _ {s : State} (v : Sound s) where
       let b = v .bricks in
       let g = groups v in
       let first = occupied i (search) in
-      let more : (j : ℕ) → KeyOf s j → KeyOk (s .given) (upd (k .here) x false) (upd (k .next) x 0) j
+      let more : (j : ℕ) → KeyOf s j → KeyOk (s .given) (upd (k .present) x false) (upd (k .next) x 0) j
       = λ j. key-stays j (omega arith)
-      (λ i _ z. let n = unflag (k .here) x i z in (n .0, omega (arith, upd-other (k .next) x i 0 (n .1)))) in
+      (λ i _ z. let n = unflag (k .present) x i z in (n .0, omega (arith, upd-other (k .next) x i 0 (n .1)))) in
       from-groups (record {
         limits = v .limits;
         bricks = record {
@@ -162,15 +162,15 @@ module _ {s : State} (v : Sound s) where
           apart = λ p q e u. let t = left i p u in let w = left i q (rw e at u) in b .apart p q (sym (t .1) ∙ e ∙ w .1) (rw (t .1) at u);
           stands = λ p u.
               let t = left i p u in
-              rw (t .1) (still-flagged (k .here) x (s .ids p) (λ e. t .0 (b .apart p i e (omega (arith, e)))) (b .stands p (rw (t .1) at u)));
+              rw (t .1) (still-flagged (k .present) x (s .ids p) (λ e. t .0 (b .apart p i e (omega (arith, e)))) (b .stands p (rw (t .1) at u)));
           somewhere = λ j z.
-              let n = unflag (k .here) x j z in
+              let n = unflag (k .present) x j z in
               let u = b .somewhere j (n .0) in
               (u .0, u .1, rw (upd-other (s .ids) i (u .0) 0 (λ e. n .1 (sym (u .2) ∙ ap (s .ids) e))) (u .2));
-          first = λ j z. b .first j (unflag (k .here) x j z .0);
-          up-here = upd-implies (k .up) (k .here) x false false impossible (b .up-here);
+          first = λ j z. b .first j (unflag (k .present) x j z .0);
+          up-present = upd-implies (k .up) (k .present) x false false impossible (b .up-present);
           member-up = upd-implies (k .member) (k .up) x false false impossible (b .member-up);
-          began-here = upd-implies (k .began) (k .here) x false false impossible (b .began-here);
+          began-here = upd-implies (k .began) (k .present) x false false impossible (b .began-here);
         };
         numbers = blank-numbers x false (v .numbers);
         view-first = v .view-first;
@@ -194,7 +194,7 @@ module _ {s : State} (v : Sound s) where
       let g = groups v in
       from-groups (record {
         limits = v .limits;
-        bricks = new-flags b (upd-all (λ j m. m ≡ true → k .here j ≡ true) (k .up) x true (b .up-here) (λ _. b .stands i (occupied i (search and-l))))
+        bricks = new-flags b (upd-all (λ j m. m ≡ true → k .present j ≡ true) (k .up) x true (b .up-present) (λ _. b .stands i (occupied i (search and-l))))
             (upd-all (λ j m. k .member j ≡ true → m ≡ true) (k .up) x true (b .member-up) (λ _. refl)) (b .began-here);
         numbers = v .numbers;
         view-first = v .view-first;
@@ -229,15 +229,15 @@ module _ {s : State} (v : Sound s) where
       (λ q e. by-eq o i (λ t u. rw (q, t) (λ _ _. e ∙ sym u)) (λ t _. rw (q, t) (λ u _. absurd (ids-old o (sym u)))))
       (λ q e. by-eq o i (λ t u. rw (q, t) (λ u _. absurd (ids-old p u))) (λ t _. rw (q, t) (v .bricks .apart p o)))
 
-  join-stands : (i p : ℕ) → 0 < upd (s .ids) i fresh p → upd (s .bricks .here) fresh true (upd (s .ids) i fresh p) ≡ true
+  join-stands : (i p : ℕ) → 0 < upd (s .ids) i fresh p → upd (s .bricks .present) fresh true (upd (s .ids) i fresh p) ≡ true
   join-stands i p =
-      upd-all (λ p m. 0 < m → upd (s .bricks .here) fresh true m ≡ true) (s .ids) i fresh
-      (λ q u. rw (upd-other (s .bricks .here) fresh (s .ids q) true (ids-old q)) (v .bricks .stands q u)) (λ _. upd-same (s .bricks .here) fresh true) p
+      upd-all (λ p m. 0 < m → upd (s .bricks .present) fresh true m ≡ true) (s .ids) i fresh
+      (λ q u. rw (upd-other (s .bricks .present) fresh (s .ids q) true (ids-old q)) (v .bricks .stands q u)) (λ _. upd-same (s .bricks .present) fresh true) p
 
-  join-somewhere : (i : ℕ) → i < s .settings .places → s .ids i ≡ 0 → (j : ℕ) → upd (s .bricks .here) fresh true j ≡ true
+  join-somewhere : (i : ℕ) → i < s .settings .places → s .ids i ≡ 0 → (j : ℕ) → upd (s .bricks .present) fresh true j ≡ true
       → (p : ℕ) × (p < s .settings .places) × (upd (s .ids) i fresh p ≡ j)
   join-somewhere i u none =
-      upd-all (λ j m. m ≡ true → (p : ℕ) × (p < s .settings .places) × (upd (s .ids) i fresh p ≡ j)) (s .bricks .here) fresh true
+      upd-all (λ j m. m ≡ true → (p : ℕ) × (p < s .settings .places) × (upd (s .ids) i fresh p ≡ j)) (s .bricks .present) fresh true
       (λ j z.
       let t = v .bricks .somewhere j z in
       (t .0, t .1, rw (upd-other (s .ids) i (t .0) fresh (λ w. omega (arith, v .bricks .first j z, t .2, ap (s .ids) w))) (t .2)))
@@ -252,11 +252,11 @@ module _ {s : State} (v : Sound s) where
       let g = groups v in
       let few : s .given < max-id = search ltb-true in
       let inside : i < s .settings .places = search ltb-true in
-      let more : (j : ℕ) → KeyOf s j → KeyOk x (upd (k .here) x true) (upd (k .next) x 0) j
+      let more : (j : ℕ) → KeyOf s j → KeyOk x (upd (k .present) x true) (upd (k .next) x 0) j
       = λ j. key-stays j (omega arith)
       (λ i l z.
       let old : i ≡ x → ⊥ = λ e. omega (arith, l) in
-      (rw (upd-other (k .here) x i true old) at z, omega (arith, upd-other (k .next) x i 0 old))) in
+      (rw (upd-other (k .present) x i true old) at z, omega (arith, upd-other (k .next) x i 0 old))) in
       from-groups (record {
         limits = v .limits;
         bricks = record {
@@ -266,10 +266,10 @@ module _ {s : State} (v : Sound s) where
           apart = join-apart i;
           stands = join-stands i;
           somewhere = join-somewhere i inside (search eqb-true);
-          first = upd-all (λ j m. m ≡ true → 0 < j) (k .here) x true (b .first) (λ _. omega arith);
-          up-here = upd-implies (k .up) (k .here) x true true (λ z. z) (b .up-here);
+          first = upd-all (λ j m. m ≡ true → 0 < j) (k .present) x true (b .first) (λ _. omega arith);
+          up-present = upd-implies (k .up) (k .present) x true true (λ z. z) (b .up-present);
           member-up = upd-implies (k .member) (k .up) x false true impossible (b .member-up);
-          began-here = upd-implies (k .began) (k .here) x false true impossible (b .began-here);
+          began-here = upd-implies (k .began) (k .present) x false true impossible (b .began-here);
         };
         numbers = blank-numbers x true (v .numbers);
         view-first = v .view-first;

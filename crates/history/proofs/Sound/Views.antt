@@ -9,17 +9,17 @@ use borrow.Author.Tests.{eqb-true, ltb-true}
 use Rattle.lists.specs.Tests.{only, count-below}
 use Rattle.lists.proofs.Tests.{either, and-l, count-one, count-two, count-at-most, only-in}
 use Rattle.rules.specs.Limits.{buckets}
-use Rattle.rules.specs.Entries.{Entry, waits-for}
+use Rattle.rules.specs.Entries.{Entry, is-of-bucket}
 use Rattle.rules.specs.State.{State}
-use Rattle.rules.specs.Pairs.{at, ids-of}
-use Rattle.rules.specs.Parts.{is-up}
+use Rattle.rules.specs.Pairs.{id-in, ids-of}
+use Rattle.rules.specs.Derived.{is-up}
 use Rattle.rules.specs.Question.{AllYes}
 use Rattle.rules.specs.Views.{view-asks, last-pairs, view-pairs, view-effect, source, fetch-asks, fetch-effect, ready-asks, dropped, ready-effect}
-use Rattle.rules.proofs.Parts.{in-ids}
+use Rattle.rules.proofs.Derived.{in-ids}
 use Rattle.rules.proofs.Sound.{PairOk, Sound}
 use Rattle.rules.proofs.SoundTest.{table-none, buffer-none}
 use Rattle.pairs.proofs.Facts.{pairs-length}
-use Rattle.pairs.proofs.Counts.{slots-length}
+use Rattle.pairs.proofs.Counts.{assigned-length}
 use Rattle.pairs.proofs.Members.{two-members, PairOf, pair-at}
 use Rattle.history.proofs.Sound.Lists.{table-drain, buffer-only}
 use Rattle.history.proofs.Sound.Groups.{new-flags, one-buffer, CopyOk, CopiesOk, one-memory, one-disk, copies, bucket-ok, one-bucket}
@@ -30,12 +30,12 @@ pub pair-ok : {most x y : ℕ} {f : ℕ → Bool} → PairOf most f x y → Pair
 pair-ok p = record { one-first = p .one-first; one-born = p .one-most; two-first = p .two-first; two-born = p .two-most; apart = p .apart }
 
 -- up bricks drop their copies
-module _ {K : ℕ → Type 0} {count entries g : ℕ} {here up : ℕ → Bool} {memory disk : ℕ → List Entry} (c : CopiesOk K count entries here up g memory disk) where
+module _ {K : ℕ → Type 0} {count entries g : ℕ} {present up : ℕ → Bool} {memory disk : ℕ → List Entry} (c : CopiesOk K count entries present up g memory disk) where
   is-dropped : (P : List Entry → Type 0) (copies : ℕ → List Entry) (i : ℕ) → P [] → P (copies i) → P (dropped up copies i)
   unfolding dropped
   is-dropped P copies i none kept = either P (up i) (λ _. none) (λ _. kept)
 
-  dropped-ok : CopiesOk K count entries here up g (dropped up memory) (dropped up disk)
+  dropped-ok : CopiesOk K count entries present up g (dropped up memory) (dropped up disk)
   unfolding dropped
   dropped-ok = record {
     memories = λ i. is-dropped (CopyOk K count entries g) memory i table-none (c .memories i);
@@ -49,16 +49,16 @@ module _ {s : State} (v : Sound s) where
   -- ---- view
   last-length : length (last-pairs s) ≡ 2 * buckets (s .settings)
   unfolding last-pairs
-  last-length = slots-length _ _ _
+  last-length = assigned-length _ _ _
 
   -- the pair of each bucket: two different bricks are up
   view-pair : AllYes (view-asks s) → (g : ℕ) → g < buckets (s .settings)
-      → PairOf (s .given) (s .bricks .up) (at (view-pairs s) (2 * g)) (at (view-pairs s) (2 * g + 1))
+      → PairOf (s .given) (s .bricks .up) (id-in (view-pairs s) (2 * g)) (id-in (view-pairs s) (2 * g + 1))
   unfolding view-pairs
   view-pair y g l =
       let n = s .settings .places in
       let b = v .bricks in
-      let first : (p : ℕ) → is-up s p ≡ true → 0 < s .ids p = λ p z. b .first _ (b .up-here _ z) in
+      let first : (p : ℕ) → is-up s p ≡ true → 0 < s .ids p = λ p z. b .first _ (b .up-present _ z) in
       let up-in : (p : ℕ) → is-up s p ≡ true → List·Memᴰ (s .ids p) (ids-of (s .given) (s .bricks .up))
       = λ p z. in-ids (s .given) (s .bricks .up) (s .ids p) (first p z) (b .born p) z in
       let two : 1 < count-below n (is-up s) = search ltb-true in
@@ -68,8 +68,8 @@ module _ {s : State} (v : Sound s) where
       (λ e. u .3 (sym (b .apart (t .0) (u .0) e (first (t .0) (t .2))))) in
       pair-at (buckets (s .settings)) (s .given) (s .bricks .up) members (last-pairs s) last-length g l
 
-  -- beyond the buckets the slots are empty
-  no-pair : (k : ℕ) → 2 * buckets (s .settings) ≤ k → at (view-pairs s) k ≡ 0
+  -- beyond the buckets the assigned are empty
+  no-pair : (k : ℕ) → 2 * buckets (s .settings) ≤ k → id-in (view-pairs s) k ≡ 0
   unfolding view-pairs
   no-pair k l =
       let up = ids-of (s .given) (s .bricks .up) in
@@ -80,10 +80,10 @@ module _ {s : State} (v : Sound s) where
   view-sound y =
       let b = v .bricks in
       let g = groups v in
-      let slots = view-pairs s in
+      let assigned = view-pairs s in
       from-groups (record {
         limits = v .limits;
-        bricks = new-flags b (b .up-here) (λ j m. m) (b .up-here);
+        bricks = new-flags b (b .up-present) (λ j m. m) (b .up-present);
         numbers = v .numbers;
         view-first = omega arith;
         view-last = search ltb-true;
@@ -106,13 +106,13 @@ module _ {s : State} (v : Sound s) where
       let inside : g < buckets (s .settings) = search ltb-true in
       let k = s .bucket g in
       let x = k .primary in
-      let here = member-here v x (search) in
+      let present = member-here v x (search) in
       let up : s .bricks .up x ≡ true = search and-l in
       let f = v .buckets-ok g inside in
       let new = f .memory (source s g) in
-      let c = one-disk (one-memory (copies f) x here up new) x here up new in
+      let c = one-disk (one-memory (copies f) x present up new) x present up new in
       let o = groups v in
-      let bucket = one-bucket (o .bucket) g inside (bucket-ok (f .pair) (f .last) (f .order) (f .taken) c) in
+      let bucket = one-bucket (o .bucket) g inside (bucket-ok (f .pair) (f .last) (f .last-sent) (f .taken) c) in
       new-parts v (o .logs) (o .buffers) bucket (o .bag) (o .items) (o .known)
 
   -- ---- ready
@@ -124,7 +124,7 @@ module _ {s : State} (v : Sound s) where
       let x = k .primary in
       let z = k .backup in
       let waits = s .bricks .buffer x in
-      let mine = waits-for (buckets (s .settings)) g in
+      let mine = is-of-bucket (buckets (s .settings)) g in
       let xh = member-here v x (search) in
       let xu : s .bricks .up x ≡ true = search and-l in
       let zh = member-here v z (search) in
@@ -133,9 +133,9 @@ module _ {s : State} (v : Sound s) where
       let drained = table-drain (only mine waits) (f .memory x) (λ e m.
       let t = only-in mine waits m in
       let w = v .buffers x .each e (t .0) in
-      record { mine = eqb-true _ _ (unfold waits-for in t .1); small = w .small; key = w .key }) in
+      record { mine = eqb-true _ _ (unfold is-of-bucket in t .1); small = w .small; key = w .key }) in
       let backup = one-disk (one-memory (dropped-ok (copies f)) z zh zu (f .memory x)) z zh zu (f .memory x) in
       let c = one-disk (one-memory backup x xh xu drained) x xh xu (f .disk x) in
       let o = groups v in
-      let bucket = one-bucket (o .bucket) g inside (bucket-ok (f .pair) (f .pair) (f .order) (f .taken) c) in
+      let bucket = one-bucket (o .bucket) g inside (bucket-ok (f .pair) (f .pair) (f .last-sent) (f .taken) c) in
       new-parts v (o .logs) (one-buffer (o .buffers) x xu (buffer-only _ (v .buffers x))) bucket (o .bag) (o .items) (o .known)

@@ -15,13 +15,13 @@ use Rattle.lists.proofs.Columns.{upd-same, upd-all, upd-up}
 use Rattle.rules.specs.Limits.{ceiling-step}
 use Rattle.rules.specs.Numbers.{sequences, home-of}
 use Rattle.rules.specs.Entries.{takes}
-use Rattle.rules.specs.Chunks.{chunk, held, bytes-in, save-all}
+use Rattle.rules.specs.Chunks.{new-chunk, held, bytes-in, save-all}
 use Rattle.rules.specs.State.{State, set-bricks}
-use Rattle.rules.specs.Parts.{up-member, circle}
+use Rattle.rules.specs.Derived.{up-member, members-from}
 use Rattle.rules.specs.Question.{AllYes}
 use Rattle.rules.specs.Writes.{put-asks, new-key, raised, put-effect, other-than, target, nothing-to-copy, copy-asks, copy-effect, savelog-asks, savelog-effect}
 use Rattle.rules.proofs.Chunks.{held-in, length-save}
-use Rattle.rules.proofs.Parts.{ids-in, home-key, sequence-key, circle-in}
+use Rattle.rules.proofs.Derived.{ids-in, home-key, sequence-key, members-from-in}
 use Rattle.rules.proofs.Sound.{KeyOk, ChunkOk, KeyOf, Sound}
 use Rattle.history.proofs.Sound.Lists.{table-insert, log-append, log-save}
 use Rattle.history.proofs.Sound.Groups.{next-grows, logs-map, one-log, buffers-map, buckets-map, bag-map, items-map, one-items}
@@ -39,9 +39,9 @@ module _ {s : State} (v : Sound s) (p i b : ℕ) (d : List ℕ) (y : AllYes (put
   ceiling = s .bricks .ceiling brick
 
   abbrev New : ℕ → Type 0
-  New = KeyOk (s .given) (s .bricks .here) (upd (s .bricks .next) brick (suc next))
+  New = KeyOk (s .given) (s .bricks .present) (upd (s .bricks .next) brick (suc next))
 
-  brick-here : s .bricks .here brick ≡ true
+  brick-here : s .bricks .present brick ≡ true
   brick-here = member-here v brick search
 
   -- question 12
@@ -101,14 +101,14 @@ module _ {s : State} (v : Sound s) (p i b : ℕ) (d : List ℕ) (y : AllYes (put
         numbers = record {
           below = raised-below;
           most = upd-all (λ _ m. m ≤ sequences) (k .ceiling) brick _ (v .numbers .most) raised-most;
-          blank-next = upd-up (k .here) (λ _ m. m ≡ 0) (k .next) brick _ brick-here (v .numbers .blank-next);
-          blank-ceiling = upd-up (k .here) (λ _ m. m ≡ 0) (k .ceiling) brick _ brick-here (v .numbers .blank-ceiling);
+          blank-next = upd-up (k .present) (λ _ m. m ≡ 0) (k .next) brick _ brick-here (v .numbers .blank-next);
+          blank-ceiling = upd-up (k .present) (λ _ m. m ≡ 0) (k .ceiling) brick _ brick-here (v .numbers .blank-ceiling);
         };
         view-first = v .view-first;
         view-last = v .view-last;
         started = v .started;
         logs = one-log logs brick brick-here (log-append (logs .each brick) _ key-unheld (record { key = key-new; bytes = search }))
-            (omega (arith, length-append (k .log brick) (chunk (new-key s brick) false d ∷ [])));
+            (omega (arith, length-append (k .log brick) (new-chunk (new-key s brick) false d ∷ [])));
         buffers = buffers-map (g .buffers) more;
         bucket = buckets-map (g .bucket) more;
         bag = bag-map (g .bag) more;
@@ -128,7 +128,7 @@ other-in h (i ∷ l) =
 module _ {s : State} (v : Sound s) where
   -- a chunk that is held somewhere, put elsewhere
   pub held-ok : (x k : ℕ) (saved : Bool) → held (s .bricks .log x) k ≡ true
-      → ChunkOk (KeyOf s) (s .settings .size) (chunk k saved (bytes-in (s .bricks .log x) k))
+      → ChunkOk (KeyOf s) (s .settings .size) (new-chunk k saved (bytes-in (s .bricks .log x) k))
   held-ok x k saved y =
       let t = held-in (s .bricks .log x) k y in
       let u = v .logs x .each (t .0) (t .1) in
@@ -138,9 +138,9 @@ module _ {s : State} (v : Sound s) where
   target-up : (k : ℕ) → (target s k ≡ 0) ⊎ (up-member s (target s k) ≡ true)
   unfolding target
   target-up k =
-      elim (other-in (home-of k) (circle s (home-of k))) [
+      elim (other-in (home-of k) (members-from s (home-of k))) [
         | inl e ↦ inl e
-        | inr m ↦ let y = ids-in _ _ _ (circle-in s (home-of k) _ m) .2 in inr (both _ _ (v .bricks .member-up _ y) y)
+        | inr m ↦ let y = ids-in _ _ _ (members-from-in s (home-of k) _ m) .2 in inr (both _ _ (v .bricks .member-up _ y) y)
       ]
 
   pub copy-sound : (k : ℕ) → AllYes (copy-asks s k) → Sound (copy-effect s k)
@@ -148,7 +148,7 @@ module _ {s : State} (v : Sound s) where
   copy-sound k y =
       let t = target s k in
       let l = s .bricks .log t in
-      let new = chunk k false (bytes-in (s .bricks .log (home-of k)) k) in
+      let new = new-chunk k false (bytes-in (s .bricks .log (home-of k)) k) in
       either (λ b. Sound (set-bricks s b)) (nothing-to-copy s k) (λ _. v)
       (λ q.
       let unheld : held l k ≡ false = by (held l k) (λ z. clash q (or-r _ _ z)) (λ z. z) in

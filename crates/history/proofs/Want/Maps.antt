@@ -9,19 +9,19 @@ use Rattle.lists.proofs.Tests.{either, clash, and-r, an-element}
 use Rattle.lists.proofs.Columns.{upd-all}
 use Rattle.rules.specs.Event.{Event}
 use Rattle.rules.specs.State.{State}
-use Rattle.rules.specs.Parts.{saved-at, bucket-no, bucket-at, item}
+use Rattle.rules.specs.Derived.{saved-at, bucket-no, bucket-at, item}
 use Rattle.rules.specs.Maps.{map-effect, savemap-effect}
 use Rattle.rules.specs.Step.{rule}
 use Rattle.rules.proofs.Step.{Yes}
-use Rattle.rules.proofs.Parts.{ids-in, saved-at-in}
+use Rattle.rules.proofs.Derived.{ids-in, saved-at-in}
 use Rattle.rules.proofs.Sound.{Sound}
 use Rattle.history.specs.Claim.{History}
 use Rattle.history.proofs.Copies.{copies-insert, copies-saved}
-use Rattle.history.proofs.Invariant.{Aged}
-use Rattle.history.proofs.Wanting.{KeptBy, WantOf, Stocked}
+use Rattle.history.proofs.AgeingInvariant.{AgeingInvariant}
+use Rattle.history.proofs.WantInvariant.{KeptBy, WantOf, WantInvariant}
 use Rattle.history.proofs.Ageing.Maps.{waits-now}
 
-module _ (s : State) (o : ℕ → Bool) (w : Stocked s o) where
+module _ (s : State) (o : ℕ → Bool) (w : WantInvariant s o) where
   -- what map asks of the chunk
   saved-kept : (k : ℕ) → 0 < length (saved-at s k) → KeptBy s k
   saved-kept k n =
@@ -29,13 +29,13 @@ module _ (s : State) (o : ℕ → Bool) (w : Stocked s o) where
       let u = saved-at-in s k (t .0) (t .1) in
       inr (record { who = t .0; is-member = ids-in _ _ _ (u .0) .2; saved = u .1 })
 
-  pub map-stocked : (h : History) (v : Aged s h) (z : Sound s) (p b : ℕ) → Yes s (Event.map p b) → Stocked (rule s (Event.map p b) .after) o
+  pub map-want : (h : History) (v : AgeingInvariant s h) (z : Sound s) (p b : ℕ) → Yes s (Event.map p b) → WantInvariant (rule s (Event.map p b) .after) o
   unfolding rule map-effect
-  map-stocked h v z p b y =
+  map-want h v z p b y =
       let k = bucket-at s b in
       let member : s .bricks .member (k .primary) ≡ true = search and-r in
       let kept = saved-kept (item s p b) (search ltb-true) in
-      either (λ (t : State). Stocked t o) (k .ready)
+      either (λ (t : State). WantInvariant t o) (k .ready)
       (λ _. record {
         waiting = w .waiting;
         buckets = upd-all (WantOf (KeptBy s) s o) (s .bucket) (bucket-no s b) _ (w .buckets) (λ l.
@@ -43,8 +43,8 @@ module _ (s : State) (o : ℕ → Bool) (w : Stocked s o) where
             record {
               pair = u .pair;
               copies = copies-insert _ (u .copies) (k .primary) b (item s p b) kept;
-              flown = u .flown;
-              even = λ _ n. clash n member;
+              live-kept = u .live-kept;
+              matches-backup = λ _ n. clash n member;
             });
       })
       (λ _. record {
@@ -52,9 +52,9 @@ module _ (s : State) (o : ℕ → Bool) (w : Stocked s o) where
         buckets = w .buckets;
       })
 
-  pub savemap-stocked : (i : ℕ) → Stocked (rule s (Event.savemap i) .after) o
+  pub savemap-want : (i : ℕ) → WantInvariant (rule s (Event.savemap i) .after) o
   unfolding rule savemap-effect
-  savemap-stocked i = record {
+  savemap-want i = record {
     waiting = w .waiting;
-    buckets = λ g l. let u = w .buckets g l in record { pair = u .pair; copies = copies-saved _ (u .copies) (s .ids i); flown = u .flown; even = u .even };
+    buckets = λ g l. let u = w .buckets g l in record { pair = u .pair; copies = copies-saved _ (u .copies) (s .ids i); live-kept = u .live-kept; matches-backup = u .matches-backup };
   }

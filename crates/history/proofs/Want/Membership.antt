@@ -12,32 +12,32 @@ use Rattle.lists.specs.Columns.{upd}
 use Rattle.lists.proofs.Tests.{by, by-eq, clash, and-l, and-r, all-at, every-in}
 use Rattle.lists.proofs.Columns.{upd-same, upd-other, unflag, still-flagged}
 use Rattle.rules.specs.Limits.{buckets}
-use Rattle.rules.specs.Entries.{Entry, look, has}
+use Rattle.rules.specs.Entries.{Entry, key-for, has}
 use Rattle.rules.specs.Chunks.{Chunk, saved-in}
 use Rattle.rules.specs.Event.{Event}
 use Rattle.rules.specs.State.{State, Bucket, with-copies}
-use Rattle.rules.specs.Parts.{up-member, saved-at, primary-memory, calm}
+use Rattle.rules.specs.Derived.{up-member, saved-at, primary-memory, nothing-pending}
 use Rattle.rules.specs.Membership.{crash-effect, lose-effect, rise-effect, join-effect}
 use Rattle.rules.specs.Whole.{saved-twice, whole}
 use Rattle.rules.specs.Step.{rule}
 use Rattle.rules.proofs.Step.{Yes}
-use Rattle.rules.proofs.Parts.{ids-in, two-ids, saved-at-in, agree-all}
+use Rattle.rules.proofs.Derived.{ids-in, two-ids, saved-at-in, agree-all}
 use Rattle.rules.proofs.Entries.{has-entry, no-entry}
 use Rattle.rules.proofs.Sound.{Sound}
 use Rattle.history.specs.Claim.{History}
 use Rattle.history.proofs.Copies.{ReliedOn, Copies, copies-map, copies-crashed, copies-blank}
-use Rattle.history.proofs.Facts.{here-born, brick-here, not-joined, joined-relied, lost-relied, emptied}
-use Rattle.history.proofs.Invariant.{Aged}
-use Rattle.history.proofs.Wanting.{Kept, KeptBy, Full, PairWant, BucketWant, Stocked}
-use Rattle.history.proofs.Want.Calm.{Settled, copies-mapped, flown-mapped, settled, none-waits}
+use Rattle.history.proofs.Facts.{present-born, brick-here, not-joined, joined-relied, lost-relied, emptied}
+use Rattle.history.proofs.AgeingInvariant.{AgeingInvariant}
+use Rattle.history.proofs.WantInvariant.{Kept, KeptBy, Full, PairWant, BucketWant, WantInvariant}
+use Rattle.history.proofs.Want.NothingPending.{Settled, copies-mapped, live-mapped, settled, none-waits}
 
-pub rise-stocked : (s : State) (o : ℕ → Bool) → Stocked s o → (i : ℕ) → Stocked (rule s (Event.rise i) .after) o
+pub rise-want : (s : State) (o : ℕ → Bool) → WantInvariant s o → (i : ℕ) → WantInvariant (rule s (Event.rise i) .after) o
 unfolding rule rise-effect
-rise-stocked s o w i = record { waiting = w .waiting; buckets = w .buckets }
+rise-want s o w i = record { waiting = w .waiting; buckets = w .buckets }
 
 -- ---- a strike at a whole store
-module _ (s : State) (h : History) (v : Aged s h) (z : Sound s) (o : ℕ → Bool) (w : Stocked s o) (was : whole s ≡ true) where
-  calms : (g : ℕ) → g < buckets (s .settings) → calm (s .bucket g) ≡ true
+module _ (s : State) (h : History) (v : AgeingInvariant s h) (z : Sound s) (o : ℕ → Bool) (w : WantInvariant s o) (was : whole s ≡ true) where
+  calms : (g : ℕ) → g < buckets (s .settings) → nothing-pending (s .bucket g) ≡ true
   unfolding whole
   calms = all-at _ _ (and-r _ _ (and-l _ _ was))
 
@@ -60,7 +60,7 @@ module _ (s : State) (h : History) (v : Aged s h) (z : Sound s) (o : ℕ → Boo
 
     -- without brick x every mapped key is kept
     kept-elsewhere : (l : List Chunk) (g : ℕ) → g < buckets (s .settings) → (b : ℕ)
-        → Kept member′ (upd (s .bricks .log) x l) (look (primary-memory (s .bucket g)) b)
+        → Kept member′ (upd (s .bricks .log) x l) (key-for (primary-memory (s .bucket g)) b)
     unfolding saved-at
     kept-elsewhere l g n b =
         by (has (primary-memory (s .bucket g)) b)
@@ -81,8 +81,8 @@ module _ (s : State) (h : History) (v : Aged s h) (z : Sound s) (o : ℕ → Boo
       abbrev own : Bucket
       own = s .bucket g
 
-      struck-pair : PairWant (s .settings .places) ids′ member′ (own .last-primary) (own .last-backup) (own .ready) (o g)
-      struck-pair =
+      pair-after-failure : PairWant (s .settings .places) ids′ member′ (own .last-primary) (own .last-backup) (own .ready) (o g)
+      pair-after-failure =
           let u = w .buckets g l .pair in
           let t = u .all (calmed g l .ready) full in
           record {
@@ -94,49 +94,49 @@ module _ (s : State) (h : History) (v : Aged s h) (z : Sound s) (o : ℕ → Boo
           }
 
       -- what is left of the bucket: where the primary is struck, the backup shows every mapped key
-      struck-bucket : (log : List Chunk) (here′ : ℕ → Bool) (memory′ disk′ : ℕ → List Entry)
-          → Copies (λ _. Kept member′ (upd (s .bricks .log) x log)) (ReliedOn here′ own) memory′ disk′
-          → ((b : ℕ) → member′ (own .primary) ≡ false → look (memory′ (own .backup)) b ≡ look (primary-memory own) b)
-          → BucketWant (Kept member′ (upd (s .bricks .log) x log)) (s .settings .places) ids′ here′ member′ (s .bag) (s .view) (o g) g
+      bucket-after-failure : (log : List Chunk) (present′ : ℕ → Bool) (memory′ disk′ : ℕ → List Entry)
+          → Copies (λ _. Kept member′ (upd (s .bricks .log) x log)) (ReliedOn present′ own) memory′ disk′
+          → ((b : ℕ) → member′ (own .primary) ≡ false → key-for (memory′ (own .backup)) b ≡ key-for (primary-memory own) b)
+          → BucketWant (Kept member′ (upd (s .bricks .log) x log)) (s .settings .places) ids′ present′ member′ (s .bag) (s .view) (o g) g
           (with-copies own memory′ disk′)
-      struck-bucket log here′ memory′ disk′ kept shows = record {
-        pair = struck-pair;
+      bucket-after-failure log present′ memory′ disk′ kept shows = record {
+        pair = pair-after-failure;
         copies = kept;
-        flown = flown-mapped (calmed g l) _ (kept-elsewhere log g l);
-        even = λ _ n r m t. calmed g l .flown r m t ∙ sym (shows (r .block) n);
+        live-kept = live-mapped (calmed g l) _ (kept-elsewhere log g l);
+        matches-backup = λ _ n r m t. calmed g l .live-kept r m t ∙ sym (shows (r .block) n);
       }
 
     copies-elsewhere : (log : List Chunk) (g : ℕ) → g < buckets (s .settings)
-        → let k = s .bucket g in Copies (λ _. Kept member′ (upd (s .bricks .log) x log)) (ReliedOn (s .bricks .here) k) (k .memory) (k .disk)
+        → let k = s .bucket g in Copies (λ _. Kept member′ (upd (s .bricks .log) x log)) (ReliedOn (s .bricks .present) k) (k .memory) (k .disk)
     copies-elsewhere log g l = copies-mapped (calmed g l) _ (kept-elsewhere log g l) (w .buckets g l .copies)
 
     none-waiting : (j : ℕ) (e : Entry) → List·Memᴰ e (upd (s .bricks .buffer) x [] j) → ⊥
     none-waiting j e m = none-waits s h v o w calms j e (emptied (s .bricks .buffer) x j e m)
 
-  pub crash-stocked : (i : ℕ) → Yes s (Event.crash i) → Stocked (rule s (Event.crash i) .after) o
+  pub crash-want : (i : ℕ) → Yes s (Event.crash i) → WantInvariant (rule s (Event.crash i) .after) o
   unfolding rule crash-effect upd
-  crash-stocked i y =
+  crash-want i y =
       let x = s .ids i in
       let gone : member′ x x ≡ true → ⊥ = λ m. unflag (s .bricks .member) x x m .1 refl in
       record {
         waiting = λ j e m. absurd (none-waiting x j e m);
         buckets = λ g l.
             let k = s .bucket g in
-            struck-bucket x (s .ids) i (search ltb-true) gone g l _ _ _ _ (copies-crashed _ (copies-elsewhere x _ g l) x) (λ b _.
+            bucket-after-failure x (s .ids) i (search ltb-true) gone g l _ _ _ _ (copies-crashed _ (copies-elsewhere x _ g l) x) (λ b _.
             let agreed = agree-all k b (calmed g l .one-key b) in
             by-eq (k .backup) x (λ q e. rw (q, ← e) (agreed .2)) (λ q _. rw q (agreed .1)));
       }
 
-  pub lose-stocked : (i : ℕ) → Yes s (Event.lose i) → Stocked (rule s (Event.lose i) .after) o
+  pub lose-want : (i : ℕ) → Yes s (Event.lose i) → WantInvariant (rule s (Event.lose i) .after) o
   unfolding rule lose-effect
-  lose-stocked i y =
+  lose-want i y =
       let x = s .ids i in
       record {
         waiting = λ j e m. absurd (none-waiting x j e m);
         buckets = λ g l.
             let k = s .bucket g in
             let c = calmed g l in
-            struck-bucket x _ i (search ltb-true) (no-member x i) g l _ _ _ _ (copies-blank _ (copies-elsewhere x _ g l) x (lost-relied s x k)) (λ b n.
+            bucket-after-failure x _ i (search ltb-true) (no-member x i) g l _ _ _ _ (copies-blank _ (copies-elsewhere x _ g l) x (lost-relied s x k)) (λ b n.
             let primary = rw (← c .same .one) at (w .buckets g l .pair .all (c .ready) full .0) in
             let struck : k .primary ≡ x = by-eq (k .primary) x (λ _ e. e) (λ _ d. clash n (still-flagged (s .bricks .member) x _ d primary)) in
             let apart : k .backup ≡ x → ⊥ = λ e. z .buckets-ok g l .pair .apart (struck ∙ sym e) in
@@ -148,12 +148,12 @@ module _ (s : State) (h : History) (v : Aged s h) (z : Sound s) (o : ℕ → Boo
           let t = unflag (s .bricks .member) x 0 (rw (upd-same (s .ids) i 0) at m) .0 in omega (arith, z .bricks .first 0 (brick-here s z 0 t))
 
 -- ---- join: its id is no one's yet
-module _ (s : State) (z : Sound s) (o : ℕ → Bool) (w : Stocked s o) where
+module _ (s : State) (z : Sound s) (o : ℕ → Bool) (w : WantInvariant s o) where
   abbrev new : ℕ
   new = suc (s .given)
 
   old : (j : ℕ) → s .bricks .member j ≡ true → j ≡ new → ⊥
-  old j y = not-joined s j (here-born s z j (brick-here s z j y))
+  old j y = not-joined s j (present-born s z j (brick-here s z j y))
 
   still-member : (j : ℕ) → s .bricks .member j ≡ true → upd (s .bricks .member) new false j ≡ true
   still-member j y = still-flagged (s .bricks .member) new j (old j y) y
@@ -166,9 +166,9 @@ module _ (s : State) (z : Sound s) (o : ℕ → Bool) (w : Stocked s o) where
     saved = rw (upd-other (s .bricks .log) new (t .who) [] (old _ (t .is-member))) (t .saved);
   })
 
-  pub join-stocked : (i : ℕ) → Yes s (Event.join i) → Stocked (rule s (Event.join i) .after) o
+  pub join-want : (i : ℕ) → Yes s (Event.join i) → WantInvariant (rule s (Event.join i) .after) o
   unfolding rule join-effect
-  join-stocked i y = record {
+  join-want i y = record {
     waiting = λ j e m. still-kept _ (w .waiting j e (emptied (s .bricks .buffer) new j e m));
     buckets = λ g l.
         let k = s .bucket g in
@@ -181,11 +181,11 @@ module _ (s : State) (z : Sound s) (o : ℕ → Bool) (w : Stocked s o) where
             all = λ _ f. absurd (unflag (s .bricks .member) new new (rw (upd-same (s .ids) i new) at (f i (search ltb-true))) .1 refl);
           };
           copies = copies-map _ _ (λ _. still-kept) (λ _ r. r) (copies-blank _ (u .copies) new (joined-relied s z g l));
-          flown = λ r m t. still-kept _ (u .flown r m t);
-          even = λ ready n r m t.
+          live-kept = λ r m t. still-kept _ (u .live-kept r m t);
+          matches-backup = λ ready n r m t.
               let backup : k .backup ≡ new → ⊥ = not-joined s _ (pair .two-born) in
               let primary : k .primary ≡ new → ⊥ = not-joined s _ (pair .one-born) in
               let out = rw (upd-other (s .bricks .member) new (k .primary) false primary) at n in
-              rw (upd-other (k .memory) new (k .backup) [] backup) (u .even ready out r m t);
+              rw (upd-other (k .memory) new (k .backup) [] backup) (u .matches-backup ready out r m t);
         };
   }

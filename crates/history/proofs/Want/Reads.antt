@@ -10,32 +10,32 @@ use Rattle.lists.proofs.Tests.{by-eq, or-l, or-r}
 use Rattle.rules.specs.Numbers.{home-of}
 use Rattle.rules.specs.Event.{Event}
 use Rattle.rules.specs.State.{State}
-use Rattle.rules.specs.Parts.{circle, holder, bucket-no, bucket-at}
+use Rattle.rules.specs.Derived.{members-from, holder, bucket-no, bucket-at}
 use Rattle.rules.specs.Question.{first-no, is-ready}
 use Rattle.rules.specs.Reads.{mapped, get-asks}
 use Rattle.rules.specs.Step.{rule}
 use Rattle.rules.proofs.Step.{never-answered}
-use Rattle.rules.proofs.Parts.{bucket-below, in-ids, ids-in, in-circle, circle-in, seek-found}
+use Rattle.rules.proofs.Derived.{bucket-below, in-ids, ids-in, in-members-from, members-from-in, first-holder-found}
 use Rattle.rules.proofs.Chunks.{saved-held}
 use Rattle.rules.proofs.Sound.{Sound}
 use Rattle.history.specs.Claim.{History}
 use Rattle.history.proofs.Sound.Groups.{member-here}
 use Rattle.history.proofs.Copies.{primary-relied}
-use Rattle.history.proofs.Facts.{here-born, brick-here}
-use Rattle.history.proofs.Invariant.{Aged}
-use Rattle.history.proofs.Wanting.{KeptBy, Stocked}
+use Rattle.history.proofs.Facts.{present-born, brick-here}
+use Rattle.history.proofs.AgeingInvariant.{AgeingInvariant}
+use Rattle.history.proofs.WantInvariant.{KeptBy, WantInvariant}
 
 module _ (s : State) (z : Sound s) where
   kept-found : (k : ℕ) → KeptBy s k → (k ≡ 0 → ⊥) → ltb 0 (holder s k) ≡ true
   unfolding holder
   kept-found k (inl e) n = absurd (n e)
   kept-found k (inr t) n =
-      let here = brick-here s z (t .who) (t .is-member) in
-      let is-id = in-ids (s .given) (s .bricks .member) (t .who) (z .bricks .first _ here) (here-born s z _ here) (t .is-member) in
-      lt-ltb _ _ (seek-found (s .bricks) k (t .who) (circle s (home-of k)) (λ j m. ids-in _ _ j (circle-in s _ j m) .0) (in-circle s _ (t .who) is-id)
+      let present = brick-here s z (t .who) (t .is-member) in
+      let is-id = in-ids (s .given) (s .bricks .member) (t .who) (z .bricks .first _ present) (present-born s z _ present) (t .is-member) in
+      lt-ltb _ _ (first-holder-found (s .bricks) k (t .who) (members-from s (home-of k)) (λ j m. ids-in _ _ j (members-from-in s _ j m) .0) (in-members-from s _ (t .who) is-id)
       (z .bricks .member-up _ (t .is-member)) (saved-held _ k (t .saved)))
 
-  pub get-found : (h : History) → Aged s h → (o : ℕ → Bool) → Stocked s o → (p b : ℕ) → first-no (rule s (Event.get p b) .questions) ≡ 11 → ⊥
+  pub get-found : (h : History) → AgeingInvariant s h → (o : ℕ → Bool) → WantInvariant s o → (p b : ℕ) → first-no (rule s (Event.get p b) .questions) ≡ 11 → ⊥
   unfolding rule
   get-found h v o w p b =
       never-answered 11 (get-asks s p b) (omega arith)

@@ -11,30 +11,30 @@ use Rattle.lists.specs.Tests.{only}
 use Rattle.lists.proofs.Tests.{either, impossible, clash, and-r, both, only-in}
 use Rattle.lists.proofs.Columns.{upd-same, upd-all, unflag}
 use Rattle.rules.specs.Limits.{buckets}
-use Rattle.rules.specs.Entries.{waits-for, drain}
+use Rattle.rules.specs.Entries.{is-of-bucket, drain}
 use Rattle.rules.specs.Event.{Event}
 use Rattle.rules.specs.State.{State}
-use Rattle.rules.specs.Parts.{up-member}
+use Rattle.rules.specs.Derived.{up-member}
 use Rattle.rules.specs.Question.{first-no}
 use Rattle.rules.specs.Views.{view-effect, source, fetch-asks, fetch-effect, ready-bucket, ready-effect}
 use Rattle.rules.specs.Step.{rule}
 use Rattle.rules.proofs.Step.{Yes, never-answered}
 use Rattle.rules.proofs.Sound.{Sound}
-use Rattle.history.specs.Claim.{History, views, readies, opens}
+use Rattle.history.specs.Claim.{History, views, readies, awaiting-by}
 use Rattle.history.proofs.Copies.{relied-anew, relied-before, in-drain, copies-map, copies-fetched, copies-ready}
-use Rattle.history.proofs.Invariant.{Aged}
-use Rattle.history.proofs.Wanting.{Kept, KeptBy, WantOf, Stocked}
+use Rattle.history.proofs.AgeingInvariant.{AgeingInvariant}
+use Rattle.history.proofs.WantInvariant.{Kept, KeptBy, WantOf, WantInvariant}
 use Rattle.history.proofs.Ageing.Views.{source-relied, ready-relied, old-relay, still, waits-yet}
 
-module _ (s : State) (h : History) (v : Aged s h) (z : Sound s) (o : ℕ → Bool) (w : Stocked s o) where
+module _ (s : State) (h : History) (v : AgeingInvariant s h) (z : Sound s) (o : ℕ → Bool) (w : WantInvariant s o) where
   -- ---- view: members are all up bricks, and every member was one
   kept-anew : (k : ℕ) → KeptBy s k → Kept (s .bricks .up) (s .bricks .log) k
   kept-anew k (inl e) = inl e
   kept-anew k (inr t) = inr (record { who = t .who; is-member = z .bricks .member-up _ (t .is-member); saved = t .saved })
 
-  pub view-stocked : Stocked (rule s Event.view .after) (opens o views)
+  pub view-want : WantInvariant (rule s Event.view .after) (awaiting-by o views)
   unfolding rule view-effect
-  view-stocked = record {
+  view-want = record {
     waiting = λ i e m. absurd (List·Memᴰ·not-nil m);
     buckets = λ g l.
         let u = w .buckets g l in
@@ -45,15 +45,15 @@ module _ (s : State) (h : History) (v : Aged s h) (z : Sound s) (o : ℕ → Boo
             all = λ y. impossible y;
           };
           copies = copies-map _ _ (λ _. kept-anew) (λ i. relied-anew _ _ _) (u .copies);
-          flown = λ r m. absurd (old-relay s h v g r m);
-          even = λ y. impossible y;
+          live-kept = λ r m. absurd (old-relay s h v g r m);
+          matches-backup = λ y. impossible y;
         };
   }
 
   -- ---- fetch
-  pub fetch-stocked : (g : ℕ) → Yes s (Event.fetch g) → Stocked (rule s (Event.fetch g) .after) o
+  pub fetch-want : (g : ℕ) → Yes s (Event.fetch g) → WantInvariant (rule s (Event.fetch g) .after) o
   unfolding rule fetch-effect
-  fetch-stocked g y =
+  fetch-want g y =
       let k = s .bucket g in
       let unready : k .ready ≡ false = search not-true in
       record {
@@ -63,8 +63,8 @@ module _ (s : State) (h : History) (v : Aged s h) (z : Sound s) (o : ℕ → Boo
             record {
               pair = u .pair;
               copies = copies-fetched _ (u .copies) (k .primary) _ (u .copies .memory _ (source-relied s z g (search))) (λ i. relied-before (k .primary) _);
-              flown = u .flown;
-              even = λ t. clash unready t;
+              live-kept = u .live-kept;
+              matches-backup = λ t. clash unready t;
             });
       }
 
@@ -72,8 +72,8 @@ module _ (s : State) (h : History) (v : Aged s h) (z : Sound s) (o : ℕ → Boo
   readied : (g : ℕ) → Yes s (Event.ready g)
       → let k = s .bucket g in
       let waits = s .bricks .buffer (k .primary) in
-      let drained = drain (s .settings .entries) (k .memory (k .primary)) (only (waits-for (buckets (s .settings)) g) waits) in
-      WantOf (KeptBy s) s (opens o (readies g)) g (ready-bucket (s .bricks .up) drained k)
+      let drained = drain (s .settings .entries) (k .memory (k .primary)) (only (is-of-bucket (buckets (s .settings)) g) waits) in
+      WantOf (KeptBy s) s (awaiting-by o (readies g)) g (ready-bucket (s .bricks .up) drained k)
   unfolding rule
   readied g y l =
       let k = s .bucket g in
@@ -92,27 +92,27 @@ module _ (s : State) (h : History) (v : Aged s h) (z : Sound s) (o : ℕ → Boo
           all = λ _ _. (one, two);
         };
         copies = copies-ready _ _ (k .primary) (k .backup) _ _ _ _ _ _ apart top drained (u .copies .disk _ relied);
-        flown = λ r m. absurd (still s h v z g l unready r m);
-        even = λ _ _ r m. absurd (still s h v z g l unready r m);
+        live-kept = λ r m. absurd (still s h v z g l unready r m);
+        matches-backup = λ _ _ r m. absurd (still s h v z g l unready r m);
       }
 
-  pub ready-stocked : (g : ℕ) → Yes s (Event.ready g) → Stocked (rule s (Event.ready g) .after) (opens o (readies g))
+  pub ready-want : (g : ℕ) → Yes s (Event.ready g) → WantInvariant (rule s (Event.ready g) .after) (awaiting-by o (readies g))
   unfolding rule ready-effect
-  ready-stocked g y =
+  ready-want g y =
       let l : g < buckets (s .settings) = search ltb-true in
       record {
         waiting = λ i e m. w .waiting i e (waits-yet s h v z g l i e m .0);
-        buckets = upd-all (WantOf (KeptBy s) s (opens o (readies g))) (s .bucket) g _ others (readied g y);
+        buckets = upd-all (WantOf (KeptBy s) s (awaiting-by o (readies g))) (s .bucket) g _ others (readied g y);
       }
     where
-      others : (j : ℕ) → WantOf (KeptBy s) s (opens o (readies g)) j (s .bucket j)
+      others : (j : ℕ) → WantOf (KeptBy s) s (awaiting-by o (readies g)) j (s .bucket j)
       others j l =
           let u = w .buckets j l in
           record {
             pair = record { tracked = λ t. u .pair .tracked (unflag o g j t .0); one = u .pair .one; all = u .pair .all };
             copies = u .copies;
-            flown = u .flown;
-            even = u .even;
+            live-kept = u .live-kept;
+            matches-backup = u .matches-backup;
           }
 
   -- ---- no fetch answers 13 where the bucket is open

@@ -10,8 +10,8 @@ use Rattle.log.proofs.append_in_place.Tie as tie
 read-requires : tie.Need-read-requires
 read-requires c κs = search needs
 
-place-requires : tie.Need-place-requires
-place-requires c κs = ((omega arith, omega arith), rw (c .before .read .ensures) (c .before .before .before .before .pre .0 .order))
+lower-bound-requires : tie.Need-lower-bound-requires
+lower-bound-requires c κs = ((omega arith, omega arith), rw (c .before .read .ensures) (c .before .before .before .before .pre .0 .order))
 
 cast-enter : tie.Need-cast-enter
 cast-enter c = search needs
@@ -25,15 +25,15 @@ same-length c = search needs
 returns : tie.Need-returns
 returns c =
     let after-enter = c .before .before in
-    let after-place = after-enter .before .before in
-    let after-read = after-place .before .before in
+    let after-lower-bound = after-enter .before .before in
+    let after-read = after-lower-bound .before .before in
     let k = after-read .before .before in
     let s = k .before in
     append-leaves (s .args .chunks) (s .args .width) (s .args .log .now) (s .pre .0)
-    (below-of 256 (s .args .log .now) (λ i. k .slice-known .given i .fits)) (after-read .read .result) (after-place .place .result) (s .args .key .0)
+    (below-of 256 (s .args .log .now) (λ i. k .slice-known .given i .fits)) (after-read .read .result) (after-lower-bound .lower-bound .result) (s .args .key .0)
     (s .args .saved) (boolByte (s .args .saved)) (after-enter .enter .last .0) (flag-word (s .args .saved)) (s .pre .1) (after-read .read .ensures)
-    (after-place .place .ensures) (after-enter .enter .ensures)
+    (after-lower-bound .lower-bound .ensures) (after-enter .enter .ensures)
 
 pub append-in-place-spec : {M : Type 1} → statement M
 append-in-place-spec =
-    tie.close (tie.spec read-requires place-requires cast-enter enter-requires same-length returns)
+    tie.close (tie.spec read-requires lower-bound-requires cast-enter enter-requires same-length returns)

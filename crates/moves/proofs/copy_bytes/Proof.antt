@@ -4,7 +4,7 @@ use Prim.Native.Nat.{ℕ, _+_, _-_, _≤_}
 use native.Mathlib.Omega.{arith}
 use lib.ListN.{length, take, drop}
 use lib.Seq.{paste}
-use Rattle.blocks.proofs.Laws.{copy-end}
+use Rattle.spans.proofs.Laws.{copy-end}
 use Rattle.moves.proofs.Laws.{copy-more}
 use borrow.Author.Needs.{needs}
 use Rattle.moves.proofs.copy_bytes.Statement.{statement}

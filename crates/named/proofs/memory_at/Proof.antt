@@ -1,7 +1,7 @@
 use mathlib.Core.Path.{_≡_}
 use native.Mathlib.Omega.{arith}
 use Rattle.words.specs.Words.{words}
-use Rattle.layout.specs.Disk.{blank-brick}
+use Rattle.layout.specs.Contents.{blank-brick}
 use Rattle.layout.specs.Store.{brick-in, decode}
 use Rattle.layout.proofs.Bounds.{store-small}
 use Rattle.lent.specs.Places.{Stands}

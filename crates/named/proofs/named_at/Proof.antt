@@ -1,5 +1,5 @@
 use mathlib.Core.Path.{sym, ap, _∙_}
-use Rattle.layout.specs.Disk.{Agreed}
+use Rattle.layout.specs.Contents.{Agreed}
 use Rattle.named.proofs.Copies.{named-ready, named-none}
 use borrow.Author.Needs.{needs}
 use Rattle.named.proofs.named_at.Statement.{statement}

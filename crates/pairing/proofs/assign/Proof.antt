@@ -29,7 +29,7 @@ returns c =
     let c2 = at-fill-all .fill-all in
     let c3 = at-walk .walk in
     let c4 = after-walk2 .walk2 in
-    assigned (s .args .count) (s .args .members .now) (s .args .slots .now) (c1 .last .1 .0) (c2 .last .1 .0) (c3 .last .1 .0) (c4 .last .1 .0)
+    assigned (s .args .count) (s .args .members .now) (s .args .assigned .now) (c1 .last .1 .0) (c2 .last .1 .0) (c3 .last .1 .0) (c4 .last .1 .0)
     (at-fair-share .fair-share .result)
     (c1 .ensures) (c2 .ensures) (at-fair-share .fair-share .ensures) (c3 .ensures) (c4 .ensures)
 

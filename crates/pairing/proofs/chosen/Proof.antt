@@ -7,17 +7,17 @@ use Rattle.pairing.proofs.chosen.Tie as tie
 returns : tie.Need-returns
 returns c =
     let s : tie.Start = search in
-    choose-a (s .args .slots .now) (s .args .one) (s .args .two) (s .args .id) (s .args .other) (c .if1 .taken)
+    choose-a (s .args .assigned .now) (s .args .one) (s .args .two) (s .args .id) (s .args .other) (c .if1 .taken)
 
 returns-2 : tie.Need-returns-2
 returns-2 c =
     let s : tie.Start = search in
-    choose-b (s .args .slots .now) (s .args .one) (s .args .two) (s .args .id) (s .args .other) (c .before .if1 .left) (c .if2 .taken)
+    choose-b (s .args .assigned .now) (s .args .one) (s .args .two) (s .args .id) (s .args .other) (c .before .if1 .left) (c .if2 .taken)
 
 returns-3 : tie.Need-returns-3
 returns-3 c =
     let else1 : tie.Else1 = search in let s : tie.Start = search in
-    choose-none (s .args .slots .now) (s .args .one) (s .args .two) (s .args .id) (s .args .other) (else1 .if1 .left) (c .before .if2 .left)
+    choose-none (s .args .assigned .now) (s .args .one) (s .args .two) (s .args .id) (s .args .other) (else1 .if1 .left) (c .before .if2 .left)
     (c .if3 .taken)
 
 load-of-requires : tie.Need-load-of-requires
@@ -30,7 +30,7 @@ returns-4 : tie.Need-returns-4
 returns-4 c =
     let else2 : tie.Else2 = search in let else3 : tie.Else3 = search in let after-load-of : tie.After-load-of = search in
     let at-if1 : tie.Else1 = search in let s : tie.Start = search in
-    choose-fewer (s .args .slots .now) (s .args .one) (s .args .two) (s .args .id) (s .args .other) (at-if1 .if1 .left)
+    choose-fewer (s .args .assigned .now) (s .args .one) (s .args .two) (s .args .id) (s .args .other) (at-if1 .if1 .left)
     (else2 .if2 .left) (else3 .if3 .left)
     (after-load-of .load-of .result) (c .before .load-of2 .result) (after-load-of .load-of .ensures) (c .before .load-of2 .ensures) (c .if4 .taken)
 
@@ -40,7 +40,7 @@ returns-5 c =
     let at-if2 : tie.Else2 = search in
     let at-if1 = at-if2 .before in
     let s : tie.Start = search in
-    choose-more (s .args .slots .now) (s .args .one) (s .args .two) (s .args .id) (s .args .other) (at-if1 .if1 .left) (at-if2 .if2 .left)
+    choose-more (s .args .assigned .now) (s .args .one) (s .args .two) (s .args .id) (s .args .other) (at-if1 .if1 .left) (at-if2 .if2 .left)
     (else3 .if3 .left)
     (after-load-of .load-of .result) (after-load-of2 .load-of2 .result) (after-load-of .load-of .ensures)
     (after-load-of2 .load-of2 .ensures) (c .if5 .taken)
@@ -51,7 +51,7 @@ returns-6 c =
     let at-if2 = at-if3 .before in
     let at-if1 = at-if2 .before in
     let s : tie.Start = search in
-    choose-lower (s .args .slots .now) (s .args .one) (s .args .two) (s .args .id) (s .args .other) (at-if1 .if1 .left) (at-if2 .if2 .left) (at-if3 .if3 .left)
+    choose-lower (s .args .assigned .now) (s .args .one) (s .args .two) (s .args .id) (s .args .other) (at-if1 .if1 .left) (at-if2 .if2 .left) (at-if3 .if3 .left)
     (after-load-of .load-of .result) (after-load-of2 .load-of2 .result) (after-load-of .load-of .ensures)
     (after-load-of2 .load-of2 .ensures) (omega arith) (omega arith)
 
@@ -61,7 +61,7 @@ returns-7 c =
     let at-if2 = at-if3 .before in
     let at-if1 = at-if2 .before in
     let s : tie.Start = search in
-    choose-higher (s .args .slots .now) (s .args .one) (s .args .two) (s .args .id) (s .args .other) (at-if1 .if1 .left) (at-if2 .if2 .left) (at-if3 .if3 .left)
+    choose-higher (s .args .assigned .now) (s .args .one) (s .args .two) (s .args .id) (s .args .other) (at-if1 .if1 .left) (at-if2 .if2 .left) (at-if3 .if3 .left)
     (after-load-of .load-of .result) (after-load-of2 .load-of2 .result) (after-load-of .load-of .ensures)
     (after-load-of2 .load-of2 .ensures) (omega arith) (omega arith)
 

@@ -18,7 +18,7 @@ same-length c = search needs
 returns : tie.Need-returns
 returns c =
     let s : tie.Start = search in
-    way-light (s .args .members .now) (s .args .share) (s .args .slot) (s .args .other) (s .args .slots .now) (c .before .load-of .result)
+    way-light (s .args .members .now) (s .args .share) (s .args .position) (s .args .other) (s .args .assigned .now) (c .before .load-of .result)
     (c .before .load-of .ensures) (c .if1 .taken)
 
 mul-least-loaded : tie.Need-mul-least-loaded
@@ -36,18 +36,18 @@ same-length-2 c = search needs
 returns-2 : tie.Need-returns-2
 returns-2 c =
     let s : tie.Start = search in
-    let v = s .args .slots .now in
-    way-none (s .args .members .now) (s .args .share) (s .args .slot) (s .args .other) v (c .before .least-loaded .result) (c .before .least-loaded .ensures)
+    let v = s .args .assigned .now in
+    way-none (s .args .members .now) (s .args .share) (s .args .position) (s .args .other) v (c .before .least-loaded .result) (c .before .least-loaded .ensures)
     (c .if2 .taken)
 
 load-of-requires-2 : tie.Need-load-of-requires-2
 load-of-requires-2 c κs = search needs
 
-mul-slots : tie.Need-mul-slots
-mul-slots c = search needs
+mul-assigned : tie.Need-mul-assigned
+mul-assigned c = search needs
 
-slice-write-slots : tie.Need-slice-write-slots
-slice-write-slots c = search needs
+slice-write-assigned : tie.Need-slice-write-assigned
+slice-write-assigned c = search needs
 
 same-length-3 : tie.Need-same-length-3
 same-length-3 c = search needs
@@ -57,8 +57,8 @@ returns-3 c =
     let after-least-loaded : tie.After-least-loaded = search in let else2 : tie.Else2 = search in let at-if1 : tie.Else1 = search in
     let at-load-of = at-if1 .before in
     let s : tie.Start = search in
-    let v = s .args .slots .now in
-    way-given (s .args .members .now) (s .args .share) (s .args .slot) (s .args .other) v (after-least-loaded .least-loaded .result)
+    let v = s .args .assigned .now in
+    way-given (s .args .members .now) (s .args .share) (s .args .position) (s .args .other) v (after-least-loaded .least-loaded .result)
     (after-least-loaded .least-loaded .ensures)
     (at-load-of .load-of .result) (c .before .load-of2 .result) (at-load-of .load-of .ensures) (at-if1 .if1 .left) (else2 .if2 .left)
     (c .before .load-of2 .ensures) (c .if3 .taken)
@@ -69,8 +69,8 @@ same-length-4 c = search needs
 returns-4 : tie.Need-returns-4
 returns-4 c =
     let after-least-loaded : tie.After-least-loaded = search in let s : tie.Start = search in
-    let v = s .args .slots .now in
-    way-full (s .args .members .now) (s .args .share) (s .args .slot) (s .args .other) v (after-least-loaded .least-loaded .result)
+    let v = s .args .assigned .now in
+    way-full (s .args .members .now) (s .args .share) (s .args .position) (s .args .other) v (after-least-loaded .least-loaded .result)
     (after-least-loaded .least-loaded .ensures)
     (c .before .load-of2 .result) (c .before .load-of2 .ensures) (c .if3 .left)
 
@@ -89,8 +89,8 @@ give-way-spec =
     same-length-2
     returns-2
     load-of-requires-2
-    mul-slots
-    slice-write-slots
+    mul-assigned
+    slice-write-assigned
     same-length-3
     returns-3
     same-length-4

@@ -9,15 +9,15 @@ use Rattle.pairing.proofs.keep_all.Statement.{statement}
 use Rattle.pairing.proofs.keep_all.Tie as tie
 
 abbrev Inv-loop : tie.InvT-loop
-Inv-loop members slots₀ count bucket₀ slots bucket = (bucket ≤ count) × (length slots ≡ length slots₀) × (slots ≡ in-order bucket (keep-at members) slots₀)
+Inv-loop members assigned₀ count bucket₀ assigned bucket = (bucket ≤ count) × (length assigned ≡ length assigned₀) × (assigned ≡ in-order bucket (keep-at members) assigned₀)
 
 abbrev μ-loop : tie.MeasureT-loop
-μ-loop members slots₀ count bucket₀ slots bucket = count - bucket
+μ-loop members assigned₀ count bucket₀ assigned bucket = count - bucket
 
 loop-holds : tie.Need-loop-holds Inv-loop μ-loop
 loop-holds c =
     let start : tie.Start Inv-loop μ-loop = search in
-    (search needs, search needs, order-start (keep-at (start .args .members .now)) (start .args .slots .now))
+    (search needs, search needs, order-start (keep-at (start .args .members .now)) (start .args .assigned .now))
 
 keep-at-requires : tie.Need-keep-at-requires Inv-loop μ-loop
 keep-at-requires c κs = search needs
@@ -35,7 +35,7 @@ loop-again c =
     let l = at-loop .loop in (
       search needs,
       search needs,
-      order-turn (keep-at (s .args .members .now)) (s .args .slots .now) (l .slots) (after-keep-at .keep-at .last .1 .0)
+      order-turn (keep-at (s .args .members .now)) (s .args .assigned .now) (l .assigned) (after-keep-at .keep-at .last .1 .0)
           (l .bucket) (l .inv .2) (after-keep-at .keep-at .ensures),
     )
 

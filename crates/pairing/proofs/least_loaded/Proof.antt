@@ -9,15 +9,15 @@ use Rattle.pairing.proofs.least_loaded.Statement.{statement}
 use Rattle.pairing.proofs.least_loaded.Tie as tie
 
 abbrev Inv-loop : tie.InvT-loop
-Inv-loop slots members one two best₀ i₀ best i = (i ≤ length members) × (best ≡ least-loaded slots (drop i members) one two)
+Inv-loop assigned members one two best₀ i₀ best i = (i ≤ length members) × (best ≡ least-loaded assigned (drop i members) one two)
 
 abbrev μ-loop : tie.MeasureT-loop
-μ-loop slots members one two best₀ i₀ best i = i
+μ-loop assigned members one two best₀ i₀ best i = i
 
 loop-holds : tie.Need-loop-holds Inv-loop μ-loop
 loop-holds c =
     let s : tie.Start Inv-loop μ-loop = search in
-    (search needs, least-end (s .args .slots .now) (s .args .members .now) (s .args .one) (s .args .two))
+    (search needs, least-end (s .args .assigned .now) (s .args .members .now) (s .args .one) (s .args .two))
 
 sub-i : tie.Need-sub-i Inv-loop μ-loop
 sub-i c = search needs
@@ -39,7 +39,7 @@ loop-again c =
     let at-loop : tie.At-loop Inv-loop μ-loop = search in let s : tie.Start Inv-loop μ-loop = search in
     let l = at-loop .loop in (
       search needs,
-      least-turn (s .args .slots .now) (s .args .members .now) (s .args .one) (s .args .two) (l .i) (l .best) (c .chosen .result) (omega arith)
+      least-turn (s .args .assigned .now) (s .args .members .now) (s .args .one) (s .args .two) (l .i) (l .best) (c .chosen .result) (omega arith)
           (l .inv .0) (l .inv .1) (c .chosen .ensures),
     )
 

@@ -9,13 +9,13 @@ use Rattle.pairing.proofs.load_of.Statement.{statement}
 use Rattle.pairing.proofs.load_of.Tie as tie
 
 abbrev Inv-loop : tie.InvT-loop
-Inv-loop slots id held₀ i₀ held i = (i ≤ length slots) × (held ≡ load (drop i slots) id)
+Inv-loop assigned id held₀ i₀ held i = (i ≤ length assigned) × (held ≡ load (drop i assigned) id)
 
 abbrev μ-loop : tie.MeasureT-loop
-μ-loop slots id held₀ i₀ held i = i
+μ-loop assigned id held₀ i₀ held i = i
 
 loop-holds : tie.Need-loop-holds Inv-loop μ-loop
-loop-holds c = (search needs, load-end (c .args .slots .now) (c .args .id))
+loop-holds c = (search needs, load-end (c .args .assigned .now) (c .args .id))
 
 sub-i : tie.Need-sub-i Inv-loop μ-loop
 sub-i c = search needs
@@ -30,7 +30,7 @@ add-held : tie.Need-add-held Inv-loop μ-loop
 add-held c =
     let at-loop : tie.At-loop Inv-loop μ-loop = search in let s : tie.Start Inv-loop μ-loop = search in
     let l = at-loop .loop in
-    omega (arith, load-room (s .args .slots .now) (l .i) (s .args .id) (l .held) (omega arith) (l .inv .0) (l .inv .1))
+    omega (arith, load-room (s .args .assigned .now) (l .i) (s .args .id) (l .held) (omega arith) (l .inv .0) (l .inv .1))
 
 loop-less : tie.Need-loop-less Inv-loop μ-loop
 loop-less c = search needs
@@ -39,7 +39,7 @@ loop-again : tie.Need-loop-again Inv-loop μ-loop
 loop-again c =
     let at-loop : tie.At-loop Inv-loop μ-loop = search in let s : tie.Start Inv-loop μ-loop = search in
     let l = at-loop .loop in
-    (search needs, load-hit (s .args .slots .now) (l .i) (s .args .id) (l .held) (omega arith) (l .inv .0) (l .inv .1) (c .if1 .taken))
+    (search needs, load-hit (s .args .assigned .now) (l .i) (s .args .id) (l .held) (omega arith) (l .inv .0) (l .inv .1) (c .if1 .taken))
 
 loop-less-2 : tie.Need-loop-less-2 Inv-loop μ-loop
 loop-less-2 c = search needs
@@ -48,7 +48,7 @@ loop-again-2 : tie.Need-loop-again-2 Inv-loop μ-loop
 loop-again-2 c =
     let at-loop : tie.At-loop Inv-loop μ-loop = search in let s : tie.Start Inv-loop μ-loop = search in
     let l = at-loop .loop in
-    (search needs, load-miss (s .args .slots .now) (l .i) (s .args .id) (l .held) (omega arith) (l .inv .0) (l .inv .1) (c .if1 .left))
+    (search needs, load-miss (s .args .assigned .now) (l .i) (s .args .id) (l .held) (omega arith) (l .inv .0) (l .inv .1) (c .if1 .left))
 
 returns : tie.Need-returns Inv-loop μ-loop
 returns c =

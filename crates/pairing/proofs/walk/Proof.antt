@@ -9,12 +9,12 @@ use Rattle.pairing.proofs.walk.Statement.{statement}
 use Rattle.pairing.proofs.walk.Tie as tie
 
 abbrev Inv-loop : tie.InvT-loop
-Inv-loop members slots₀ count share role bucket₀ slots bucket =
-    (bucket ≤ count) × (length slots ≡ length slots₀)
-    × (slots ≡ in-order bucket (walk-at members share role) slots₀)
+Inv-loop members assigned₀ count share role bucket₀ assigned bucket =
+    (bucket ≤ count) × (length assigned ≡ length assigned₀)
+    × (assigned ≡ in-order bucket (walk-at members share role) assigned₀)
 
 abbrev μ-loop : tie.MeasureT-loop
-μ-loop members slots₀ count share role bucket₀ slots bucket = count - bucket
+μ-loop members assigned₀ count share role bucket₀ assigned bucket = count - bucket
 
 loop-holds : tie.Need-loop-holds Inv-loop μ-loop
 loop-holds c =
@@ -22,7 +22,7 @@ loop-holds c =
       search needs,
       search needs,
       order-start (walk-at (start .args .members .now) (start .args .share) (start .args .role))
-          (start .args .slots .now),
+          (start .args .assigned .now),
     )
 
 mul-give-way : tie.Need-mul-give-way Inv-loop μ-loop
@@ -56,7 +56,7 @@ loop-again c =
     let l = at-loop .loop in (
       search needs,
       search needs,
-      order-turn (walk-at (s .args .members .now) (s .args .share) (s .args .role)) (s .args .slots .now) (l .slots)
+      order-turn (walk-at (s .args .members .now) (s .args .share) (s .args .role)) (s .args .assigned .now) (l .assigned)
           (after-give-way .give-way .last .1 .0) (l .bucket) (l .inv .2) (after-give-way .give-way .ensures),
     )
 

@@ -4,7 +4,7 @@ use Prim.Native.Nat.{_-_, _≤_}
 use native.Mathlib.Omega.{arith}
 use borrow.Author.Needs.{needs}
 use lib.ListN.{length, take, drop}
-use Rattle.text.specs.Words.{packed-upto}
+use Rattle.text.specs.Kinds.{packed-upto}
 use Rattle.text.specs.Fields.{before, fields}
 use Rattle.text.proofs.Fields.{front-nothing}
 use Rattle.text.proofs.Packed.{packed-none, packed-turn, packed-fits}

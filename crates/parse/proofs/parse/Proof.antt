@@ -5,10 +5,10 @@ use native.Mathlib.Omega.{arith}
 use lib.ListN.{length, take}
 use lib.Seq.{length-take-le}
 use Rattle.text.specs.Fields.{fields}
-use Rattle.text.specs.Lines.{parts-of-fields}
+use Rattle.text.specs.Lines.{fields-of-texts}
 use Rattle.text.proofs.Lines.{line-not-empty}
 use Rattle.parse.specs.Answers.{parsed, with-room}
-use Rattle.parse.proofs.Laws.{parts-line, parts-no-line, parsed-as, parsed-none, refused}
+use Rattle.parse.proofs.Laws.{fields-line, fields-no-line, parsed-as, parsed-none, refused}
 use borrow.Author.Needs.{needs}
 use Rattle.parse.proofs.parse.Statement.{statement}
 use Rattle.parse.proofs.parse.Tie as tie
@@ -39,8 +39,8 @@ returns c =
     let a = start .args in
     let l = a .line .now in
     let d = a .«data» .now in
-    let e : parsed (a .size) (length d) l ≡ with-room (a .size) (length d) (parts-of-fields (a .size) (fields (take (length l - 1) l))) =
-    parsed-as (a .size) (length d) l _ (parts-line l (a .size) (take (length l - 1) l)
+    let e : parsed (a .size) (length d) l ≡ with-room (a .size) (length d) (fields-of-texts (a .size) (fields (take (length l - 1) l))) =
+    parsed-as (a .size) (length d) l _ (fields-line l (a .size) (take (length l - 1) l)
     (sym (after-is-line .is-line .ensures) ∙ then1 .if1 .taken) refl) in
     rw e (after-parse-body .parse-body .ensures)
 
@@ -51,7 +51,7 @@ returns-2 c =
     let l = a .line .now in
     let d = a .«data» .now in
     refused (parsed (a .size) (length d) l) d
-    (parsed-none (a .size) (length d) l (parts-no-line l (a .size) (sym (c .before .is-line .ensures) ∙ c .if1 .left)))
+    (parsed-none (a .size) (length d) l (fields-no-line l (a .size) (sym (c .before .is-line .ensures) ∙ c .if1 .left)))
 
 pub parse-spec : {M : Type 1} → statement M
 parse-spec =

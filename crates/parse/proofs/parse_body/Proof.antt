@@ -5,7 +5,7 @@ use mathlib.Core.List.{[]}
 use native.Mathlib.Omega.{arith}
 use lib.ListN.{length, drop}
 use Rattle.text.specs.Fields.{fields}
-use Rattle.text.specs.Lines.{parts-of-fields}
+use Rattle.text.specs.Lines.{fields-of-texts}
 use Rattle.parse.specs.Answers.{with-room}
 use Rattle.parse.specs.Steps.{Found, FoundAt}
 use Rattle.parse.proofs.Laws.{part-all, refused, accepted, filled, room-none, room-unasked, room-right, room-wrong}
@@ -40,7 +40,7 @@ returns c =
     let start : tie.Start = search in let after-reading2 : tie.After-reading2 = search in
     let a = start .args in
     let d = a .«data» .now in
-    let o = parts-of-fields (a .size) (fields (a .body .now)) in
+    let o = fields-of-texts (a .size) (fields (a .body .now)) in
     refused (with-room (a .size) (length d) o) d (room-wrong (a .size) (length d) o (loaded after-reading2 .found .payload) (c .if1 .taken))
 
 sub-decode : tie.Need-sub-decode
@@ -73,7 +73,7 @@ returns-2 c =
     let a = start .args in
     let m = c .before .reading in
     let d = a .«data» .now in
-    let o = parts-of-fields (a .size) (fields (a .body .now)) in
+    let o = fields-of-texts (a .size) (fields (a .body .now)) in
     let g : Found o false (m .given .0 .0) (m .given .0 .1 .0) (m .given .0 .1 .1 .0) (m .given .0 .1 .1 .1 .0) [] =
     rw (m .given .1) at (after-read-body .read-body .ensures) in
     accepted o (with-room (a .size) (length d) o) false _ _ _ _ [] d d g (room-unasked (a .size) (length d) o (g .payload)) (sym (onto-nothing 0 d))
@@ -90,7 +90,7 @@ returns-3 c =
     let d' = after-decode .decode .last .1 .0 in
     let from = after-reading2 .reading2 .given .0 .1 .1 .1 .1 .0 in
     let g = loaded after-reading2 in
-    let o = parts-of-fields (a .size) (fields s) in
+    let o = fields-of-texts (a .size) (fields s) in
     let n : length d ≡ a .size = omega arith in
     let u = unhex-length (a .size) (drop from s) (is-bytes (a .size) (drop from s) (g .hexadecimal) .0) in
     let e : d' ≡ unhex (drop from s) = after-decode .decode .ensures ∙ ap unhex (part-all s from) in
@@ -102,7 +102,7 @@ returns-4 c =
     let start : tie.Start = search in let after-read-body : tie.After-read-body = search in
     let a = start .args in
     let d = a .«data» .now in
-    let o = parts-of-fields (a .size) (fields (a .body .now)) in
+    let o = fields-of-texts (a .size) (fields (a .body .now)) in
     refused (with-room (a .size) (length d) o) d (room-none (a .size) (length d) o (rw (c .enum-told .given .1) at (after-read-body .read-body .ensures)))
 
 pub parse-body-spec : {M : Type 1} → statement M

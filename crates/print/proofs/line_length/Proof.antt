@@ -4,7 +4,7 @@ use mathlib.Core.Path.{_≡_, sym, _∙_}
 use Prim.Native.Nat.{_≤_}
 use native.Mathlib.Omega.{arith}
 use Rattle.rules.specs.Event.{kind-count, kind-at}
-use Rattle.rules.specs.Event.{parts-from}
+use Rattle.rules.specs.Event.{fields-brought}
 use Rattle.print.proofs.Laws.{unformed, formed, kind-of, loaded-size, loaded-length, plain-length, below-all, Known, known, few-numbers}
 use borrow.Author.Needs.{needs}
 use Rattle.print.proofs.line_length.Statement.{statement}
@@ -30,7 +30,7 @@ returns c =
     let start : tie.Start = search in
     let a = start .args in
     let d = a .«data» .now in
-    sym (unformed (a .size) (parts-from (a .kind) (a .a) (a .b) (a .c) d)
+    sym (unformed (a .size) (fields-brought (a .kind) (a .a) (a .b) (a .c) d)
     (λ w. let k = kind-of (a .size) (a .kind) (a .a) (a .b) (a .c) d in let z : 1 ≤ a .kind = rw k at (w .least) in omega arith))
 
 returns-2 : tie.Need-returns-2
@@ -38,7 +38,7 @@ returns-2 c =
     let start : tie.Start = search in
     let a = start .args in
     let d = a .«data» .now in
-    sym (unformed (a .size) (parts-from (a .kind) (a .a) (a .b) (a .c) d)
+    sym (unformed (a .size) (fields-brought (a .kind) (a .a) (a .b) (a .c) d)
     (λ w. let k = kind-of (a .size) (a .kind) (a .a) (a .b) (a .c) d in let z : a .kind ≤ kind-count = rw k at (w .most) in omega arith))
 
 shape-of-requires : tie.Need-shape-of-requires
@@ -68,7 +68,7 @@ returns-3 c =
     let q = facts after-numbers-length in
     let pay : kind-at (a .kind) .payload ≡ true = sym (q .payload) ∙ c .before .if3 .taken in
     let len = loaded-length (a .kind) (a .a) (a .b) (a .c) d pay in
-    sym (unformed (a .size) (parts-from (a .kind) (a .a) (a .b) (a .c) d) (λ w. c .if4 .taken (loaded-size (a .size) (a .kind) (a .a) (a .b) (a .c) d pay w)))
+    sym (unformed (a .size) (fields-brought (a .kind) (a .a) (a .b) (a .c) d) (λ w. c .if4 .taken (loaded-size (a .size) (a .kind) (a .a) (a .b) (a .c) d pay w)))
 
 returns-4 : tie.Need-returns-4
 returns-4 c =
@@ -78,7 +78,7 @@ returns-4 c =
     let q = facts after-numbers-length in
     let pay : kind-at (a .kind) .payload ≡ true = sym (q .payload) ∙ then3 .if3 .taken in
     let len = loaded-length (a .kind) (a .a) (a .b) (a .c) d pay in
-    sym (unformed (a .size) (parts-from (a .kind) (a .a) (a .b) (a .c) d) (λ w. omega (arith, w .short)))
+    sym (unformed (a .size) (fields-brought (a .kind) (a .a) (a .b) (a .c) d) (λ w. omega (arith, w .short)))
 
 add-loaded : tie.Need-add-loaded
 add-loaded c =
@@ -101,7 +101,7 @@ returns-5 c =
     let q = facts after-numbers-length in
     let pay : kind-at (a .kind) .payload ≡ true = sym (q .payload) ∙ then3 .if3 .taken in
     let len = loaded-length (a .kind) (a .a) (a .b) (a .c) d pay in
-    sym (unformed (a .size) (parts-from (a .kind) (a .a) (a .b) (a .c) d) (λ w. omega (arith, w .short)))
+    sym (unformed (a .size) (fields-brought (a .kind) (a .a) (a .b) (a .c) d) (λ w. omega (arith, w .short)))
 
 returns-6 : tie.Need-returns-6
 returns-6 c =

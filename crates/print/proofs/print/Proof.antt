@@ -1,6 +1,6 @@
 -- `print::print` meets its contract.
 use native.Mathlib.Omega.{arith}
-use Rattle.rules.specs.Event.{parts-from}
+use Rattle.rules.specs.Event.{fields-brought}
 use Rattle.print.proofs.Laws.{not-printed, is-printed, not-formed, is-formed, no-room, room-enough, kind-of}
 use Rattle.text.proofs.RoundTrip.{well-formed}
 use borrow.Author.Needs.{needs}
@@ -14,7 +14,7 @@ returns : tie.Need-returns
 returns c =
     let start : tie.Start = search in
     let a = start .args in
-    let e = parts-from (a .kind) (a .a) (a .b) (a .c) (a .«data» .now) in
+    let e = fields-brought (a .kind) (a .a) (a .b) (a .c) (a .«data» .now) in
     let l = a .line .now in
     let n = c .before .line-length in
     not-printed (a .size) e l (not-formed (a .size) e l (n .result) (n .ensures) (c .if1 .taken))
@@ -23,7 +23,7 @@ returns-2 : tie.Need-returns-2
 returns-2 c =
     let start : tie.Start = search in let after-line-length : tie.After-line-length = search in
     let a = start .args in
-    let e = parts-from (a .kind) (a .a) (a .b) (a .c) (a .«data» .now) in
+    let e = fields-brought (a .kind) (a .a) (a .b) (a .c) (a .«data» .now) in
     let l = a .line .now in
     let n = after-line-length .line-length in
     let f = is-formed (a .size) e l (n .result) (n .ensures) (c .before .if1 .left) in
@@ -33,7 +33,7 @@ write-line-requires : tie.Need-write-line-requires
 write-line-requires c κs =
     let start : tie.Start = search in let after-line-length : tie.After-line-length = search in let else1 : tie.Else1 = search in
     let a = start .args in
-    let e = parts-from (a .kind) (a .a) (a .b) (a .c) (a .«data» .now) in
+    let e = fields-brought (a .kind) (a .a) (a .b) (a .c) (a .«data» .now) in
     let l = a .line .now in
     let n = after-line-length .line-length in
     let f = is-formed (a .size) e l (n .result) (n .ensures) (else1 .if1 .left) in
@@ -49,7 +49,7 @@ returns-3 c =
     let start : tie.Start = search in let after-line-length : tie.After-line-length = search in let else1 : tie.Else1 = search in
     let after-write-line : tie.After-write-line = search in
     let a = start .args in
-    let e = parts-from (a .kind) (a .a) (a .b) (a .c) (a .«data» .now) in
+    let e = fields-brought (a .kind) (a .a) (a .b) (a .c) (a .«data» .now) in
     let l = a .line .now in
     let n = after-line-length .line-length in
     let f = is-formed (a .size) e l (n .result) (n .ensures) (else1 .if1 .left) in

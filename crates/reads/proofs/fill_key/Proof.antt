@@ -3,7 +3,7 @@ use Prim.Native.Nat.{_/_}
 use native.Mathlib.Omega.{arith}
 use lib.ListN.{length}
 use Rattle.words.specs.Words.{words}
-use Rattle.rules.specs.Parts.{holder}
+use Rattle.rules.specs.Derived.{holder}
 use Rattle.layout.specs.Store.{decode}
 use Rattle.holders.specs.Members.{LiesAt}
 use Rattle.reads.specs.Get.{key-bytes}

@@ -1,7 +1,7 @@
 use mathlib.Core.Path.{_≡_, sym}
 use Rattle.words.specs.Words.{words}
 use Rattle.layout.specs.Store.{decode}
-use Rattle.rules.specs.Parts.{holder}
+use Rattle.rules.specs.Derived.{holder}
 use Rattle.holders.specs.Members.{LiesAt}
 use Rattle.reads.proofs.Contents.{found-zero, found-held, found-none}
 use borrow.Author.Needs.{needs}

@@ -1,7 +1,7 @@
 use mathlib.Core.Path.{_≡_, _∙_}
 use native.Mathlib.Omega.{arith}
 use Rattle.words.specs.Words.{words}
-use Rattle.rules.specs.Parts.{holder}
+use Rattle.rules.specs.Derived.{holder}
 use Rattle.layout.specs.Store.{decode}
 use Rattle.holders.specs.Members.{LiesAt}
 use Rattle.reads.proofs.Contents.{zero-bytes, lying-bytes, no-bytes}

@@ -51,7 +51,7 @@ use Rattle.words.proofs.Laws.{length-words}
 use Rattle.rules.specs.Limits.{max-relays}
 use Rattle.tables.specs.Tables.{IsTable}
 use Rattle.layout.specs.Layout.{bag-codec, bag-words}
-use Rattle.bag.specs.Relays.{relay-words, relay-at}
+use Rattle.bag.specs.Relays.{relay-words, relay-in-words}
 use Rattle.relay_list.specs.declared.Relay.{Relay}
 use Rattle.relay_list.specs.Relays.{relay-of, relays-of, over, Loads}
 use Rattle.relay_list.proofs.Relay.Laws as T′
@@ -63,7 +63,7 @@ use Rattle.relay_list.proofs.flat.count as count′
 use Rattle.relay_list.proofs.flat.count.Symbol as count-def
 use Rattle.relay_list.proofs.flat.count.Symbol.{name as #relay-list·flat·count}
 use Rattle.relay_list.proofs.flat.count.Met as count-thm
-use Rattle.relay_list.proofs.flat.relay_at as relay-at′
+use Rattle.relay_list.proofs.flat.relay_at as relay-in-words′
 use Rattle.relay_list.proofs.flat.relay_at.Symbol as relay-at-def
 use Rattle.relay_list.proofs.flat.relay_at.Symbol.{name as #relay-list·flat·relay-at}
 use Rattle.relay_list.proofs.flat.relay_at.Met as relay-at-thm
@@ -90,7 +90,7 @@ abbrev Count : {M : Type 1} (𝓤 : URA M) (H : Heap 𝓤) (A : Atoms 𝓤) (mem
 Count 𝓤 H A mem run = tripleOf 𝓤 H A count′.signature (count′.spec 𝓤 H A mem run)
 
 abbrev RelayAt : {M : Type 1} (𝓤 : URA M) (H : Heap 𝓤) (A : Atoms 𝓤) (mem : Memory → SProp 𝓤) (run : Routine → Fun 𝓤) → Contract 𝓤
-RelayAt 𝓤 H A mem run = tripleOf 𝓤 H A relay-at′.signature (relay-at′.spec 𝓤 H A mem run)
+RelayAt 𝓤 H A mem run = tripleOf 𝓤 H A relay-in-words′.signature (relay-in-words′.spec 𝓤 H A mem run)
 
 module _ {M : Type 1} (𝓤 : URA M) (H : Heap 𝓤) (A : Atoms 𝓤) (W : Given 𝓤 H A) (mem : Memory → SProp 𝓤) (run : Routine → Fun 𝓤) (κ κ′ : Lft) (q q′ : Share)
     (pb po : ℕ) (δ : GName) (bs : List ℕ) (b o : ℕ) (γ : GName) (ys : List Relay)
@@ -149,9 +149,9 @@ module _ {M : Type 1} (𝓤 : URA M) (H : Heap 𝓤) (A : Atoms 𝓤) (W : Given
       qed W (‵ (flft κ q) ∷ ‵ Part ∷ []) ∵ says ! (table, small) $ nothing ! $ move ! (1 ∷ 0 ∷ []) $ join ! $ frame ! $
       nothing ! $ owned ! usize (Is usize) (uint-makes 𝓤 H A W w64) i _ (refl, fits) $ fjoin ! $ move ! (1 ∷ 0 ∷ []) $ fjoin ! $ done !
 
-  said-relay : (i : ℕ) (r : Relay) → ent 𝓤 (ensured 𝓤 H A relay-at′.ended (relay-at′.clauses 𝓤 H A mem run) (κ, tt) (p, (i, tt)) tt r)
-      (fact 𝓤 (relay-of r ≡ relay-at (words bs) i))
-  said-relay i r = exE 𝓤 _ (λ ws. snd∗ 𝓤 (sem 𝓤 H A (lasts relay-at′.ended (κ, tt) (p, (i, tt)) ws)) (fact 𝓤 (relay-of r ≡ relay-at (words bs) i)))
+  said-relay : (i : ℕ) (r : Relay) → ent 𝓤 (ensured 𝓤 H A relay-in-words′.ended (relay-in-words′.clauses 𝓤 H A mem run) (κ, tt) (p, (i, tt)) tt r)
+      (fact 𝓤 (relay-of r ≡ relay-in-words (words bs) i))
+  said-relay i r = exE 𝓤 _ (λ ws. snd∗ 𝓤 (sem 𝓤 H A (lasts relay-in-words′.ended (κ, tt) (p, (i, tt)) ws)) (fact 𝓤 (relay-of r ≡ relay-in-words (words bs) i)))
 
   exits : (zs : List Relay) → length zs ≡ n → Loads (words bs) ys count zs
       → ent 𝓤 (⋆ 𝓤 H A (‵ (fobs γ (codedHoleys R .code (heres R zs))) ∷ ‵ (fbor κ′ (Held R (length zs) b o γ)) ∷ ‵ (flft κ′ q′) ∷ ‵ (flft κ q) ∷ ‵ Part ∷ []))
@@ -200,7 +200,7 @@ module _ {M : Type 1} (𝓤 : URA M) (H : Heap 𝓤) (A : Atoms 𝓤) (W : Given
 
     -- a turn that fills one record
     more : (i : ℕ) (zs : List Relay) (X : SProp 𝓤) → i < count → length zs ≡ n →
-        ((r : Relay) → relay-of r ≡ relay-at (words bs) i → ent 𝓤 (⋆ 𝓤 H A (At (suc i) (set zs i r))) X)
+        ((r : Relay) → relay-of r ≡ relay-in-words (words bs) i → ent 𝓤 (⋆ 𝓤 H A (At (suc i) (set zs i r))) X)
         → ent 𝓤 (⋆ 𝓤 H A (At i zs)) (Wp 𝓤 H C Λ En Mir.turn-1 (afterTurn 𝓤 H X Left))
     unfolding afterTurn
     more i zs X small kept k =
@@ -215,10 +215,10 @@ module _ {M : Type 1} (𝓤 : URA M) (H : Heap 𝓤) (A : Atoms 𝓤) (W : Given
         calls-at ! (fmOf 𝓤 H (W .laws) 𝓣) (RelayAt 𝓤 H A mem run) known (to-relay i)
         (and-then ! (load ! (from ! (stop !)) (look ! 8 refl)) (and-then ! (load ! (from ! (stop !)) (look ! 3 refl)) (no-more !))) (λ w.
         use1 W (later (some (λ (r : Relay). ((‵ (flft κ q) ⊛ ‵ ftrue) ⊛ ‵ (R .own r (w ∷ []))) ⊛ raw
-        (ensured 𝓤 H A relay-at′.ended (relay-at′.clauses 𝓤 H A mem run) (κ, tt) (p, (i, tt)) tt r)))) (id⊢ 𝓤 _) $
+        (ensured 𝓤 H A relay-in-words′.ended (relay-in-words′.clauses 𝓤 H A mem run) (κ, tt) (p, (i, tt)) tt r)))) (id⊢ 𝓤 _) $
         await ! tt $ pick ! (λ r.
-        split ! $ move ! (1 ∷ []) $ use1 W (raw (fact 𝓤 (relay-of r ≡ relay-at (words bs) i))) (said-relay i r) $
-        heard ! (relay-of r ≡ relay-at (words bs) i) (λ e. split ! $ move ! (1 ∷ []) $
+        split ! $ move ! (1 ∷ []) $ use1 W (raw (fact 𝓤 (relay-of r ≡ relay-in-words (words bs) i))) (said-relay i r) $
+        heard ! (relay-of r ≡ relay-in-words (words bs) i) (λ e. split ! $ move ! (1 ∷ []) $
         -- [the relay's; the token; what part owns; the row; _4; _5; _6; …]
         peeks ! R (Is R) (shows 𝓤 H A R) r (w ∷ []) (λ is. land ! (from ! (stop !)) (init ! 6 refl (lawful 𝓤 H A W .typed r _ is .0)) $
         rewrite ! 6 (λ (u : Val). ‵ (fat fullShare T′.mir l₆ 0 u)) (ap only (tells r (w ∷ []) is)) refl $
@@ -275,7 +275,7 @@ module _ {M : Type 1} (𝓤 : URA M) (H : Heap 𝓤) (A : Atoms 𝓤) (W : Given
         all = omega (arith, f .0)
 
     -- the facts after a turn
-    kept-up : (t i : ℕ) (zs : List Relay) → Facts (suc t) i zs → (r : Relay) → relay-of r ≡ relay-at (words bs) i → Facts t (suc i) (set zs i r)
+    kept-up : (t i : ℕ) (zs : List Relay) → Facts (suc t) i zs → (r : Relay) → relay-of r ≡ relay-in-words (words bs) i → Facts t (suc i) (set zs i r)
     kept-up t i zs f r e =
         let held = law.held-count (words bs) long (table .few) in (
           omega (arith, f .0),

@@ -23,14 +23,14 @@ returns c =
     let s = c .before .before .before .before .before .before in
     let e : first-at (s .args .width) (words (s .args .t .now)) (s .args .p) ≡ c .before .read2 .result =
     sym (c .before .read2 .ensures ∙ rw (c .before .before .offset .ensures .0)) in
-    record { in-use = omega (arith, c .before .before .before .before .read .ensures); same = e ∙ c .if2 .taken; place = s .pre .1 }
+    record { in-use = omega (arith, c .before .before .before .before .read .ensures); same = e ∙ c .if2 .taken; bound = s .pre .1 }
 
 returns-2 : tie.Need-returns-2
 returns-2 c =
     let s = c .before .before .before .before .before .before in
     let e : first-at (s .args .width) (words (s .args .t .now)) (s .args .p) ≡ c .before .read2 .result =
     sym (c .before .read2 .ensures ∙ rw (c .before .before .offset .ensures .0)) in
-    record { place = s .pre .1; other = λ _ q. c .if2 .left (sym e ∙ q) }
+    record { bound = s .pre .1; other = λ _ q. c .if2 .left (sym e ∙ q) }
 
 returns-3 : tie.Need-returns-3
 returns-3 c = search needs

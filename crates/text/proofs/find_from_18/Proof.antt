@@ -3,7 +3,7 @@ use mathlib.Core.Path.{refl, _∙_}
 use native.Mathlib.Omega.{arith}
 use lib.ListN.{drop}
 use Rattle.rules.specs.Event.{ascii, kinds}
-use Rattle.text.specs.Words.{packed-upto, packed, packed-from, kind-of-packed}
+use Rattle.text.specs.Kinds.{packed-upto, packed, packed-from, kind-of-packed}
 use Rattle.text.specs.Table.{kind-number}
 use Rattle.text.proofs.Laws.{Passed}
 use Rattle.text.proofs.Packed.{number-is, row-after, past-rows, other}

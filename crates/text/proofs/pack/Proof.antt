@@ -4,7 +4,7 @@ use Prim.Native.Nat.{_-_, _≤_}
 use native.Mathlib.Omega.{arith}
 use borrow.Author.Needs.{needs}
 use lib.ListN.{length}
-use Rattle.text.specs.Words.{packed-upto, packed}
+use Rattle.text.specs.Kinds.{packed-upto, packed}
 use Rattle.text.proofs.Packed.{packed-none, packed-turn, packed-fits}
 use Rattle.text.proofs.pack.Statement.{statement}
 use Rattle.text.proofs.pack.Tie as tie

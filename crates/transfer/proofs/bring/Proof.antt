@@ -5,7 +5,7 @@ use native.Mathlib.Omega.{arith}
 use lib.ListN.{length, drop, length-drop}
 use Rattle.words.specs.Words.{words}
 use Rattle.words.proofs.Laws.{length-words}
-use Rattle.rules.specs.Chunks.{chunk, append}
+use Rattle.rules.specs.Chunks.{new-chunk, append}
 use Rattle.layout.specs.Store.{decode, render}
 use Rattle.lent.specs.Places.{with-chunks}
 use Rattle.transfer.specs.Brings.{log-at-place, cell-at}
@@ -85,7 +85,7 @@ returns c =
     entered (s .args .settings) (s .args .store .now) (s .pre .store) (s .args .target) (s .pre .to-in) (s .pre .to-filled) (s .pre .room) (source m)
     (cell m .cell-at2 .result) (next m) (enough m) (m .move-words .last .0) (m .move-words .kept .0) (m .move-words .ensures) _ _ (span .span-of .ensures)
     (s .args .key .0) (s .args .saved) (done .enter .last .0) (done .enter .kept .0) (done .enter .ensures)
-    ∙ ap (λ (b : List ℕ). render (with-chunks state (state .ids (s .args .target)) (append (log-at-place state (s .args .target)) (chunk (s .args .key .0) (s .args .saved) b)))
+    ∙ ap (λ (b : List ℕ). render (with-chunks state (state .ids (s .args .target)) (append (log-at-place state (s .args .target)) (new-chunk (s .args .key .0) (s .args .saved) b)))
     (words (s .args .store .now))) (found-bytes (s .args .settings) (s .args .store .now) (s .pre .store) (s .args .source) (s .pre .from-in) (s .pre .from-filled) _ _ (s .pre .found)
     (held m .cell-at .result) (held m .cell-at .ensures .0))
 

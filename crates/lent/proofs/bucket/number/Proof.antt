@@ -1,5 +1,5 @@
 use native.Mathlib.Omega.{arith}
-use Rattle.rules.proofs.Parts.{bucket-below}
+use Rattle.rules.proofs.Derived.{bucket-below}
 use borrow.Author.Needs.{needs}
 use Rattle.lent.proofs.bucket.number.Statement.{statement}
 use Rattle.lent.proofs.bucket.number.Tie as tie

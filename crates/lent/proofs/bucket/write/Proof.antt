@@ -2,7 +2,7 @@ use Prim.Native.Nat.{_+_, _*_, _-_}
 use native.Mathlib.Omega.{arith}
 use Rattle.words.proofs.Laws.{lent-run}
 use Rattle.layout.specs.Layout.{agreed-codec, agreed-at, agreed-words}
-use Rattle.parts.specs.Parts.{agreed-of}
+use Rattle.records.specs.Records.{agreed-of}
 use borrow.Author.Needs.{needs}
 use Rattle.lent.proofs.bucket.write.Statement.{statement}
 use Rattle.lent.proofs.bucket.write.Tie as tie

@@ -6,7 +6,7 @@ use Rattle.words.specs.Words.{words}
 use Rattle.words.proofs.Laws.{length-words}
 use Rattle.codec.specs.Codec.{change}
 use Rattle.layout.specs.Layout.{copies-codec}
-use Rattle.entries.specs.Words.{copied-entries}
+use Rattle.entries.specs.Entries.{copied-entries}
 use Rattle.lent.specs.Parts.{matched}
 use Rattle.lent.proofs.MatchedCopies.{copy-saved, copy-restored}
 use borrow.Author.Needs.{needs}

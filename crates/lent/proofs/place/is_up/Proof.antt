@@ -1,5 +1,5 @@
 use mathlib.Core.Path.{sym, ap, _∙_}
-use Rattle.layout.specs.Disk.{Status, Brick}
+use Rattle.layout.specs.Contents.{Status, Brick}
 use Rattle.lent.proofs.Places.{zero-blank}
 use borrow.Author.Needs.{needs}
 use Rattle.lent.proofs.place.is_up.Statement.{statement}

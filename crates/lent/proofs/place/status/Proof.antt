@@ -1,5 +1,5 @@
 use mathlib.Core.Path.{sym, ap, _∙_}
-use Rattle.layout.specs.Disk.{Place}
+use Rattle.layout.specs.Contents.{Place}
 use Rattle.lent.proofs.Places.{place-is, id-is}
 use borrow.Author.Needs.{needs}
 use Rattle.lent.proofs.place.status.Statement.{statement}

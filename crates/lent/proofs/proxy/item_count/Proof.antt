@@ -2,7 +2,7 @@ use mathlib.Core.Path.{sym, ap, _∙_}
 use lib.ListN.{length}
 use Rattle.words.specs.Words.{words}
 use Rattle.rules.specs.Limits.{max-items}
-use Rattle.layout.specs.Disk.{entry-row}
+use Rattle.layout.specs.Contents.{entry-row}
 use Rattle.entries.proofs.Tables.{count-is}
 use borrow.Author.Needs.{needs}
 use Rattle.lent.proofs.proxy.item_count.Statement.{statement}

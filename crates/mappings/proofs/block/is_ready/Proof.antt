@@ -1,5 +1,5 @@
 use mathlib.Core.Path.{ap}
-use Rattle.layout.specs.Disk.{Agreed}
+use Rattle.layout.specs.Contents.{Agreed}
 use borrow.Author.Needs.{needs}
 use Rattle.mappings.proofs.block.is_ready.Statement.{statement}
 use Rattle.mappings.proofs.block.is_ready.Tie as tie

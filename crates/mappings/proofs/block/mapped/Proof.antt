@@ -1,8 +1,8 @@
 use mathlib.Core.Path.{ap, _∙_}
 use Prim.Native.Nat.{ℕ}
 use Rattle.words.specs.Words.{words}
-use Rattle.rules.specs.Entries.{look}
-use Rattle.layout.specs.Disk.{Agreed}
+use Rattle.rules.specs.Entries.{key-for}
+use Rattle.layout.specs.Contents.{Agreed}
 use Rattle.layout.specs.Store.{decode}
 use Rattle.lent.proofs.Buckets.{number-is}
 use borrow.Author.Needs.{needs}
@@ -24,8 +24,8 @@ returns c =
     let state = decode (words (s .args .store .now)) in
     let b = s .args .block .0 in
     let n = after-number .number .result in
-    c .in-memory .ensures ∙ ap (λ (a : Agreed). look (state .bucket n .memory (a .primary)) b) (c .before .agreed .ensures)
-    ∙ ap (λ (g : ℕ). look (state .bucket g .memory (state .bucket g .primary)) b)
+    c .in-memory .ensures ∙ ap (λ (a : Agreed). key-for (state .bucket n .memory (a .primary)) b) (c .before .agreed .ensures)
+    ∙ ap (λ (g : ℕ). key-for (state .bucket g .memory (state .bucket g .primary)) b)
     (after-number .number .ensures .0 ∙ number-is (s .args .settings) (s .args .store .now) (s .pre) b)
 
 pub mapped-spec : {M : Type 1} → statement M

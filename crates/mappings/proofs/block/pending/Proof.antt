@@ -2,7 +2,7 @@ use mathlib.Core.Path.{_≡_, sym, ap, _∙_}
 use mathlib.Core.Bool.{not}
 use Prim.Native.Nat.{ℕ}
 use Rattle.words.specs.Words.{words}
-use Rattle.rules.specs.Parts.{bucket-at, pending}
+use Rattle.rules.specs.Derived.{bucket-at, pending}
 use Rattle.layout.specs.Store.{decode}
 use Rattle.lent.proofs.Buckets.{number-is}
 use Rattle.mappings.proofs.Agreement.{ready-pending, unready}

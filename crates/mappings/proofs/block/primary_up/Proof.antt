@@ -1,7 +1,7 @@
 use mathlib.Core.Path.{ap, _∙_}
 use Rattle.words.specs.Words.{words}
-use Rattle.rules.specs.Parts.{up-member}
-use Rattle.layout.specs.Disk.{Agreed}
+use Rattle.rules.specs.Derived.{up-member}
+use Rattle.layout.specs.Contents.{Agreed}
 use Rattle.layout.specs.Store.{decode}
 use borrow.Author.Needs.{needs}
 use Rattle.mappings.proofs.block.primary_up.Statement.{statement}

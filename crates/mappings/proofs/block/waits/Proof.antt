@@ -1,7 +1,7 @@
 use mathlib.Core.Path.{ap, _∙_}
 use Rattle.words.specs.Words.{words}
 use Rattle.rules.specs.Entries.{has}
-use Rattle.layout.specs.Disk.{Agreed}
+use Rattle.layout.specs.Contents.{Agreed}
 use Rattle.layout.specs.Store.{decode}
 use borrow.Author.Needs.{needs}
 use Rattle.mappings.proofs.block.waits.Statement.{statement}

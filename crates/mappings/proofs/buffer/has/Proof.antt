@@ -2,10 +2,10 @@ use mathlib.Core.Path.{_≡_, sym, ap, _∙_}
 use mathlib.Core.List.{List}
 use Prim.Native.Nat.{ℕ}
 use native.Mathlib.Omega.{arith}
-use Rattle.lists.specs.Tests.{some}
+use Rattle.lists.specs.Tests.{any}
 use Rattle.words.specs.Words.{words}
 use Rattle.rules.specs.Entries.{Entry, has}
-use Rattle.layout.specs.Disk.{Brick, blank-brick}
+use Rattle.layout.specs.Contents.{Brick, blank-brick}
 use Rattle.layout.specs.Store.{brick-in, decode}
 use Rattle.lent.specs.Places.{Stands}
 use borrow.Author.Needs.{needs}
@@ -41,7 +41,7 @@ returns c =
     ∙ ap (λ (i : ℕ). has (state .bricks .buffer i) (s .args .block .0)) (h .here)
 
 returns-2 : tie.Need-returns-2
-unfolding has some
+unfolding has any
 returns-2 c =
     let after-place-of : tie.After-place-of = search in let s : tie.Start = search in
     let h : brick-in (decode (words (s .args .store .now))) (s .args .id) ≡ blank-brick =

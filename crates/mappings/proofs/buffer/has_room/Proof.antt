@@ -5,7 +5,7 @@ use lib.Dec.{ltb}
 use lib.ListN.{length}
 use Rattle.words.specs.Words.{words}
 use Rattle.rules.specs.Limits.{max-waiting}
-use Rattle.layout.specs.Disk.{Brick, blank-brick, entry-row}
+use Rattle.layout.specs.Contents.{Brick, blank-brick, entry-row}
 use Rattle.layout.specs.Store.{brick-in, decode}
 use Rattle.lent.specs.Places.{Stands}
 use Rattle.entries.proofs.Tables.{count-is}

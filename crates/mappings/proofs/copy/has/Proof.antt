@@ -3,9 +3,9 @@ use mathlib.Core.List.{List}
 use Prim.Native.Nat.{ℕ}
 use native.Mathlib.Omega.{arith}
 use Rattle.words.specs.Words.{words}
-use Rattle.lists.specs.Tests.{some}
+use Rattle.lists.specs.Tests.{any}
 use Rattle.rules.specs.Entries.{Entry, has}
-use Rattle.layout.specs.Disk.{Brick, blank-brick}
+use Rattle.layout.specs.Contents.{Brick, blank-brick}
 use Rattle.layout.specs.Store.{brick-in, decode}
 use Rattle.lent.specs.Places.{Stands}
 use borrow.Author.Needs.{needs}
@@ -45,7 +45,7 @@ returns c =
     ∙ ap (λ (i : ℕ). has (state .bucket (s .args .bucket) .memory i) (s .args .block .0)) (h .here)
 
 returns-2 : tie.Need-returns-2
-unfolding has some
+unfolding has any
 returns-2 c =
     let after-place-of : tie.After-place-of = search in
     let place-of = after-place-of .place-of in

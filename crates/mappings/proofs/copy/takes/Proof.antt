@@ -4,9 +4,9 @@ use mathlib.Core.List.{List}
 use Prim.Native.Nat.{ℕ}
 use native.Mathlib.Omega.{arith}
 use Rattle.words.specs.Words.{words}
-use Rattle.lists.specs.Tests.{some, _or_}
+use Rattle.lists.specs.Tests.{any, _or_}
 use Rattle.rules.specs.Entries.{Entry, has, takes}
-use Rattle.layout.specs.Disk.{Brick, blank-brick}
+use Rattle.layout.specs.Contents.{Brick, blank-brick}
 use Rattle.layout.specs.Store.{brick-in, decode}
 use Rattle.lent.specs.Places.{Stands}
 use borrow.Author.Needs.{needs}
@@ -46,7 +46,7 @@ returns c =
     ∙ ap (λ (i : ℕ). takes (s .args .settings .entries) (state .bucket (s .args .bucket) .memory i) (s .args .block .0)) (h .here)
 
 returns-2 : tie.Need-returns-2
-unfolding takes has some _or_
+unfolding takes has any _or_
 returns-2 c =
     let after-place-of : tie.After-place-of = search in
     let place-of = after-place-of .place-of in

@@ -2,9 +2,9 @@ use mathlib.Core.Path.{_≡_, ap, _∙_}
 use native.Mathlib.Omega.{arith}
 use Rattle.words.specs.Words.{words}
 use Rattle.rules.specs.State.{State}
-use Rattle.layout.specs.Disk.{blank-brick}
+use Rattle.layout.specs.Contents.{blank-brick}
 use Rattle.layout.specs.Store.{brick-in, decode, render}
-use Rattle.parts.specs.Parts.{agreed-of}
+use Rattle.records.specs.Records.{agreed-of}
 use Rattle.lent.specs.Places.{Stands}
 use Rattle.mappings.proofs.Buckets.{InBucket, in-bucket}
 use Rattle.maps.proofs.Mapping.{primary-stands, copy-takes, buffer-takes, mapped-entry, mapped-waiting}

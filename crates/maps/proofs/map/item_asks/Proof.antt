@@ -5,7 +5,7 @@ use lib.ListN.{length}
 use borrow.Author.Tests.{not-true, not-false}
 use Rattle.lists.specs.Tests.{_and_}
 use Rattle.words.specs.Words.{words}
-use Rattle.rules.specs.Parts.{saved-at}
+use Rattle.rules.specs.Derived.{saved-at}
 use Rattle.rules.proofs.Questions.{first-yes, first-stop, none-asked, stops-there, goes-on}
 use Rattle.layout.specs.Store.{decode}
 use Rattle.maps.specs.Asks.{room-asks}

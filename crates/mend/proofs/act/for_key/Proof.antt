@@ -5,7 +5,7 @@ use borrow.Author.Tests.{not-true, not-false}
 use Rattle.lists.proofs.Tests.{and-l}
 use Rattle.words.specs.Words.{words}
 use Rattle.rules.specs.Numbers.{home-of}
-use Rattle.rules.specs.Parts.{circle, holder}
+use Rattle.rules.specs.Derived.{members-from, holder}
 use Rattle.rules.specs.Upkeep.{of-first-two}
 use Rattle.layout.specs.Store.{decode}
 use Rattle.holders.specs.Members.{LiesAt}
@@ -25,11 +25,11 @@ of-first-two-requires c κs = search needs
 first : (c : tie.After-of-first-two) (b : Bool) → c .of-first-two .result ≡ b
     → let a = c .before .before .before .args in
     let t = decode (words (a .store .now)) in
-    of-first-two (t .ids (a .place)) (circle t (home-of (a .key .0))) ≡ b
+    of-first-two (t .ids (a .place)) (members-from t (home-of (a .key .0))) ≡ b
 first c b e =
     let a = c .before .before .before .args in
     let t = decode (words (a .store .now)) in
-    ap (λ (i : ℕ). of-first-two i (circle t (home-of (a .key .0)))) (sym (c .before .id .ensures)) ∙ sym (c .of-first-two .ensures) ∙ e
+    ap (λ (i : ℕ). of-first-two i (members-from t (home-of (a .key .0)))) (sym (c .before .id .ensures)) ∙ sym (c .of-first-two .ensures) ∙ e
 
 returns : tie.Need-returns
 returns c =
@@ -44,7 +44,7 @@ holds-at-requires c κs =
 is-first : (c : tie.Else1)
     → let a = c .before .before .before .before .args in
     let t = decode (words (a .store .now)) in
-    of-first-two (t .ids (a .place)) (circle t (home-of (a .key .0))) ≡ true
+    of-first-two (t .ids (a .place)) (members-from t (home-of (a .key .0))) ≡ true
 is-first c = first (c .before) _ (not-false _ (c .if1 .left))
 
 returns-2 : tie.Need-returns-2

@@ -1,7 +1,7 @@
 use mathlib.Core.Bool.{true}
 use Prim.Native.Nat.{_+_, _*_}
 use native.Mathlib.Omega.{arith}
-use Rattle.rules.specs.Chunks.{chunk, append}
+use Rattle.rules.specs.Chunks.{new-chunk, append}
 use Rattle.codec.specs.Codec.{change}
 use Rattle.layout.specs.Layout.{log-codec}
 use Rattle.lent.proofs.PlaceLogs.{part-log, part-room, part-back}
@@ -56,7 +56,7 @@ returns c =
     let a = s .args in
     let o = 8 * g .before .log-at .result in
     part-back (a .settings) (a .part .now) (s .pre .0) o (o + 8 * g .log-words .result) (omega arith) (omega arith)
-    (change (log-codec (a .settings)) (λ l. append l (chunk (a .key .0) true (a .bytes .now))))
+    (change (log-codec (a .settings)) (λ l. append l (new-chunk (a .key .0) true (a .bytes .now))))
     (m .append .last .0) (omega arith) (m .append .ensures)
 
 pub append-saved-spec : {M : Type 1} → statement M

@@ -2,7 +2,7 @@ use mathlib.Core.Path.{sym, ap, _∙_}
 use mathlib.Core.Bool.{true}
 use native.Mathlib.Omega.{arith}
 use lib.ListN.{length}
-use Rattle.rules.specs.Chunks.{chunk, append}
+use Rattle.rules.specs.Chunks.{new-chunk, append}
 use Rattle.mend.proofs.OnStore.{lent-place, lent-room, place-back}
 use Rattle.mend.proofs.OneKey.{some-room, row-lies, row-whole, added}
 use borrow.Author.Needs.{needs}
@@ -56,7 +56,7 @@ returns c =
     let s = f .before .before .before .before .before .before in
     let area = f .copy-bytes .last .0 in
     added _ _ _ _ (s .pre .0 .0) _ _ (s .pre .1) area _ (f .copy-bytes .ensures ∙ f .before .chunk .ensures)
-    (place-back _ _ _ (s .pre .0 .0 .there) _ _ (k .span-of .ensures) (λ l. append l (chunk (s .args .key .0) true area)) (m .append-saved .last .0)
+    (place-back _ _ _ (s .pre .0 .0 .there) _ _ (k .span-of .ensures) (λ l. append l (new-chunk (s .args .key .0) true area)) (m .append-saved .last .0)
     (omega arith) (m .append-saved .ensures))
 
 pub bring-spec : {M : Type 1} → statement M

@@ -1,11 +1,11 @@
 use mathlib.Core.Path.{_≡_, sym, ap, _∙_}
 use native.Mathlib.Omega.{arith}
 use Rattle.words.specs.Words.{words}
-use Rattle.layout.specs.Disk.{Agreed}
+use Rattle.layout.specs.Contents.{Agreed}
 use Rattle.rules.specs.State.{State}
 use Rattle.layout.specs.Store.{decode}
 use mathlib.Core.Bool.{true}
-use Rattle.rules.specs.Parts.{up-member}
+use Rattle.rules.specs.Derived.{up-member}
 use Rattle.rules.specs.Question.{is-bucket}
 use Rattle.rules.proofs.Questions.{first-yes, first-stop, none-asked}
 use Rattle.recovery.proofs.Questions.{no-bucket, is-bucket-yes}

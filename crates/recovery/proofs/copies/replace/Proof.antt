@@ -2,7 +2,7 @@ use mathlib.Core.Path.{_≡_, ap, ap₂, _∙_}
 use Prim.Native.Nat.{ℕ}
 use native.Mathlib.Omega.{arith}
 use Rattle.words.specs.Words.{words}
-use Rattle.entries.specs.Words.{copied-entries}
+use Rattle.entries.specs.Entries.{copied-entries}
 use Rattle.recovery.specs.Copies.{memory-word, disk-word}
 use Rattle.recovery.proofs.Replaced.{few-still}
 use borrow.Author.Needs.{needs}

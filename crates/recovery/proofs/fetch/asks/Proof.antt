@@ -3,7 +3,7 @@ use mathlib.Core.Bool.{not}
 use native.Mathlib.Omega.{arith}
 use Rattle.words.specs.Words.{words}
 use Rattle.rules.proofs.Questions.{first-yes, first-stop, none-asked}
-use Rattle.layout.specs.Disk.{Agreed}
+use Rattle.layout.specs.Contents.{Agreed}
 use Rattle.rules.specs.State.{State}
 use Rattle.layout.specs.Store.{decode}
 use Rattle.recovery.specs.Asks.{bucket-asks}

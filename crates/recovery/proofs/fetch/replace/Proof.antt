@@ -2,8 +2,8 @@ use mathlib.Core.Path.{ap, subst, _∙_}
 use Prim.Native.Nat.{ℕ}
 use Rattle.words.specs.Words.{words}
 use Rattle.rules.specs.Views.{source}
-use Rattle.rules.specs.Parts.{up-member}
-use Rattle.layout.specs.Disk.{Agreed}
+use Rattle.rules.specs.Derived.{up-member}
+use Rattle.layout.specs.Contents.{Agreed}
 use Rattle.rules.specs.State.{State}
 use Rattle.layout.specs.Store.{decode}
 use Rattle.lent.specs.Places.{Stands}

@@ -1,9 +1,9 @@
 use mathlib.Core.Path.{_≡_, sym, ap, _∙_}
 use Rattle.words.specs.Words.{words}
-use Rattle.layout.specs.Disk.{Agreed}
+use Rattle.layout.specs.Contents.{Agreed}
 use Rattle.rules.specs.State.{State}
 use Rattle.layout.specs.Store.{decode}
-use Rattle.rules.specs.Parts.{up-member}
+use Rattle.rules.specs.Derived.{up-member}
 use Rattle.recovery.proofs.Questions.{source-first, source-second, source-none}
 use borrow.Author.Needs.{needs}
 use Rattle.recovery.proofs.member.find_source.Statement.{statement}

@@ -1,7 +1,7 @@
 use mathlib.Core.Path.{_≡_}
 use mathlib.Core.Bool.{false}
 use Rattle.lists.proofs.Tests.{clash}
-use Rattle.rules.specs.Parts.{up-member}
+use Rattle.rules.specs.Derived.{up-member}
 use Rattle.words.specs.Words.{words}
 use Rattle.layout.specs.Store.{decode}
 use Rattle.lent.specs.Places.{MemberAt}

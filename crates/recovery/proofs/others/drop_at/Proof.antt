@@ -1,7 +1,7 @@
 use mathlib.Core.Path.{sym, ap, _∙_}
 use native.Mathlib.Omega.{arith}
 use Rattle.words.specs.Words.{words}
-use Rattle.layout.specs.Disk.{Status}
+use Rattle.layout.specs.Contents.{Status}
 use Rattle.recovery.proofs.PlaceLaws.{outside-down, outside-primary, outside-backup, outside-up, place-stays, place-drops, empty-stays}
 use borrow.Author.Needs.{needs}
 use Rattle.recovery.proofs.others.drop_at.Statement.{statement}

@@ -1,12 +1,12 @@
 use mathlib.Core.Path.{_≡_, sym, ap, _∙_}
 use Rattle.words.specs.Words.{words}
 use Rattle.rules.proofs.Questions.{first-yes, first-stop}
-use Rattle.layout.specs.Disk.{Agreed}
+use Rattle.layout.specs.Contents.{Agreed}
 use Rattle.rules.specs.State.{State}
 use Rattle.layout.specs.Store.{decode}
 use Rattle.recovery.specs.Asks.{bucket-asks}
 use Rattle.recovery.proofs.Questions.{bucket-yes, bucket-first, bucket-more}
-use Rattle.rules.specs.Parts.{up-member}
+use Rattle.rules.specs.Derived.{up-member}
 use Rattle.rules.specs.Question.{_asks_, first-no}
 use Rattle.rules.specs.Views.{ready-asks}
 use mathlib.Core.List.{_∷_}

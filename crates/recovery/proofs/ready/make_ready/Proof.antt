@@ -5,9 +5,9 @@ use native.Mathlib.Omega.{arith}
 use lib.ListN.{length, take, drop}
 use Rattle.lists.proofs.Runs.{run-length}
 use Rattle.words.specs.Words.{words}
-use Rattle.rules.specs.Parts.{up-member}
+use Rattle.rules.specs.Derived.{up-member}
 use Rattle.codec.specs.Codec.{change}
-use Rattle.layout.specs.Disk.{Agreed}
+use Rattle.layout.specs.Contents.{Agreed}
 use Rattle.layout.specs.Layout.{all-places-codec}
 use Rattle.rules.specs.State.{State}
 use Rattle.layout.specs.Store.{decode, render}

@@ -8,7 +8,7 @@ use Rattle.lists.specs.Tests.{only}
 use Rattle.lists.specs.Runs.{on-run}
 use Rattle.lists.proofs.Runs.{run-length}
 use Rattle.rules.specs.Limits.{buckets, max-waiting}
-use Rattle.rules.specs.Entries.{Entry, waits-for}
+use Rattle.rules.specs.Entries.{Entry, is-of-bucket}
 use Rattle.words.specs.Words.{words}
 use Rattle.words.proofs.Laws.{length-words, lent-run}
 use Rattle.codec.specs.Codec.{change}
@@ -90,7 +90,7 @@ returns c =
     let v = at .drain .last .0 in
     let p = after-place-at .place-at in
     let n : ℕ = p .result + 6 in
-    let f : List Entry → List Entry = only (λ e. not (waits-for (buckets t) g e)) in
+    let f : List Entry → List Entry = only (λ e. not (is-of-bucket (buckets t) g e)) in
     lent-run v (after-drop-bucket .drop-bucket .last .0) (8 * n) (8 * n + 520 - 8 * n) n 65 (change buffer-codec f) (omega arith) (omega arith) (omega arith)
     (omega arith) (after-drop-bucket .drop-bucket .ensures)
     ∙ ap (on-run n 65 (change buffer-codec f)) (at .drain .ensures)

@@ -3,7 +3,7 @@ use native.Mathlib.Omega.{arith}
 use Rattle.words.specs.Words.{words}
 use Rattle.words.proofs.Laws.{length-words}
 use Rattle.rules.specs.Limits.{max-relays}
-use Rattle.layout.specs.Disk.{relay-row}
+use Rattle.layout.specs.Contents.{relay-row}
 use Rattle.codec.proofs.Loops.{table-cleared}
 use borrow.Author.Needs.{needs}
 use Rattle.relay_list.proofs.flat.clear.Statement.{statement}

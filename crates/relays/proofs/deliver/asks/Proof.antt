@@ -3,7 +3,7 @@ use mathlib.Core.Bool.{Bool, true, false, cond}
 use borrow.Author.Tests.{not-true, not-false}
 use Rattle.words.specs.Words.{words}
 use Rattle.layout.specs.Store.{decode}
-use Rattle.parts.specs.Parts.{agreed-of}
+use Rattle.records.specs.Records.{agreed-of}
 use Rattle.rules.specs.Question.{first-no}
 use Rattle.relays.specs.Relays.{relay-of}
 use Rattle.relays.specs.Asks.{take-asks}

@@ -1,7 +1,7 @@
 use mathlib.Core.Path.{sym, _∙_}
 use Rattle.words.specs.Words.{words}
 use Rattle.layout.specs.Store.{decode}
-use Rattle.parts.specs.Parts.{agreed-of}
+use Rattle.records.specs.Records.{agreed-of}
 use Rattle.relays.proofs.Delivering.{old-relay, new-relay}
 use borrow.Author.Needs.{needs}
 use Rattle.relays.proofs.deliver.is_taken.Statement.{statement}

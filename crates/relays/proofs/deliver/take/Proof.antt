@@ -2,10 +2,10 @@ use mathlib.Core.Path.{_≡_, ap, _∙_}
 use Prim.Native.Nat.{ℕ, _+_}
 use native.Mathlib.Omega.{arith}
 use Rattle.words.specs.Words.{words}
-use Rattle.layout.specs.Disk.{blank-brick}
+use Rattle.layout.specs.Contents.{blank-brick}
 use Rattle.layout.specs.Layout.{taken-at}
 use Rattle.layout.specs.Store.{brick-in, decode}
-use Rattle.parts.specs.Parts.{agreed-of}
+use Rattle.records.specs.Records.{agreed-of}
 use Rattle.lent.specs.Places.{Stands}
 use Rattle.mappings.proofs.Buckets.{InBucket, in-bucket}
 use Rattle.relays.proofs.Delivering.{backup-stands, copy-takes, Entered, entered-rule, bag-stays, delivered}

@@ -11,7 +11,7 @@ use Rattle.rules.specs.Maps.{send-asks}
 use Rattle.rules.specs.Question.{first-no}
 use Rattle.rules.proofs.Questions.{first-stop, stops-there, goes-on}
 use Rattle.layout.specs.Store.{decode}
-use Rattle.parts.specs.Parts.{agreed-of}
+use Rattle.records.specs.Records.{agreed-of}
 use Rattle.mappings.proofs.Buckets.{InBucket, in-bucket}
 use Rattle.relays.specs.Asks.{primary-asks, room-asks}
 use Rattle.relays.proofs.Sending.{no-order, entry-decides}

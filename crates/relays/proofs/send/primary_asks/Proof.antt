@@ -2,7 +2,7 @@ use mathlib.Core.Path.{_≡_, sym, _∙_}
 use mathlib.Core.List.{[], _∷_}
 use borrow.Author.Tests.{lt-ltb, le-ltb, not-true, not-false}
 use Rattle.words.specs.Words.{words}
-use Rattle.rules.specs.Numbers.{blocks}
+use Rattle.rules.specs.Numbers.{block-count}
 use Rattle.rules.specs.Question.{_asks_, first-no, is-ready}
 use Rattle.rules.proofs.Questions.{first-yes, first-stop, none-asked}
 use Rattle.layout.specs.Store.{decode}
@@ -18,13 +18,13 @@ two-yes : (c : tie.Else2)
     first-no (primary-asks s (b .args .block .0)) ≡ first-no ((7 asks is-ready s (b .args .block .0)) ∷ [])
 two-yes c =
     let start : tie.Start = search in let else1 : tie.Else1 = search in
-    first-yes 3 _ (lt-ltb (start .args .block .0) blocks (else1 .if1 .left))
+    first-yes 3 _ (lt-ltb (start .args .block .0) block-count (else1 .if1 .left))
     ∙ first-yes 6 _ (sym (c .before .primary-up .ensures) ∙ not-false _ (c .if2 .left))
 
 returns : tie.Need-returns
 returns c =
     let start : tie.Start = search in
-    sym (first-stop 3 _ (le-ltb (start .args .block .0) blocks (c .if1 .taken)))
+    sym (first-stop 3 _ (le-ltb (start .args .block .0) block-count (c .if1 .taken)))
 
 primary-up-requires : tie.Need-primary-up-requires
 primary-up-requires c κs = search needs
@@ -32,7 +32,7 @@ primary-up-requires c κs = search needs
 returns-2 : tie.Need-returns-2
 returns-2 c =
     let start : tie.Start = search in let else1 : tie.Else1 = search in
-    sym (first-yes 3 _ (lt-ltb (start .args .block .0) blocks (else1 .if1 .left))
+    sym (first-yes 3 _ (lt-ltb (start .args .block .0) block-count (else1 .if1 .left))
     ∙ first-stop 6 _ (sym (c .before .primary-up .ensures) ∙ not-true _ (c .if2 .taken)))
 
 is-ready-requires : tie.Need-is-ready-requires

@@ -2,9 +2,9 @@ use mathlib.Core.Path.{ap, _∙_}
 use Prim.Native.Nat.{ℕ, _+_}
 use native.Mathlib.Omega.{arith}
 use Rattle.words.specs.Words.{words}
-use Rattle.layout.specs.Layout.{order-at}
+use Rattle.layout.specs.Layout.{last-sent-at}
 use Rattle.layout.specs.Store.{decode}
-use Rattle.parts.specs.Parts.{agreed-of}
+use Rattle.records.specs.Records.{agreed-of}
 use Rattle.mappings.proofs.Buckets.{InBucket, in-bucket}
 use Rattle.relays.proofs.Bag.{bag-lent}
 use Rattle.relays.proofs.Sending.{order-left, relay-is, sent}
@@ -79,7 +79,7 @@ returns c =
     ∙ sent (b .args .settings) (b .args .store .now) (b .pre .0) _ _ (at-span .bag-span .ensures) (b .args .block .0) _ (k .number)
     (got .before .before .number .ensures .1) _
     (relay-is _ _ _ _ _ k _ _ (at-span .before .before .before .view .ensures) (at-span .before .mapped .ensures)) (appended .last .0) (appended .kept .0)
-    (appended .ensures) _ (ap (λ (j : ℕ). j + order-at) (c .before .before .before .agreed-at .ensures .0))
+    (appended .ensures) _ (ap (λ (j : ℕ). j + last-sent-at) (c .before .before .before .agreed-at .ensures .0))
 
 pub relay-spec : {M : Type 1} → statement M
 relay-spec =

@@ -1,6 +1,6 @@
 use mathlib.Core.Path.{sym, ap, _∙_}
 use Rattle.words.specs.Words.{words}
-use Rattle.layout.specs.Disk.{Status, Brick}
+use Rattle.layout.specs.Contents.{Status, Brick}
 use Rattle.layout.specs.Store.{decode}
 use Rattle.lent.proofs.Places.{zero-blank}
 use Rattle.views.proofs.Counts.{not-counted, counted-stayed, counted-up}

@@ -4,12 +4,12 @@ use native.Mathlib.Omega.{arith}
 use lib.ListN.{length}
 use borrow.Author.Needs.{needs}
 use Rattle.lists.proofs.Runs.{run-length}
-use Rattle.rules.specs.Pairs.{at}
+use Rattle.rules.specs.Pairs.{id-in}
 use Rattle.words.specs.Words.{words}
 use Rattle.words.proofs.Laws.{length-words}
 use Rattle.codec.specs.Codec.{enc-many}
 use Rattle.codec.proofs.Loops.{written, loop-start, loop-end}
-use Rattle.layout.specs.Disk.{Agreed, blank-agreed}
+use Rattle.layout.specs.Contents.{Agreed, blank-agreed}
 use Rattle.layout.specs.Layout.{agreed-codec}
 use Rattle.layout.proofs.Codecs.{agreed-law}
 use Rattle.layout.proofs.Lent.{each-changed, change-turn}
@@ -18,14 +18,14 @@ use Rattle.views.proofs.record.renew_all.Statement.{statement}
 use Rattle.views.proofs.record.renew_all.Tie as tie
 
 abbrev Inv-loop : tie.InvT-loop
-Inv-loop part₀ slots count bucket₀ part bucket =
+Inv-loop part₀ assigned count bucket₀ part bucket =
     (bucket ≤ count) × (length part ≡ length part₀)
-    × (words part ≡ written agreed-codec bucket (each-changed agreed-codec count blank-agreed (λ g. renewed (at slots (2 * g)) (at slots (2 * g + 1)))
+    × (words part ≡ written agreed-codec bucket (each-changed agreed-codec count blank-agreed (λ g. renewed (id-in assigned (2 * g)) (id-in assigned (2 * g + 1)))
     (words part₀))
     (words part₀))
 
 abbrev μ-loop : tie.MeasureT-loop
-μ-loop part₀ slots count bucket₀ part bucket = count - bucket
+μ-loop part₀ assigned count bucket₀ part bucket = count - bucket
 
 buckets-requires : tie.Need-buckets-requires Inv-loop μ-loop
 buckets-requires c κs = search needs
@@ -34,9 +34,9 @@ loop-holds : tie.Need-loop-holds Inv-loop μ-loop
 loop-holds c =
     let b : tie.Start Inv-loop μ-loop = search in
     let s = b .args .part .now in
-    let slots = b .args .slots .now in
+    let assigned = b .args .assigned .now in
     let n = c .buckets .result in
-    let f = each-changed agreed-codec n blank-agreed (λ g. renewed (at slots (2 * g)) (at slots (2 * g + 1))) (words s) in
+    let f = each-changed agreed-codec n blank-agreed (λ g. renewed (id-in assigned (2 * g)) (id-in assigned (2 * g + 1))) (words s) in
     (search needs, search needs, loop-start agreed-codec agreed-law n f (words s) (length-words s ∙ omega arith))
 
 offset-requires : tie.Need-offset-requires Inv-loop μ-loop
@@ -99,12 +99,12 @@ loop-again c =
     let after-offset : tie.After-offset Inv-loop μ-loop = search in let after-renew : tie.After-renew Inv-loop μ-loop = search in
     let b : tie.Start Inv-loop μ-loop = search in
     let s0 = b .args .part .now in
-    let slots = b .args .slots .now in
+    let assigned = b .args .assigned .now in
     let count = after-buckets .buckets .result in
     let l = at-loop .loop in
     let o = 8 * after-offset .offset .result in
     let n : ℕ = o + 8 * 8 - o in
-    let turn = change-turn agreed-codec agreed-law count blank-agreed (λ g. renewed (at slots (2 * g)) (at slots (2 * g + 1))) (words s0)
+    let turn = change-turn agreed-codec agreed-law count blank-agreed (λ g. renewed (id-in assigned (2 * g)) (id-in assigned (2 * g + 1))) (words s0)
     (length-words s0 ∙ omega arith)
     (l .bucket) (omega arith) (l .part) o n (omega arith) (omega arith) (omega arith) (l .inv .2) (after-renew .renew .last .0) (omega arith)
     (after-renew .renew .ensures) in
@@ -117,9 +117,9 @@ returns : tie.Need-returns Inv-loop μ-loop
 returns c =
     let after-buckets : tie.After-buckets Inv-loop μ-loop = search in let b : tie.Start Inv-loop μ-loop = search in
     let s0 = b .args .part .now in
-    let slots = b .args .slots .now in
+    let assigned = b .args .assigned .now in
     let n = after-buckets .buckets .result in
-    let pair : ℕ → Agreed → Agreed = λ g. renewed (at slots (2 * g)) (at slots (2 * g + 1)) in
+    let pair : ℕ → Agreed → Agreed = λ g. renewed (id-in assigned (2 * g)) (id-in assigned (2 * g + 1)) in
     let e : c .before .loop .bucket ≡ n = omega arith in
     rw e at (c .before .loop .inv .2)
     ∙ loop-end agreed-codec agreed-law n (each-changed agreed-codec n blank-agreed pair (words s0)) (words s0) (length-words s0 ∙ omega arith)

@@ -8,9 +8,9 @@ use borrow.Author.Tests.{lt-ltb, le-ltb}
 use Rattle.lists.specs.Tests.{count-below}
 use Rattle.lists.proofs.Tests.{count-at-most}
 use Rattle.words.specs.Words.{words}
-use Rattle.rules.specs.Limits.{max-number}
+use Rattle.rules.specs.Limits.{max-view-or-order}
 use Rattle.rules.specs.State.{State}
-use Rattle.rules.specs.Parts.{is-up}
+use Rattle.rules.specs.Derived.{is-up}
 use Rattle.rules.specs.Question.{_asks_, first-no}
 use Rattle.rules.specs.Views.{view-asks}
 use Rattle.rules.proofs.Questions.{first-yes, first-stop, none-asked}
@@ -28,10 +28,10 @@ abbrev state : tie.After-count → State
 state c = decode (words (start c .args .store .now))
 
 -- the first two questions
-number : (c : tie.After-count) → ltb (state c .view) max-number ≡ true
+number : (c : tie.After-count) → ltb (state c .view) max-view-or-order ≡ true
 number c =
     let after-view : tie.After-view = search in
-    lt-ltb (state c .view) max-number (omega (arith, after-view .view .ensures, c .before .if1 .left))
+    lt-ltb (state c .view) max-view-or-order (omega (arith, after-view .view .ensures, c .before .if1 .left))
 
 up : (c : tie.After-count) → ltb 1 (count-below (state c .settings .places) (is-up (state c))) ≡ ltb 1 (c .count .result)
 up c = ap (ltb 1) (sym (count-of (start c .args .settings) (start c .args .store .now) (start c .pre) false (c .count .result) (c .count .ensures)))
@@ -51,7 +51,7 @@ view-requires c κs = search needs
 returns : tie.Need-returns
 returns c =
     let entry : tie.Start = search in
-    sym (first-stop 12 _ (le-ltb (decode (words (entry .args .store .now)) .view) max-number
+    sym (first-stop 12 _ (le-ltb (decode (words (entry .args .store .now)) .view) max-view-or-order
     (omega (arith, c .before .view .ensures, c .if1 .taken))))
 
 count-requires : tie.Need-count-requires

@@ -7,7 +7,7 @@ use borrow.Author.Tests.{not-true, not-false}
 use Rattle.words.specs.Words.{words}
 use Rattle.rules.specs.Numbers.{home-of}
 use Rattle.rules.specs.Chunks.{held}
-use Rattle.rules.specs.Parts.{up-member}
+use Rattle.rules.specs.Derived.{up-member}
 use Rattle.rules.specs.Question.{Question, first-no}
 use Rattle.rules.specs.State.{State}
 use Rattle.rules.specs.Writes.{copy-asks}

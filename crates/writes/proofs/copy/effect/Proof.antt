@@ -8,7 +8,7 @@ use Rattle.rules.specs.Chunks.{held}
 use Rattle.rules.specs.State.{State}
 use Rattle.rules.specs.Writes.{target, nothing-to-copy}
 use Rattle.log.specs.Answers.{FoundAt}
-use Rattle.layout.specs.Disk.{blank-brick}
+use Rattle.layout.specs.Contents.{blank-brick}
 use Rattle.layout.specs.Store.{brick-in, decode}
 use Rattle.lent.specs.Places.{Stands}
 use Rattle.writes.specs.Copies.{Lacking}

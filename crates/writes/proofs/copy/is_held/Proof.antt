@@ -2,7 +2,7 @@ use mathlib.Core.Path.{_≡_, sym, ap, _∙_}
 use Prim.Native.Nat.{ℕ}
 use Rattle.words.specs.Words.{words}
 use Rattle.rules.specs.Chunks.{held}
-use Rattle.layout.specs.Disk.{blank-brick}
+use Rattle.layout.specs.Contents.{blank-brick}
 use Rattle.layout.specs.Store.{brick-in, decode}
 use Rattle.lent.specs.Places.{Stands}
 use Rattle.writes.proofs.Copies.{none-held}

@@ -8,7 +8,7 @@ use Rattle.rules.specs.Numbers.{key-of}
 use Rattle.rules.specs.State.{State}
 use Rattle.rules.specs.Writes.{new-key}
 use Rattle.codec.specs.Codec.{change}
-use Rattle.layout.specs.Disk.{Status}
+use Rattle.layout.specs.Contents.{Status}
 use Rattle.layout.specs.Layout.{place-codec, items-codec}
 use Rattle.layout.specs.Store.{decode, render}
 use Rattle.lent.proofs.LentPlace.{LentPlace, lent-place, part-inside, part-filled, back-length, part-changed}

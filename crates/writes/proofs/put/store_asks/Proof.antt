@@ -15,10 +15,10 @@ use Rattle.rules.specs.Numbers.{sequences}
 use Rattle.rules.specs.Entries.{Entry}
 use Rattle.rules.specs.Chunks.{Chunk}
 use Rattle.rules.specs.State.{State}
-use Rattle.rules.specs.Parts.{up-member}
+use Rattle.rules.specs.Derived.{up-member}
 use Rattle.rules.specs.Question.{Question, first-no}
 use Rattle.rules.proofs.Questions.{first-yes, first-stop, none-asked}
-use Rattle.layout.specs.Disk.{Status}
+use Rattle.layout.specs.Contents.{Status}
 use Rattle.layout.specs.Store.{decode}
 use Rattle.lent.proofs.Places.{up-filled}
 use Rattle.lent.proofs.Stores.{settings-are, facts}

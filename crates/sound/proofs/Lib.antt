@@ -1,8 +1,0 @@
-pub mod KeyLaws
-pub mod LimitLaws
-pub mod PlaceLaws
-pub mod PartSound
-pub mod BrickSound
-pub mod PlaceSound
-pub mod StoreSound
-pub mod ByteLaws
