@@ -80,7 +80,7 @@ module _ (c : Settings) (bs : List ℕ) (v : StoreOf c bs) (b : Below 256 bs) (b
   left-bytes : Below 256 (batch-outcome batch l .left .store)
   left-bytes = by (is-batch batch l) batch-bytes (λ n. subst (λ (r : Ran). Below 256 (r .left .store)) (sym (none-run n)) b)
 
-  -- and what was told is what the calls were told that the batch makes
+  -- and what was answered is what the calls are answered that the batch makes
   several-answered : (more : List Call) → answered-batch (c .size) batch l (batch-outcome batch l) ++ answered-calls (c .size) (batch-outcome batch l .left .store) more
       ≡ answered-calls (c .size) bs (cond (is-batch batch l) (calls-of (c .size) batch l) [] ++ more)
   several-answered more =
@@ -93,7 +93,7 @@ module _ (c : Settings) (bs : List ℕ) (v : StoreOf c bs) (b : Below 256 bs) (b
       ∙ ap (λ (r : Ran). answered-calls (c .size) (r .left .store) more) (none-run n)
       ∙ ap (λ (x : Bool). answered-calls (c .size) bs (cond x (calls-of (c .size) batch l) [] ++ more)) (sym n))
 
--- ---- what requests were told is what the calls that they make were told
+-- ---- what requests are answered is what the calls that they make are answered
 requests-answered : (c : Settings) (bs : List ℕ) → StoreOf c bs → Below 256 bs → (requests : List Request)
     → answered-requests (c .size) bs requests ≡ answered-calls (c .size) bs (calls-made (c .size) bs requests)
 unfolding answered-requests answered-calls calls-made store-after

@@ -160,7 +160,7 @@ module _ (c : Settings) (batch : Batch) where
       from-kept b n (suc i) k (turn (c .size) batch i l) (next i k l r) left e (λ j h g. f j (omega arith) (omega arith))
       ∙ turn-kept i k l r left e b n (f i (omega arith) (omega arith))
 
-  -- ---- what was told
+  -- ---- what was answered
   seen-is : (i k : ℕ) (l : Lent) → Ready i (suc k) l → (left : Lent) → left ≡ from i (suc k) l → i + suc k ≡ count batch
       → seen (c .size) batch left i (turn (c .size) batch i l) ≡ called i l .area
   unfolding from

@@ -37,7 +37,7 @@ unfolding outcome-of
 answered-of (Yes k) area store = refl
 answered-of (No n) area store = refl
 
--- the outcome of a call, told with the area that it leaves
+-- the outcome of a call, answered with the area that it leaves
 pub steps-at : (size at : ℕ) (call : Call) (store area : List ℕ) (r : Answer) (after part area-after : List ℕ) → outcome-of r part after ≡ outcome store call
     → area-after ≡ with-block size at part area → StepsAt size at call store area r after area-after
 steps-at size at call store area r after part area-after e f =

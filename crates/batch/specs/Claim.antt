@@ -73,7 +73,7 @@ seen size batch left i after =
     block-at size (begins batch i)
     (cond (any-below (count batch) (λ j. ltb i j and fills-into size batch left (begins batch i) size j)) (after .area) (left .area))
 
--- what the events of a batch were told, k of them from event i on: code and key as the answers have them at the end, and the bytes that were seen
+-- what the events of a batch were answered, k of them from event i on: code and key as the answers have them at the end, and the bytes that were seen
 unfoldable pub answered-from : ℕ → Batch → Lent → ℕ → ℕ → Lent → List Answered
 answered-from size batch left i zero l = []
 answered-from size batch left i (suc k) l =
@@ -89,7 +89,7 @@ answered-from size batch left i (suc k) l =
 abbrev pub answered-unsound : Answered
 answered-unsound = record { event = Event.unknown; code = 2; said = only-key 0; found-whole = false }
 
--- what a batch was told by what it left: one for each event; a batch that is refused with 3 was told nothing of any block
+-- what a batch was answered, by what it left: one for each event; a batch that is refused with 3 was answered nothing of any block
 unfoldable pub answered-batch : ℕ → Batch → Lent → Ran → List Answered
 answered-batch size batch l r = cond (eqb (r .code) 0) (answered-from size batch (r .left) 0 (count batch) l) (cond (eqb (r .code) 2) (answered-unsound ∷ []) [])
 

@@ -60,7 +60,7 @@ pub record InBag (g view : ℕ) (bag : List Relay) (r : Relay) : Type 0 where
   pub mine : r .bucket ≡ g
   pub now : r .view ≡ view
 
--- they are numbered up to the last order number sent, fly only while the bucket is ready, and of two of one block the one sent later is no older write
+-- they are numbered up to the last order number sent, are in the bag only while the bucket is ready, and of two of one block the one sent later is no older write
 pub record Queue (w : Writes) (g : ℕ) (bag : List Relay) (view order : ℕ) (ready : Bool) : Type 0 where
   pub ordered : (r : Relay) → InBag g view bag r → r .order ≤ order
   pub while-ready : (r : Relay) → InBag g view bag r → ready ≡ true

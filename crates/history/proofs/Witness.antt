@@ -38,7 +38,7 @@ unfolding failure-found-whole every FailuresFindWhole
 is-failure-found-whole [] y = tt
 is-failure-found-whole (t ∷ ts) y = (λ e n. if-so _ _ (and-l _ _ y) (both _ _ (strike-kind (t .event) e) (eq-eqb (t .code) 0 n)), is-failure-found-whole ts (and-r _ _ y))
 
--- the kinds of the accepted strikes
+-- the kinds of the accepted crashes and losses
 abbrev strikes : List Answered → List ℕ
 strikes ts = map (λ (t : Answered). kind (t .event)) (only is-strike ts)
 

@@ -1,4 +1,4 @@
--- The circle of members from the home id upward: who comes first, who comes second, and the first other than the home brick.
+-- The members from the home id upward, circularly: who comes first, who comes second, and the first other than the home brick.
 use mathlib.Core.Path.{_≡_, refl, sym, ap, _∙_}
 use mathlib.Core.List.{List, [], _∷_, _++_}
 use mathlib.Core.Bool.{Bool, true}
@@ -45,7 +45,7 @@ module _ (l t : List ℕ) (x first id : ℕ) (e : l ≡ x ∷ t) (f : first ≡ 
       miss [] = unfold of-first-two begins-with in ne-eqb x id (λ z. h (f ∙ z))
       miss (y ∷ t) = unfold of-first-two begins-with _or_ in rw (ne-eqb x id (λ z. h (f ∙ z))) refl
 
--- ---- the circle in two stretches
+-- ---- in two stretches
 module _ (c : Settings) (s : State) (low home : ℕ) where
   pub round-at : (p : ℕ) → NextAt c s low ids p → round s low home ≡ s .ids p ∷ round s (suc (s .ids p)) home
   round-at p n = ap (λ (l : List ℕ). l ++ between s 0 home) (n .list)

@@ -73,7 +73,7 @@ module _ (c : Settings) (bs : List ℕ) (v : StoreOf c bs) (k low to : ℕ) wher
         ∙ first-holder-no (decode (words bs) .bricks) k id (between (decode (words bs)) (suc id) to) (no-second _ _ y)
         ∙ ap (λ (j : ℕ). first-holder (decode (words bs) .bricks) k (between (decode (words bs)) j to)) (sym (add-one id))
 
--- ---- round the circle, in two stretches
+-- ---- from the home id on, in two stretches
 module _ (c : Settings) (bs : List ℕ) (v : StoreOf c bs) (k home : ℕ) (e : home ≡ home-of k) where
   abbrev upper : List ℕ
   upper = between (decode (words bs)) home ids

@@ -170,7 +170,7 @@ pub fn saved_somewhere(store: &[u8], settings: Settings, key: ChunkKey) -> bool
     false
 }
 
-// ---- the circle of members from the home id upward
+// ---- the members from the home id upward, circularly
 
 // The place that a copy goes to: that of the next other member by id from the home brick, circularly.
 pub fn target(store: &[u8], settings: Settings, key: ChunkKey) -> Found

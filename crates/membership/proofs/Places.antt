@@ -35,7 +35,7 @@ blanked s id there = set-buckets (set-bricks s (blanked-brick (s .bricks) id the
 
 blank-others : (s : State) (id : ℕ) (there : Bool) (i : ℕ) → (i ≡ id → ⊥) → brick-in (blanked s id there) i ≡ brick-in s i
 blank-others s id there i n = λ k. record {
-  here = upd-other (s .bricks .present) id i there n k;
+  present = upd-other (s .bricks .present) id i there n k;
   status = record {
     up = upd-other (s .bricks .up) id i there n k;
     member = upd-other (s .bricks .member) id i false n k;
@@ -77,7 +77,7 @@ module _ (s : State) (p : ℕ) (at : Filled s p) where
   crash-others : (i : ℕ) → (i ≡ id → ⊥) → brick-in (crash-effect s id) i ≡ brick-in s i
   unfolding crash-effect
   crash-others i n = λ k. record {
-    here = s .bricks .present i;
+    present = s .bricks .present i;
     status = record {
       up = upd-other (s .bricks .up) id i false n k;
       member = upd-other (s .bricks .member) id i false n k;
@@ -96,7 +96,7 @@ module _ (s : State) (p : ℕ) (at : Filled s p) where
   crash-there : contents-of (crash-effect s id) .place p ≡ crashed (contents-of s .place p)
   unfolding crash-effect
   crash-there = λ k. id & record {
-    here = s .bricks .present id;
+    present = s .bricks .present id;
     status = record {
       up = upd-same (s .bricks .up) id false k;
       member = upd-same (s .bricks .member) id false k;
@@ -151,7 +151,7 @@ module _ (s : State) (p : ℕ) where
 
   joined : (id : ℕ) → brick-in (blanked s id true) id ≡ new-brick joined-status
   joined id = λ k. record {
-    here = upd-same (s .bricks .present) id true k;
+    present = upd-same (s .bricks .present) id true k;
     status = record {
       up = upd-same (s .bricks .up) id true k;
       member = upd-same (s .bricks .member) id false k;

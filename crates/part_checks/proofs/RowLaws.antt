@@ -126,7 +126,7 @@ module _ (c : Settings) (good : ℕ → Bool) (whose : Whose) (ws : List ℕ) wh
   of-under zero ceiling h y j l = absurd (omega arith)
   of-under (suc i) ceiling h y j l =
       let low : row-at i .block < ceiling = ltb-true _ _ (and-l _ _ (and-l _ _ y)) in
-      let range : row-at i .block < blocks = omega arith in
+      let range : row-at i .block < block-count = omega arith in
       by-eq j i (λ _ e. rw e (floor-of i _ (and-r _ _ y), good-if i range (and-r _ _ (and-l _ _ y))))
       (λ _ e. of-under i _ (ceiling-range _ 0 whose range) (and-r _ _ y) j (omega arith))
 

@@ -11,7 +11,7 @@ use Rattle.rules.specs.declared.settings.Settings.{Settings}
 use Rattle.rules.specs.Limits.{max-id, max-entries}
 use Rattle.rules.specs.Numbers.{block-count, home-of, sequence-of}
 use Rattle.rules.specs.Entries.{Entry}
-use Rattle.rules.specs.Question.{belongs-to as of-proxy}
+use Rattle.rules.specs.Question.{belongs as of-proxy}
 use Rattle.rules.specs.Sound.{sound-entry, sound-entries, sound-table, anyone, in-bucket}
 use Rattle.layout.specs.Contents.{entry-row}
 use Rattle.part_checks.specs.declared.rows.Whose.{Whose}

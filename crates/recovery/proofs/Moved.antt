@@ -86,7 +86,7 @@ module _ (c : Settings) (bs : List ℕ) (v : StoreOf c bs) (g : ℕ) (hg : g < b
     bag = refl;
     ids = refl;
     others = λ i n. ap (λ (l : List Entry). record {
-      here = s .bricks .present i;
+      present = s .bricks .present i;
       status = brick-in s i .status;
       buffer = l;
       copies = brick-in four i .copies;

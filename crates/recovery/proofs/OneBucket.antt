@@ -36,7 +36,7 @@ module _ (s : State) (g : ℕ) (k l : Bucket) where
     where
       made : (ℕ → Copies) → Brick
       made copies = record {
-        here = s .bricks .present i;
+        present = s .bricks .present i;
         status = brick-in s i .status;
         buffer = s .bricks .buffer i;
         copies = copies;

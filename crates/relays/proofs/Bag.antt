@@ -72,11 +72,11 @@ module _ (c : Settings) (bs : List ℕ) (v : StoreOf c bs) (i : ℕ) (h : i < le
   own-bucket : bucket-no (decode (words bs)) (found .block) ≡ found .bucket
   own-bucket = facts c bs v .relays found (getD-in (decode (words bs) .bag) i blank-relay h) .bucket
 
-  pub relay-read : (view order block key : ℕ) → view ≡ bag.relay-at w i .view → order ≡ bag.relay-at w i .order → block ≡ bag.relay-at w i .block
-      → key ≡ bag.relay-at w i .key
+  pub relay-read : (view order block key : ℕ) → view ≡ bag.relay-in-words w i .view → order ≡ bag.relay-in-words w i .order → block ≡ bag.relay-in-words w i .block
+      → key ≡ bag.relay-in-words w i .key
       → record { view = view; bucket = bucket-no (decode (words bs)) block; order = order; block = block; key = key } ≡ found
   relay-read view order block key ev eo eb ek =
-      let q : bag.relay-at w i ≡ found = ap (λ (l : List Relay). getD l i blank-relay) same in
+      let q : bag.relay-in-words w i ≡ found = ap (λ (l : List Relay). getD l i blank-relay) same in
       let fv : view ≡ found .view = ev ∙ ap (λ (r : Relay). r .view) q in
       let fo : order ≡ found .order = eo ∙ ap (λ (r : Relay). r .order) q in
       let fb : block ≡ found .block = eb ∙ ap (λ (r : Relay). r .block) q in

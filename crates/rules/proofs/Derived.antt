@@ -1,4 +1,4 @@
--- Laws of ids, members, the circle, holders, ready with nothing pending buckets.
+-- Laws of ids, members, members from an id on, holders, buckets with nothing pending.
 use mathlib.Core.Path.{_≡_, refl, sym, ap, subst, _∙_}
 use mathlib.Core.List.{List, [], _∷_, _++_, List·Memᴰ, List·Memᴰ·head, List·Memᴰ·tail, List·Memᴰ·cases-cons, List·Memᴰ·append-cases, List·Memᴰ·not-nil}
 use mathlib.Core.List.{append-nil, List·Memᴰ·eq-of-singleton, Memᴰ·append-left, Memᴰ·append-right}
@@ -91,7 +91,7 @@ two-ids (suc n) f test x l =
           (λ _ u. (suc n, subst (λ (m : List ℕ). List·Memᴰ (suc n) m) (sym e) (Memᴰ·append-right (only test (ids-of n f)) (List·Memᴰ·head refl)), u))
     ]
 
--- ---- the circle has the members
+-- ---- the members from an id on are the members
 pub in-members-from : (s : State) (h i : ℕ) → List·Memᴰ i (members s) → List·Memᴰ i (members-from s h)
 unfolding members-from
 in-members-from s h i m =

@@ -12,13 +12,13 @@ use Rattle.words.specs.Words.{words}
 use Rattle.words.proofs.Laws.{length-words, words-below}
 use Rattle.rules.specs.declared.settings.Settings.{Settings}
 use Rattle.rules.specs.declared.settings.Checked.the-variants.{Good, Bad}
-use Rattle.rules.specs.Limits.{in-bounds, checked, max-id}
+use Rattle.rules.specs.Limits.{in-limits, checked, max-id}
 use Rattle.rules.specs.Sound.{sound-header, sound-key}
 use Rattle.layout.specs.Layout.{layout-version, head-words, settings-of, store-words, version-at}
 use Rattle.layout.specs.Store.{decode, sound-bytes}
 use Rattle.layout.proofs.Parts.{settings-are}
 use Rattle.layout.proofs.Clean.{clean-parts}
-use Rattle.layout.proofs.Sound.{words-bounds, sound-clean}
+use Rattle.layout.proofs.Sound.{words-limits, sound-clean}
 use Rattle.layout.proofs.Bytes.{bytes-sound, bytes-size}
 use Rattle.store_check.specs.Store.{parts-sound}
 use Rattle.store_check.proofs.StoreSound.{parts-are-sound}
@@ -35,14 +35,14 @@ module _ (ws : List ℕ) (n s m l : ℕ) (en : n ≡ getD ws 1 0) (es : s ≡ ge
   own : settings-of ws ≡ read
   own = settings-are ws ∙ rw (en, es, em, el)
 
-  pub settings-bad : Bad ≡ checked n s m l → in-bounds (settings-of ws) ≡ false
+  pub settings-bad : Bad ≡ checked n s m l → in-limits (settings-of ws) ≡ false
   unfolding checked
-  settings-bad e = rw own (by (in-bounds read) (λ y. let z : Bad ≡ Good read = e ∙ rw y in let o : _≡_ {A = ℕ} 0 1 = cc in absurd (omega arith)) (λ q. q))
+  settings-bad e = rw own (by (in-limits read) (λ y. let z : Bad ≡ Good read = e ∙ rw y in let o : _≡_ {A = ℕ} 0 1 = cc in absurd (omega arith)) (λ q. q))
 
-  pub settings-own : (c : Settings) → Good c ≡ checked n s m l → (settings-of ws ≡ c) × (in-bounds (settings-of ws) ≡ true)
+  pub settings-own : (c : Settings) → Good c ≡ checked n s m l → (settings-of ws ≡ c) × (in-limits (settings-of ws) ≡ true)
   unfolding checked
   settings-own c e =
-      by (in-bounds read)
+      by (in-limits read)
       (λ y. let z : Good c ≡ Good read = e ∙ rw y in
       let q : c ≡ read = cc in (own ∙ sym q, rw own y))
       (λ q. let z : Good c ≡ Bad = e ∙ rw q in let o : _≡_ {A = ℕ} 0 1 = cc in absurd (omega arith))
@@ -66,12 +66,12 @@ module _ (bs : List ℕ) where
   pub other-bytes : (length bs ≡ 8 * store-words (settings-of (words bs)) → ⊥) → sound-bytes bs ≡ false
   other-bytes u = by (sound-bytes bs) (λ y. absurd (u (bytes-size bs y))) (λ q. q)
 
-  pub limit-bytes : in-bounds (settings-of (words bs)) ≡ false → sound-bytes bs ≡ false
-  limit-bytes n = by (sound-bytes bs) (λ y. clash n (words-bounds (words bs) (bytes-sound bs y))) (λ q. q)
+  pub limit-bytes : in-limits (settings-of (words bs)) ≡ false → sound-bytes bs ≡ false
+  limit-bytes n = by (sound-bytes bs) (λ y. clash n (words-limits (words bs) (bytes-sound bs y))) (λ q. q)
 
   -- bytes whose parts pass
   pub parts-bytes : Below 256 bs → length bs ≡ 8 * store-words (settings-of (words bs)) → getD (words bs) version-at 0 ≡ layout-version
-      → in-bounds (settings-of (words bs)) ≡ true → parts-sound (settings-of (words bs)) (sound-key (decode (words bs))) (words bs) ≡ sound-bytes bs
+      → in-limits (settings-of (words bs)) ≡ true → parts-sound (settings-of (words bs)) (sound-key (decode (words bs))) (words bs) ≡ sound-bytes bs
   unfolding sound-bytes
   parts-bytes b h v y =
       parts-are-sound (words bs) (length-words bs ∙ omega arith) v y (words-below b) ∙ sym (yes-first _ _ (eq-eqb (length bs % 8) 0 (omega arith)))

@@ -8,7 +8,7 @@ use Rattle.lists.specs.Tests.{all-below}
 use Rattle.lists.specs.Runs.{Below}
 use Rattle.lists.proofs.Tests.{and-l, and-r, both, same-test, all-at, all-true, all-same}
 use Rattle.rules.specs.declared.settings.Settings.{Settings}
-use Rattle.rules.specs.Limits.{in-bounds, buckets, proxies}
+use Rattle.rules.specs.Limits.{in-limits, buckets, proxies}
 use Rattle.rules.specs.State.{State}
 use Rattle.rules.specs.Sound.{sound-key, sound-brick, sound-place, sound-bucket, sound-proxy, sound}
 use Rattle.rules.specs.Limits.{Limits}
@@ -28,7 +28,7 @@ use Rattle.store_check.specs.Store.{contents-sound, parts-sound}
 use Rattle.store_check.proofs.PartSound.{header-same, record-there, record-back, proxy-same, bag-same}
 use Rattle.store_check.proofs.PlaceSound.{places-apart, place-there, place-back}
 
-module _ (ws : List ℕ) (h : length ws ≡ store-words (settings-of ws)) (v : getD ws version-at 0 ≡ layout-version) (y : in-bounds (settings-of ws) ≡ true)
+module _ (ws : List ℕ) (h : length ws ≡ store-words (settings-of ws)) (v : getD ws version-at 0 ≡ layout-version) (y : in-limits (settings-of ws) ≡ true)
     (b : Below word-limit ws) where
   abbrev c : Settings
   c = settings-of ws
@@ -77,7 +77,7 @@ module _ (ws : List ℕ) (h : length ws ≡ store-words (settings-of ws)) (v : g
         size = h;
         parts = record { version = v; agreed = λ g l. record-there ws h g l (records g l) .0; place = λ p l. each p l .1 };
         state = both _ _ (both _ _ (both _ _ (both _ _ (both _ _
-            (sym (own in-bounds) ∙ y)
+            (sym (own in-limits) ∙ y)
             (sym (header-same ws h) ∙ and-l _ _ (and-l _ _ t)))
             (sym (own (λ n. all-below (n .places) place-test)) ∙ all-true (c .places) place-test (λ p l. each p l .0)))
             (sym (own (λ n. all-below (buckets n) bucket-test)) ∙ all-true (buckets c) bucket-test (λ g l. record-there ws h g l (records g l) .1)))

@@ -80,7 +80,7 @@ module _ (s : State) (h : History) (v : AgeingInvariant s h) where
     abbrev own : Bucket
     own = s .bucket g
 
-    -- while the bucket is not ready nothing flies
+    -- while the bucket is not ready no relay of it is in the bag
     pub still : g < buckets (s .settings) → own .ready ≡ false → (r : Relay) → InBag g (s .view) (s .bag) r → ⊥
     still z unready r m = clash unready (v .buckets g z .queue .while-ready r m)
 

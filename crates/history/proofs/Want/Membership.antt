@@ -35,7 +35,7 @@ pub rise-want : (s : State) (o : ℕ → Bool) → WantInvariant s o → (i : �
 unfolding rule rise-effect
 rise-want s o w i = record { waiting = w .waiting; buckets = w .buckets }
 
--- ---- a strike at a whole store
+-- ---- a crash or loss that finds a whole store
 module _ (s : State) (h : History) (v : AgeingInvariant s h) (z : Sound s) (o : ℕ → Bool) (w : WantInvariant s o) (was : whole s ≡ true) where
   calms : (g : ℕ) → g < buckets (s .settings) → nothing-pending (s .bucket g) ≡ true
   unfolding whole
@@ -93,7 +93,7 @@ module _ (s : State) (h : History) (v : AgeingInvariant s h) (z : Sound s) (o : 
             all = λ _ f. absurd (gone (f i inside));
           }
 
-      -- what is left of the bucket: where the primary is struck, the backup shows every mapped key
+      -- what is left of the bucket: where the primary crashes or is lost, the backup shows every mapped key
       bucket-after-failure : (log : List Chunk) (present′ : ℕ → Bool) (memory′ disk′ : ℕ → List Entry)
           → Copies (λ _. Kept member′ (upd (s .bricks .log) x log)) (ReliedOn present′ own) memory′ disk′
           → ((b : ℕ) → member′ (own .primary) ≡ false → key-for (memory′ (own .backup)) b ≡ key-for (primary-memory own) b)

@@ -26,21 +26,21 @@ first-holder-requires-2 c κs = search needs
 
 returns : tie.Need-returns
 returns c =
-    let after-home : tie.After-home = search in let after-seek : tie.After-seek = search in let s : tie.Start = search in
+    let after-home : tie.After-home = search in let after-first-holder : tie.After-first-holder = search in let s : tie.Start = search in
     let state = decode (words (s .args .store .now)) in
     let home = after-home .home .result in
     let at = c .before .place .given in
     let h : LiesAt (s .args .settings) state (first-holder (state .bricks) (s .args .key .0) (between state home ids)) (s .args .key .0) (at .0 .0) (at .0 .1 .0) =
-    rw (at .1) at (after-seek .first-holder .ensures) in
+    rw (at .1) at (after-first-holder .first-holder .ensures) in
     holder-above _ (s .args .store .now) (s .pre) (s .args .key .0) home (after-home .home .ensures) _ _ h
 
 returns-2 : tie.Need-returns-2
 returns-2 c =
-    let after-home : tie.After-home = search in let after-seek : tie.After-seek = search in let s : tie.Start = search in
+    let after-home : tie.After-home = search in let after-first-holder : tie.After-first-holder = search in let s : tie.Start = search in
     let state = decode (words (s .args .store .now)) in
     let home = after-home .home .result in
     let z : first-holder (state .bricks) (s .args .key .0) (between state home ids) ≡ 0 =
-    rw (c .before .enum-told .given .1) at (after-seek .first-holder .ensures) in
+    rw (c .before .enum-told .given .1) at (after-first-holder .first-holder .ensures) in
     subst (λ (i : ℕ). LiesWith (s .args .settings) state i (s .args .key .0) (c .first-holder2 .result))
     (holder-below _ (s .args .store .now) (s .pre) (s .args .key .0) home (after-home .home .ensures) z) (c .first-holder2 .ensures)
 

@@ -1,10 +1,11 @@
 use mathlib.Core.Path.{_≡_, sym, ap, subst, _∙_}
 use mathlib.Core.Bool.{true}
+use mathlib.Core.List.{List}
 use Prim.Native.Nat.{ℕ, _*_}
 use Rattle.lists.proofs.Runs.{below-of}
 use Rattle.words.specs.Words.{words}
 use Rattle.rules.specs.declared.settings.Settings.{Settings}
-use Rattle.rules.specs.Limits.{in-bounds}
+use Rattle.rules.specs.Limits.{in-limits}
 use Rattle.rules.specs.Sound.{sound-key}
 use Rattle.rules.specs.Limits.{Limits}
 use Rattle.rules.proofs.Limits.{limits}
@@ -23,7 +24,7 @@ abbrev lent-bytes : tie.After-settings → List ℕ
 lent-bytes c = let b : tie.Start = search in b .args .store .now
 
 own : (c : tie.After-settings)
-    → (settings-of (words (lent-bytes c)) ≡ c .settings .given .0 .0) × (in-bounds (settings-of (words (lent-bytes c))) ≡ true)
+    → (settings-of (words (lent-bytes c)) ≡ c .settings .given .0 .0) × (in-limits (settings-of (words (lent-bytes c))) ≡ true)
 own c =
     let at-places : tie.After-read2 = search in
     let at-size : tie.After-read3 = search in
@@ -34,7 +35,7 @@ own c =
     (c .settings .given .0 .0) (sym (c .settings .given .1) ∙ at-new .new .ensures)
 
 small : (c : tie.After-settings) → Limits (c .settings .given .0 .0)
-small c = subst Limits (own c .0) (bounds _ (own c .1))
+small c = subst Limits (own c .0) (limits _ (own c .1))
 
 returns : tie.Need-returns
 returns c = sym (odd-bytes _ (c .if1 .taken))
@@ -106,7 +107,7 @@ returns-6 : tie.Need-returns-6
 returns-6 c =
     let s = lent-bytes (c .before .before .before .before) in
     let known : tie.After-shared-slice-known = search in
-    let asked : tie.After-if3 = search in
+    let asked = c .before .before .before .before .before .before .before .before .before .before .before in
     let at-version : tie.After-read = search in
     let o = own (c .before .before .before .before) in
     let size = c .before .if4 .left ∙ ap (λ (k : ℕ). 8 * k) (c .before .before .store-words .ensures) ∙ ap (λ (c : Settings). 8 * store-words c) (sym (o .0)) in

@@ -25,7 +25,7 @@ abbrev start : tie.After-agreed-at Inv-loop μ-loop → tie.Start Inv-loop μ-lo
 start c = c .before .before .before .before .before
 
 -- the record ends within the store, and its bytes are numbered by a word
-room : (c : tie.After-agreed-at Inv-loop μ-loop) → (8 * (c .agreed-at .result + agreed-words) ≤ length (start c .args .store .now)) × (c .agreed-at .result < 2 ^ 8)
+room : (c : tie.After-agreed-at Inv-loop μ-loop) → (8 * (c .agreed-at .result + agreed-words) ≤ length (start c .args .store .now)) × (c .agreed-at .result < 2 ^ 10)
 room c = (omega (arith, c .agreed-at .ensures .1, start c .pre .size), omega (arith, c .agreed-at .ensures .1, few-buckets (start c .args .settings)))
 
 -- the part that is lent is the bucket's

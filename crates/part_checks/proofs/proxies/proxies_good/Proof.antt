@@ -33,7 +33,7 @@ abbrev start : tie.After-proxy-at Inv-loop μ-loop → tie.Start Inv-loop μ-loo
 start c = c .before .before .before .before .before
 
 -- the proxy ends within the store, and its bytes are numbered by a word
-room : (c : tie.After-proxy-at Inv-loop μ-loop) → (8 * (c .proxy-at .result + proxy-words) ≤ length (start c .args .store .now)) × (c .proxy-at .result < 2 ^ 9)
+room : (c : tie.After-proxy-at Inv-loop μ-loop) → (8 * (c .proxy-at .result + proxy-words) ≤ length (start c .args .store .now)) × (c .proxy-at .result < 2 ^ 10)
 room c = (omega (arith, c .proxy-at .ensures .1, start c .pre .size), omega (arith, c .proxy-at .ensures .1, few-buckets (start c .args .settings)))
 
 -- the part that is lent is the proxy's

@@ -119,7 +119,7 @@ loop-again c =
     let fits = sym (c .before .before .before .entry-fits .ensures) ∙ not-false _ (c .before .before .if2 .left) in
     let s = c .before .stretch .ensures in
     let low : r .read .result < l .ceiling = c .before .before .before .before .before .if1 .left in
-    let range : r .read .result < blocks = omega (arith, low, l .inv .1) in (
+    let range : r .read .result < block-count = omega (arith, low, l .inv .1) in (
       omega (arith, s .inside, l .inv .0),
       rw (c .ceiling-below .ensures) (ceiling-range _ 0 (a .whose) (omega (arith, s .under, range, r .read .ensures))),
       one-more (rows-under (a .settings) k (a .whose) ws) (a .n) (l .ceiling) (l .i) (omega arith) (l .inv .2)

@@ -5,7 +5,7 @@ use native.Mathlib.Omega.{arith}
 use lib.ListN.{length, take, drop}
 use Rattle.lists.proofs.Runs.{run-length}
 use Rattle.rules.specs.Limits.{buckets}
-use Rattle.rules.specs.Pairs.{id-in as position}
+use Rattle.rules.specs.Pairs.{id-in}
 use Rattle.words.specs.Words.{words}
 use Rattle.layout.specs.Store.{decode, render}
 use Rattle.layout.proofs.Foci.{all-agreed-in}
@@ -41,7 +41,7 @@ abbrev headed-at : tie.After-renew-all → tie.After-write2
 headed-at c = search
 
 abbrev proxies : tie.After-renew-all → ℕ
-proxies c = let id-in : tie.After-proxies-at = search in id-in .proxies-at .result
+proxies c = let written : tie.After-proxies-at = search in written .proxies-at .result
 
 abbrev after : tie.After-renew-all → List ℕ
 after c = let v = headed-at c .write2 .last .0 in take 64 v ++ (c .renew-all .last .0 ++ drop (8 * proxies c - 64) (drop 64 v))
@@ -49,32 +49,32 @@ after c = let v = headed-at c .write2 .last .0 in take 64 v ++ (c .renew-all .la
 long : (c : tie.After-renew-all) → length (c .renew-all .last .0) ≡ 8 * proxies c - 64
 long c =
     let at-proxies-at : tie.After-proxies-at = search in
-    let at = headed-at c in
+    let written = headed-at c in
     c .renew-all .kept .0
-    ∙ run-length 64 (8 * proxies c - 64) (id-in .write2 .last .0) (omega (arith, at-proxies-at .proxies-at .ensures, head-length id-in, start id-in .pre .0 .size))
+    ∙ run-length 64 (8 * proxies c - 64) (written .write2 .last .0) (omega (arith, at-proxies-at .proxies-at .ensures, head-length written, start written .pre .0 .size))
 
 records-length : (c : tie.After-renew-all) → length (after c) ≡ length (start (headed-at c) .args .store .now)
 records-length c =
     let at-proxies-at : tie.After-proxies-at = search in
-    let at = headed-at c in
-    lent-length (id-in .write2 .last .0) (c .renew-all .last .0) 64 (8 * proxies c - 64)
-    (omega (arith, at-proxies-at .proxies-at .ensures, head-length id-in, start id-in .pre .0 .size)) (long c)
-    ∙ head-length id-in
+    let written = headed-at c in
+    lent-length (written .write2 .last .0) (c .renew-all .last .0) 64 (8 * proxies c - 64)
+    (omega (arith, at-proxies-at .proxies-at .ensures, head-length written, start written .pre .0 .size)) (long c)
+    ∙ head-length written
 
 records : (c : tie.After-renew-all) → let b = start (headed-at c) in words (after c)
     ≡ render (records-written (b .args .settings) (b .args .store .now) (b .pre .0) (b .args .started) (b .args .pairs .now)) (words (b .args .store .now))
 records c =
-    let at-proxies-at : tie.After-proxies-at = search in let id-in : tie.After-write2 = search in
-    let b = start id-in in
+    let at-proxies-at : tie.After-proxies-at = search in let written : tie.After-write2 = search in
+    let b = start written in
     let t = b .args .settings in
     let bs = b .args .store .now in
     let v = b .pre .0 in
     let n = b .args .started in
     let assigned = b .args .pairs .now in
     let p = at-proxies-at .proxies-at in
-    later-effect t bs v (all-agreed-in t) (refl, refl) (head-written t bs v n) refl refl (id-in .write2 .last .0) (head id-in) (head-length id-in) 64 (8 * p .result)
+    later-effect t bs v (all-agreed-in t) (refl, refl) (head-written t bs v n) refl refl (written .write2 .last .0) (head written) (head-length written) 64 (8 * p .result)
     (omega arith) (omega (arith, p .ensures)) (records-written t bs v n assigned) refl (refl, refl) (c .renew-all .last .0) (omega (arith, long c, p .ensures))
-    (λ old g. renewed (position assigned (2 * g)) (position assigned (2 * g + 1)) (old g)) refl (c .renew-all .ensures)
+    (λ old g. renewed (id-in assigned (2 * g)) (id-in assigned (2 * g + 1)) (old g)) refl (c .renew-all .ensures)
 
 proxies-at-requires : tie.Need-proxies-at-requires
 proxies-at-requires c κs = search needs
@@ -134,12 +134,12 @@ part-begin-all-end c = search needs
 
 begin-all-requires : tie.Need-begin-all-requires
 begin-all-requires c κs =
-    let after-write2 : tie.After-write2 = search in let after-places-at : tie.After-places-at = search in let id-in : tie.After-renew-all = search in
+    let after-write2 : tie.After-write2 = search in let after-places-at : tie.After-places-at = search in let written : tie.After-renew-all = search in
     let b = start after-write2 in
     let bs = b .args .store .now in
     let q = after-places-at .places-at in
     places-lent (b .args .settings) bs (b .pre .0) (records-written (b .args .settings) bs (b .pre .0) (b .args .started) (b .args .pairs .now)) refl refl
-    (after id-in) (records id-in) (records-length id-in) (8 * q .result) (length bs) (omega (arith, q .ensures)) (omega (arith, q .ensures, b .pre .0 .size))
+    (after written) (records written) (records-length written) (8 * q .result) (length bs) (omega (arith, q .ensures)) (omega (arith, q .ensures, b .pre .0 .size))
 
 same-length : tie.Need-same-length
 same-length c = search needs
@@ -147,11 +147,11 @@ same-length c = search needs
 returns : tie.Need-returns
 returns c =
     let after-write2 : tie.After-write2 = search in let after-places-at : tie.After-places-at = search in
-    let after-begin-all : tie.After-begin-all = search in let id-in : tie.After-renew-all = search in
+    let after-begin-all : tie.After-begin-all = search in let written : tie.After-renew-all = search in
     let b = start after-write2 in
     let bs = b .args .store .now in
     let q = after-places-at .places-at in
-    viewed (b .args .settings) bs (b .pre .0) (b .args .started) (b .args .pairs .now) (b .pre .1 .up) (b .pre .2) (after id-in) (records id-in) (records-length id-in)
+    viewed (b .args .settings) bs (b .pre .0) (b .args .started) (b .args .pairs .now) (b .pre .1 .up) (b .pre .2) (after written) (records written) (records-length written)
     (8 * q .result) (length bs) (omega (arith, q .ensures)) (omega (arith, q .ensures, b .pre .0 .size)) (after-begin-all .begin-all .last .0) (omega arith)
     (after-begin-all .begin-all .ensures)
 
