@@ -1,6 +1,3 @@
-pub mod RowLaws
-pub mod StretchLaws
-pub mod ChunkLaws
 pub mod CopyLaws
 pub mod BagLaws
 pub mod ProxyLaws

@@ -7,7 +7,7 @@ use Rattle.rules.specs.Limits.{max-relays}
 use Rattle.rules.specs.State.{Relay}
 use Rattle.layout.specs.Contents.{relay}
 use Rattle.layout.specs.Layout.{bag-words}
-use Rattle.part_checks.specs.Rows.{ids}
+use Rattle.row_checks.specs.Rows.{ids}
 
 -- relay i, in the words of the bag
 abbrev pub relay-in-words : List ℕ → ℕ → Relay

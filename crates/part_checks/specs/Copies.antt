@@ -12,7 +12,7 @@ use Rattle.rules.specs.Entries.{Entry}
 use Rattle.rules.specs.Sound.{sound-table, in-bucket, sound-copies}
 use Rattle.layout.specs.Layout.{copy-codec, copies-codec, copy-words, copies-words, place-words, store-words, place-at, copies-at}
 use Rattle.rules.specs.Limits.{Limits}
-use Rattle.part_checks.specs.Rows.{ids, key-below}
+use Rattle.row_checks.specs.Rows.{ids, key-below}
 
 -- of bucket g, in the words of all
 unfoldable pub copies-sound : Settings → (ℕ → Bool) → Bool → List ℕ → ℕ → Bool

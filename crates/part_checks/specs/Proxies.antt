@@ -7,7 +7,7 @@ use Rattle.rules.specs.declared.settings.Settings.{Settings}
 use Rattle.rules.specs.Sound.{sound-proxy}
 use Rattle.rules.specs.Limits.{Limits}
 use Rattle.layout.specs.Layout.{proxy-codec, proxy-words, store-words, proxy-part}
-use Rattle.part_checks.specs.Rows.{ids}
+use Rattle.row_checks.specs.Rows.{ids}
 
 -- proxy p, in the words of a store
 unfoldable pub proxy-sound : Settings → (ℕ → Bool) → List ℕ → ℕ → Bool

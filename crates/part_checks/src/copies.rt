@@ -9,12 +9,12 @@ ghost use Rattle.rules.specs.Sound.{sound-table, in-bucket, same-entries, sound
 ghost use Rattle.tables.specs.Tables.{same-at, IsTable};
 ghost use Rattle.entries.specs.Entries.{entry-words};
 ghost use Rattle.layout.specs.Layout.{entries-codec, copy-codec, copies-codec};
-ghost use Rattle.part_checks.specs.Rows.{key-below};
+ghost use Rattle.row_checks.specs.Rows.{key-below};
 ghost use Rattle.part_checks.specs.Copies.{copies-sound, Earlier, Known};
 ghost use Rattle.part_checks.specs.Copies.{AlikeFit, EarlierFit, ComparedFit, MemoryFit, CopiesFit, AllCopiesFit};
-use crate::rows;
-use crate::rows::Whose;
 use layout::sizes;
+use row_checks::rows;
+use row_checks::rows::Whose;
 use rules::settings::Settings;
 
 // What the comparison of a copy in memory tells: a place below has the same one, and the disk has.

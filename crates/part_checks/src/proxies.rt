@@ -6,11 +6,11 @@ ghost use Rattle.words.specs.Words.{words};
 ghost use Rattle.rules.specs.Limits.{proxies};
 ghost use Rattle.rules.specs.Sound.{sound-proxy};
 ghost use Rattle.layout.specs.Layout.{proxy-codec};
-ghost use Rattle.part_checks.specs.Rows.{key-below};
+ghost use Rattle.row_checks.specs.Rows.{key-below};
 ghost use Rattle.part_checks.specs.Proxies.{proxy-sound, ProxyFit, ProxiesFit};
-use crate::rows;
-use crate::rows::Whose;
 use layout::sizes;
+use row_checks::rows;
+use row_checks::rows::Whose;
 use rules::constants;
 use rules::settings::Settings;
 

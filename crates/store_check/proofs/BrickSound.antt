@@ -28,7 +28,7 @@ use Rattle.layout.proofs.Parts.{place-seen}
 use Rattle.layout.proofs.Decoded.{settings-read}
 use Rattle.layout.proofs.Check.{log-cleaned, log-good}
 use Rattle.part_checks.specs.Copies.{copies-sound}
-use Rattle.part_checks.specs.Chunks.{log-sound}
+use Rattle.row_checks.specs.Chunks.{log-sound}
 use Rattle.store_check.specs.Places.{status-at, status-sound, waiting-at, brick-sound}
 
 -- ---- the brick at a place

@@ -17,7 +17,7 @@ use Rattle.layout.specs.Layout.{settings-of, store-words, place-words, place-pa
 use Rattle.layout.specs.Store.{decode}
 use Rattle.layout.proofs.Parts.{given-read, id-read, present-column, next-column}
 use Rattle.layout.proofs.Places.{of-same}
-use Rattle.part_checks.specs.Rows.{key-below}
+use Rattle.row_checks.specs.Rows.{key-below}
 use Rattle.store_check.specs.Places.{id-at}
 use Rattle.store_check.specs.Bounds.{was-given, next-in, Given, Filled}
 use Rattle.lists.proofs.Runs.{run-at}

@@ -24,7 +24,7 @@ use Rattle.layout.specs.Contents.{Status, entry-row}
 use Rattle.layout.specs.Layout.{status-codec, buffer-codec, copy-codec, all-copies-codec, buffer-at, all-copies-at}
 use Rattle.layout.specs.Layout.{status-words, copy-words, copies-words, place-words, store-words, place-at, copies-at, place-part}
 use Rattle.layout.specs.Layout.{up-at, member-at, began-at, next-at, ceiling-at}
-use Rattle.part_checks.specs.Rows.{key-below}
+use Rattle.row_checks.specs.Rows.{key-below}
 use Rattle.part_checks.specs.Copies.{copies-sound, memory-of, Passed}
 use Rattle.store_check.specs.Places.{status-at, status-sound, waiting-at, brick-sound, id-at, place-sound}
 

@@ -12,7 +12,7 @@ use Rattle.rules.specs.Numbers.{sequences}
 use Rattle.rules.specs.Limits.{Limits}
 use Rattle.layout.specs.Places.{by-id}
 use Rattle.layout.specs.Layout.{store-words, place-at, next-at}
-use Rattle.part_checks.specs.Rows.{ids}
+use Rattle.row_checks.specs.Rows.{ids}
 use Rattle.store_check.specs.Places.{id-at}
 
 -- an id given already

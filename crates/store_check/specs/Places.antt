@@ -15,9 +15,9 @@ use Rattle.rules.specs.Limits.{Limits}
 use Rattle.layout.specs.Contents.{Status}
 use Rattle.layout.specs.Layout.{status-codec, buffer-codec, all-copies-codec, status-words, log-words, place-words, store-words, place-at, place-part}
 use Rattle.layout.specs.Layout.{up-at, member-at, began-at, buffer-at, all-copies-at, log-at}
-use Rattle.part_checks.specs.Rows.{ids}
+use Rattle.row_checks.specs.Rows.{ids}
 use Rattle.part_checks.specs.Copies.{copies-sound}
-use Rattle.part_checks.specs.Chunks.{log-sound}
+use Rattle.row_checks.specs.Chunks.{log-sound}
 
 -- the status of the brick at a place
 abbrev pub status-at : List ℕ → Status

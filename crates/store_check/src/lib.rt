@@ -5,7 +5,7 @@ ghost use Rattle.words.specs.Words.{words};
 ghost use Rattle.rules.specs.Sound.{sound-header, sound-key};
 ghost use Rattle.layout.specs.Layout.{view-at, given-at, started-at};
 ghost use Rattle.layout.specs.Store.{decode, sound-bytes};
-ghost use Rattle.part_checks.specs.Rows.{key-below};
+ghost use Rattle.row_checks.specs.Rows.{key-below};
 ghost use Rattle.store_check.specs.Places.{PlacesFit};
 ghost use Rattle.store_check.specs.Store.{contents-sound, parts-sound, StoreFit};
 use layout::sizes;

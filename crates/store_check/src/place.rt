@@ -6,14 +6,14 @@ ghost use lib.ListN.{length};
 ghost use Rattle.words.specs.Words.{words};
 ghost use Rattle.rules.specs.Sound.{sound-buffer};
 ghost use Rattle.layout.specs.Layout.{buffer-at};
-ghost use Rattle.part_checks.specs.Rows.{key-below};
+ghost use Rattle.row_checks.specs.Rows.{key-below};
 ghost use Rattle.part_checks.specs.Copies.{Passed};
 ghost use Rattle.store_check.specs.Places.{status-sound, waiting-at, brick-sound, alone-at, place-sound, PlaceFit, PlacesFit, OnePlaceFit};
 use layout::sizes;
-use part_checks::chunks;
 use part_checks::copies;
-use part_checks::rows;
-use part_checks::rows::Whose;
+use row_checks::chunks;
+use row_checks::rows;
+use row_checks::rows::Whose;
 use rules::constants;
 use rules::settings::Settings;
 

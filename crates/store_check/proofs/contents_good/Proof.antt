@@ -7,7 +7,7 @@ use Rattle.lists.proofs.Tests.{both, no-first, no-second, yes-first}
 use Rattle.words.specs.Words.{words}
 use Rattle.rules.specs.Sound.{sound-bag}
 use Rattle.layout.specs.Layout.{bag-codec, bag-at, bag-words, bag-part}
-use Rattle.part_checks.specs.Rows.{key-below}
+use Rattle.row_checks.specs.Rows.{key-below}
 use Rattle.store_check.specs.Store.{contents-sound}
 use Rattle.rules.proofs.Limits.{few-buckets}
 use Rattle.layout.proofs.Lent.{lent}

@@ -11,7 +11,7 @@ use Rattle.rules.specs.Limits.{buckets, max-id}
 use Rattle.rules.specs.Sound.{sound-key}
 use Rattle.layout.specs.Layout.{given-at}
 use Rattle.layout.specs.Store.{decode}
-use Rattle.part_checks.specs.Rows.{ids}
+use Rattle.row_checks.specs.Rows.{ids}
 use Rattle.part_checks.specs.Agreed.{agreed-at-sound}
 use Rattle.store_check.specs.Store.{contents-sound, parts-sound}
 use Rattle.store_check.proofs.KeyLaws.{zeros, zero-bound, keys-below}

@@ -5,7 +5,7 @@ use borrow.Author.Tests.{not-true, not-false}
 use Rattle.words.specs.Words.{words}
 use Rattle.rules.specs.Sound.{sound-bag}
 use Rattle.layout.specs.Layout.{bag-codec}
-use Rattle.part_checks.specs.Rows.{key-below}
+use Rattle.row_checks.specs.Rows.{key-below}
 use Rattle.part_checks.proofs.BagLaws.{relays-left, bag-over, bag-begin, bag-end, bag-bad, bag-next}
 use native.Mathlib.Omega.{arith}
 use borrow.Author.Needs.{needs}

@@ -5,7 +5,7 @@ use borrow.Author.Count.{below-more, below-none}
 use borrow.Author.Tests.{not-true, not-false}
 use Rattle.lists.proofs.Tests.{all-true, all-false}
 use Rattle.words.specs.Words.{words}
-use Rattle.part_checks.specs.Rows.{key-below}
+use Rattle.row_checks.specs.Rows.{key-below}
 use Rattle.part_checks.specs.Copies.{copies-sound}
 use Rattle.rules.proofs.Limits.{few-buckets}
 use Rattle.part_checks.proofs.CopyLaws.{AllCopies, all-copies, copies-of-bucket, copies-part}

@@ -5,9 +5,9 @@ use borrow.Author.Needs.{needs}
 use borrow.Author.Tests.{not-true, not-false}
 use Rattle.lists.proofs.Tests.{both, no-first, no-second, yes-first}
 use Rattle.rules.specs.Sound.{sound-table, in-bucket}
-use Rattle.part_checks.specs.declared.rows.Whose.the-variants.{Bucket}
-use Rattle.part_checks.specs.Rows.{key-below}
-use Rattle.part_checks.proofs.RowLaws.{table-over}
+use Rattle.row_checks.specs.declared.rows.Whose.the-variants.{Bucket}
+use Rattle.row_checks.specs.Rows.{key-below}
+use Rattle.row_checks.proofs.RowLaws.{table-over}
 use Rattle.part_checks.proofs.CopyLaws.{copies-lent, disk-bad, disk-same, disk-other, disk-alone}
 use Rattle.part_checks.proofs.copies.copies_good.Statement.{statement}
 use Rattle.part_checks.proofs.copies.copies_good.Tie as tie
@@ -15,7 +15,7 @@ use Rattle.part_checks.proofs.copies.copies_good.Reads as reads
 use Rattle.part_checks.proofs.copies.copies_good.Lts as lts
 use Rattle.part_checks.proofs.copies.compared.Reads as compared-reads
 use Rattle.part_checks.proofs.copies.memory_good.Reads as memory-good-reads
-use Rattle.part_checks.proofs.rows.table_good.Reads as table-good-reads
+use Rattle.row_checks.proofs.rows.table_good.Reads as table-good-reads
 use Rattle.layout.proofs.sizes.copy_words.Reads as copy-words-reads
 use Rattle.words.proofs.read.Reads as read-reads
 

@@ -4,7 +4,7 @@ use Rattle.part_checks.proofs.copies.memory_good.Statement.{statement}
 use Rattle.part_checks.proofs.copies.memory_good.Tie as tie
 use Rattle.part_checks.proofs.copies.memory_good.Reads as reads
 use Rattle.part_checks.proofs.copies.memory_good.Lts as lts
-use Rattle.part_checks.proofs.rows.table_good.Reads as table-good-reads
+use Rattle.row_checks.proofs.rows.table_good.Reads as table-good-reads
 
 -- src/copies.rt:122:9
 returns : tie.Need-returns

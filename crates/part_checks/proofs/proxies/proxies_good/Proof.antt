@@ -10,7 +10,7 @@ use Rattle.words.specs.Words.{words}
 use Rattle.rules.specs.Limits.{proxies}
 use Rattle.rules.specs.Sound.{sound-proxy}
 use Rattle.layout.specs.Layout.{proxy-codec, proxy-words, proxy-at}
-use Rattle.part_checks.specs.Rows.{key-below}
+use Rattle.row_checks.specs.Rows.{key-below}
 use Rattle.part_checks.specs.Proxies.{proxy-sound}
 use Rattle.rules.proofs.Limits.{few-buckets}
 use Rattle.layout.proofs.Lent.{lent}

@@ -4,7 +4,7 @@ use borrow.Author.Tests.{lt-leb, le-leb}
 use Rattle.words.specs.Words.{words}
 use Rattle.words.proofs.Laws.{length-words}
 use Rattle.layout.specs.Layout.{items-at, items-codec, proxy-words}
-use Rattle.part_checks.specs.Rows.{key-below}
+use Rattle.row_checks.specs.Rows.{key-below}
 use Rattle.lists.proofs.Tests.{no-first, yes-first}
 use Rattle.layout.proofs.Lent.{lent}
 use Rattle.part_checks.proofs.ProxyLaws.{proxy-is}

@@ -11,9 +11,9 @@ use Rattle.words.specs.Words.{words}
 use Rattle.rules.specs.Limits.{buckets}
 use Rattle.layout.specs.Layout.{all-copies-codec, all-copies-at, log-at, log-words}
 use Rattle.layout.proofs.Bounds.{place-small}
-use Rattle.part_checks.specs.Rows.{key-below}
+use Rattle.row_checks.specs.Rows.{key-below}
 use Rattle.part_checks.specs.Copies.{copies-sound}
-use Rattle.part_checks.specs.Chunks.{log-sound}
+use Rattle.row_checks.specs.Chunks.{log-sound}
 use Rattle.store_check.specs.Places.{waiting-at, brick-sound}
 use Rattle.rules.specs.Sound.{sound-buffer}
 use Rattle.layout.proofs.Lent.{lent}

@@ -5,7 +5,7 @@ use borrow.Author.Tests.{not-true, not-false}
 use Rattle.words.specs.Words.{words}
 use Rattle.layout.specs.Layout.{place-at, place-words, place-part}
 use Rattle.layout.proofs.Bounds.{store-small}
-use Rattle.part_checks.specs.Rows.{key-below}
+use Rattle.row_checks.specs.Rows.{key-below}
 use Rattle.store_check.specs.Places.{brick-sound}
 use Rattle.layout.proofs.Lent.{lent}
 use Rattle.store_check.proofs.PlaceLaws.{place-empty, place-far, place-twice, place-brick}
