@@ -39,7 +39,7 @@ fn map(store: &mut [u8], settings: Settings, kind: u64, a: u64, b: u64) -> Answe
 {
     match kind {
         4 => maps::map::map(store, settings, a, b),
-        5 => relays::send::send(store, settings, a),
+        5 => sends::send(store, settings, a),
         6 => relays::deliver::deliver(store, settings, a),
         7 => relays::drop::drop(store, settings, a),
         _ => maps::savemap::savemap(store, settings, a),

@@ -13,11 +13,11 @@ use Rattle.rules.proofs.Questions.{first-stop, stops-there, goes-on}
 use Rattle.layout.specs.Store.{decode}
 use Rattle.records.specs.Records.{agreed-of}
 use Rattle.mappings.proofs.Buckets.{InBucket, in-bucket}
-use Rattle.relays.specs.Asks.{primary-asks, room-asks}
-use Rattle.relays.proofs.Sending.{no-order, entry-decides}
+use Rattle.sends.specs.Asks.{primary-asks, room-asks}
+use Rattle.sends.proofs.Sending.{no-order, entry-decides}
 use borrow.Author.Needs.{needs}
-use Rattle.relays.proofs.send.asks.Statement.{statement}
-use Rattle.relays.proofs.send.asks.Tie as tie
+use Rattle.sends.proofs.asks.Statement.{statement}
+use Rattle.sends.proofs.asks.Tie as tie
 
 -- the first group is answered yes, so the second decides
 asked : (c : tie.Else1) {m : ℕ}

@@ -4,10 +4,10 @@ use Rattle.rules.specs.Event.{Event}
 use Rattle.rules.specs.Step.{rule}
 use Rattle.layout.specs.Store.{decode}
 use Rattle.lent.proofs.Performs.{refused, accepted}
-use Rattle.relays.proofs.Sending.{sendable}
+use Rattle.sends.proofs.Sending.{sendable}
 use borrow.Author.Needs.{needs}
-use Rattle.relays.proofs.send.send.Statement.{statement}
-use Rattle.relays.proofs.send.send.Tie as tie
+use Rattle.sends.proofs.send.Statement.{statement}
+use Rattle.sends.proofs.send.Tie as tie
 
 asks-requires : tie.Need-asks-requires
 asks-requires c κs = search needs

@@ -6,10 +6,10 @@ use Rattle.rules.specs.Numbers.{block-count}
 use Rattle.rules.specs.Question.{_asks_, first-no, is-ready}
 use Rattle.rules.proofs.Questions.{first-yes, first-stop, none-asked}
 use Rattle.layout.specs.Store.{decode}
-use Rattle.relays.specs.Asks.{primary-asks}
+use Rattle.sends.specs.Asks.{primary-asks}
 use borrow.Author.Needs.{needs}
-use Rattle.relays.proofs.send.primary_asks.Statement.{statement}
-use Rattle.relays.proofs.send.primary_asks.Tie as tie
+use Rattle.sends.proofs.primary_asks.Statement.{statement}
+use Rattle.sends.proofs.primary_asks.Tie as tie
 
 -- there is such a block, and its primary is an up member
 two-yes : (c : tie.Else2)

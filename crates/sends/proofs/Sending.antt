@@ -24,10 +24,10 @@ use Rattle.layout.specs.Store.{decode, render}
 use Rattle.layout.proofs.Foci.{order-in}
 use Rattle.lent.specs.Stores.{StoreOf}
 use Rattle.mappings.proofs.Buckets.{InBucket, memory-is}
 use Rattle.relays.specs.Relays.{BagSpan}
-use Rattle.relays.specs.Asks.{room-asks}
+use Rattle.sends.specs.Asks.{room-asks}
 use Rattle.relays.proofs.Bag.{bag-becomes}
 use Rattle.relays.proofs.Records.{record-word}
 
 -- ---- where every answer is yes
 pub record Sendable (s : State) (b : ℕ) : Type 0 where

@@ -6,11 +6,11 @@ use Rattle.layout.specs.Layout.{last-sent-at}
 use Rattle.layout.specs.Store.{decode}
 use Rattle.records.specs.Records.{agreed-of}
 use Rattle.mappings.proofs.Buckets.{InBucket, in-bucket}
 use Rattle.relays.proofs.Bag.{bag-lent}
-use Rattle.relays.proofs.Sending.{order-left, relay-is, sent}
+use Rattle.sends.proofs.Sending.{order-left, relay-is, sent}
 use borrow.Author.Needs.{needs}
-use Rattle.relays.proofs.send.relay.Statement.{statement}
-use Rattle.relays.proofs.send.relay.Tie as tie
+use Rattle.sends.proofs.relay.Statement.{statement}
+use Rattle.sends.proofs.relay.Tie as tie
 
 -- the record that was read is that of the block's bucket
 read : (c : tie.After-agreed)
