@@ -27,7 +27,7 @@ fn write(
 {
     match kind {
         1 => writes::put::put(store, settings, a, b, c, data),
-        2 => writes::copy::copy(store, settings, a),
+        2 => chunk_copy::copy(store, settings, a),
         _ => writes::savelog::savelog(store, settings, a),
     }
 }

@@ -5,10 +5,10 @@ use Rattle.rules.specs.Chunks.{held}
 use Rattle.layout.specs.Contents.{blank-brick}
 use Rattle.layout.specs.Store.{brick-in, decode}
 use Rattle.lent.specs.Places.{Stands}
-use Rattle.writes.proofs.Copies.{none-held}
+use Rattle.chunk_copy.proofs.Copies.{none-held}
 use borrow.Author.Needs.{needs}
-use Rattle.writes.proofs.copy.is_held.Statement.{statement}
-use Rattle.writes.proofs.copy.is_held.Tie as tie
+use Rattle.chunk_copy.proofs.is_held.Statement.{statement}
+use Rattle.chunk_copy.proofs.is_held.Tie as tie
 
 found : (c : tie.After-place)
     → let b = c .before .before .before .before in Stands (b .args .settings) (decode (words (b .args .store .now))) (b .args .id) (c .place .given .0 .0)

@@ -11,11 +11,11 @@ use Rattle.log.specs.Answers.{FoundAt}
 use Rattle.layout.specs.Contents.{blank-brick}
 use Rattle.layout.specs.Store.{brick-in, decode}
 use Rattle.lent.specs.Places.{Stands}
-use Rattle.writes.specs.Copies.{Lacking}
-use Rattle.writes.proofs.Copies.{none-up, none-copied, home-holds, copy-fits, one-copied}
+use Rattle.chunk_copy.specs.Copies.{Lacking}
+use Rattle.chunk_copy.proofs.Copies.{none-up, none-copied, home-holds, copy-fits, one-copied}
 use borrow.Author.Needs.{needs}
-use Rattle.writes.proofs.copy.effect.Statement.{statement}
-use Rattle.writes.proofs.copy.effect.Tie as tie
+use Rattle.chunk_copy.proofs.effect.Statement.{statement}
+use Rattle.chunk_copy.proofs.effect.Tie as tie
 
 abbrev start : tie.After-target → tie.Start
 start c = c .before .before .before .before .before

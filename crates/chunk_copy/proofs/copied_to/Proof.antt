@@ -3,10 +3,10 @@ use Rattle.words.specs.Words.{words}
 use Rattle.rules.specs.Writes.{target}
 use Rattle.layout.specs.Store.{decode}
 use Rattle.lent.specs.Places.{Stands}
-use Rattle.writes.proofs.Copies.{no-target, target-holds}
+use Rattle.chunk_copy.proofs.Copies.{no-target, target-holds}
 use borrow.Author.Needs.{needs}
-use Rattle.writes.proofs.copy.copied_to.Statement.{statement}
-use Rattle.writes.proofs.copy.copied_to.Tie as tie
+use Rattle.chunk_copy.proofs.copied_to.Statement.{statement}
+use Rattle.chunk_copy.proofs.copied_to.Tie as tie
 
 found : (c : tie.After-target2)
     → let b = c .before .before .before .before in

@@ -13,10 +13,10 @@ use Rattle.rules.specs.State.{State}
 use Rattle.rules.specs.Writes.{copy-asks}
 use Rattle.rules.proofs.Questions.{first-yes, first-stop, none-asked}
 use Rattle.layout.specs.Store.{decode}
-use Rattle.writes.proofs.Copies.{no-home, is-home}
+use Rattle.chunk_copy.proofs.Copies.{no-home, is-home}
 use borrow.Author.Needs.{needs}
-use Rattle.writes.proofs.copy.asks.Statement.{statement}
-use Rattle.writes.proofs.copy.asks.Tie as tie
+use Rattle.chunk_copy.proofs.asks.Statement.{statement}
+use Rattle.chunk_copy.proofs.asks.Tie as tie
 
 abbrev state : tie.Start → State
 state b = decode (words (b .args .store .now))

@@ -6,11 +6,11 @@ use Rattle.lists.proofs.Tests.{or-l}
 use Rattle.words.specs.Words.{words}
 use Rattle.rules.specs.Writes.{target, nothing-to-copy}
 use Rattle.layout.specs.Store.{decode}
-use Rattle.writes.specs.Copies.{Lacking}
-use Rattle.writes.proofs.Copies.{room-is}
+use Rattle.chunk_copy.specs.Copies.{Lacking}
+use Rattle.chunk_copy.proofs.Copies.{room-is}
 use borrow.Author.Needs.{needs}
-use Rattle.writes.proofs.copy.has_room.Statement.{statement}
-use Rattle.writes.proofs.copy.has_room.Tie as tie
+use Rattle.chunk_copy.proofs.has_room.Statement.{statement}
+use Rattle.chunk_copy.proofs.has_room.Tie as tie
 
 found : (c : tie.After-place)
     → let b = c .before .before .before .before in

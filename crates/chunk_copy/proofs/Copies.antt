@@ -25,7 +25,7 @@ use Rattle.lent.specs.Stores.{StoreOf}
 use Rattle.lent.specs.Places.{Stands, with-chunks}
 use Rattle.lent.proofs.Stores.{settings-are}
 use Rattle.transfer.specs.Brings.{Brings, brought}
-use Rattle.writes.specs.Copies.{Lacking, has-room}
+use Rattle.chunk_copy.specs.Copies.{Lacking, has-room}
 
 -- ---- what is found
 module _ (c : Settings) (s : State) (key : ℕ) where

@@ -8,7 +8,7 @@ ghost use Rattle.rules.specs.Writes.{copy-asks, copy-effect};
 ghost use Rattle.layout.specs.Store.{decode, render};
 ghost use Rattle.lent.specs.Performs.{Performs};
 ghost use Rattle.lent.specs.Stores.{StoreOf};
-ghost use Rattle.writes.specs.Copies.{CopiedTo, has-room};
+ghost use Rattle.chunk_copy.specs.Copies.{CopiedTo, has-room};
 use lent::Answer;
 use lent::brick;
 use lent::brick::Found;
