@@ -107,7 +107,7 @@ returns-6 : tie.Need-returns-6
 returns-6 c =
     let s = lent-bytes (c .before .before .before .before) in
     let known : tie.After-shared-slice-known = search in
-    let asked = c .before .before .before .before .before .before .before .before .before .before .before in
+    let asked : tie.Else3 = search in
     let at-version : tie.After-read = search in
     let o = own (c .before .before .before .before) in
     let size = c .before .if4 .left ∙ ap (λ (k : ℕ). 8 * k) (c .before .before .store-words .ensures) ∙ ap (λ (c : Settings). 8 * store-words c) (sym (o .0)) in
