@@ -15,7 +15,7 @@ first-head c = record { settings = c; view = 1; given = c .places; started = c .
 abbrev pub first-agreed : ℕ → ℕ → Agreed
 first-agreed p b = record { primary = p; backup = b; last-primary = p; last-backup = b; ready = true; fetched = false; last-sent = 0; taken = 0 }
 
--- the pairs are those in the assigned
+-- the pairs are those in the assignments
 abbrev pub agreed-in : Assignments → ℕ → Agreed
 agreed-in assigned g = first-agreed (id-in assigned (2 * g)) (id-in assigned (2 * g + 1))
 

@@ -24,7 +24,7 @@ use rules::settings::Settings;
 // the bricks' ids, in the order of their places
 const FIRST_IDS: [u64; Settings::MAX_PLACES] = [1, 2, 3, 4, 5, 6, 7, 8];
 
-// The pairs of the first view go into the assigned: no bucket had a pair before.
+// The pairs of the first view go into the assignments: no bucket had a pair before.
 fn first_pairs(settings: Settings, assigned: &mut [u64])
     requires { ⌜ Limits settings × (now assigned ≡ replicate (2 * buckets settings) 0) ⌝ }
     ensures { λ _. ⌜ now (assigned .exit) ≡ first-pairs settings ⌝ }
@@ -50,7 +50,7 @@ fn first_agreed(primary: u64, backup: u64) -> Agreed
     }
 }
 
-// All buckets' records, with the pairs in the assigned.
+// All buckets' records, with the pairs in the assignments.
 fn bucket_records(s: &mut [u8], settings: Settings, assigned: &[u64])
     requires { ⌜ (length (now s) ≡ 8 * (buckets settings * agreed-words)) × (length (now assigned) ≡ 2 * buckets settings) ⌝ }
     ensures { λ _. ⌜ words (now (s .exit)) ≡ all-agreed-codec settings .enc (agreed-in (now (assigned .entry))) (words (now (s .entry))) ⌝ }
@@ -146,7 +146,7 @@ fn places(s: &mut [u8], settings: Settings)
     }
 }
 
-// The first state, with the pairs in the assigned.
+// The first state, with the pairs in the assignments.
 fn write(s: &mut [u8], settings: Settings, assigned: &[u64])
     requires { ⌜ Limits settings × (length (now s) ≡ store-bytes settings) × (now assigned ≡ first-pairs settings) ⌝ }
     ensures { λ _. ⌜ words (now (s .exit)) ≡ render (format settings) (words (now (s .entry))) ⌝ }

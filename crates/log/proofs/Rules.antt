@@ -1,4 +1,4 @@
--- The rules' chunk lists by index: what the chunk found at a index says of the list, and a change of one chunk.
+-- The rules' chunk lists by index: what the chunk found at an index says of the list, and a change of one chunk.
 use mathlib.Core.Path.{_≡_, refl, sym, ap, _∙_}
 use mathlib.Core.Logic.{_≢_, inl, inr}
 use mathlib.Core.Bool.{Bool, true, false}
@@ -69,7 +69,7 @@ none-to-save [] k h = refl
 none-to-save (c ∷ cs) k h =
     by (eqb k (c .key)) (λ q. impossible (sym (rw q at h))) (λ q. rw q (ap (λ (l : List Chunk). c ∷ l) (none-to-save cs k (rw q at h))))
 
--- ---- what the chunk found at a index says
+-- ---- what the chunk found at an index says
 one-flag : (t s r : Bool) → t ≡ true → r ≡ false → (t and s) or r ≡ s
 unfolding _and_ _or_
 one-flag t s r e f = rw (e, f) (by s (λ q. rw q) (λ q. rw q))

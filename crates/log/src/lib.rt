@@ -86,7 +86,7 @@ pub fn holds_saved(log: &[u8], chunks: usize, width: usize, k: ChunkKey) -> bool
     }
 }
 
-// The bytes of the chunk at a index: a part of the log.
+// The bytes of the chunk at an index: a part of the log.
 pub fn bytes_at<'a>(log: &'a [u8], chunks: usize, width: usize, p: usize) -> &'a [u8]
     requires { ⌜ LogWith 3 chunks width (words (now log)) (length (now log)) ⌝ }
     requires { ⌜ p < getD (words (now log)) 0 0 ⌝ }

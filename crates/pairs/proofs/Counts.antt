@@ -39,7 +39,7 @@ holds [] i h = absurd (omega arith)
 holds (x ∷ s) i h =
     by-eq x i (λ q e. (0, omega arith, e)) (λ q n. let h′ = rw q at h in let r = holds s i (omega arith) in (suc (r .0), omega (arith, r .1), r .2))
 
--- ---- the loads of distinct members add up to no more than the assigned
+-- ---- the loads of distinct members add up to no more than the positions
 total : List ℕ → Assignments → ℕ
 total [] s = 0
 total (m ∷ ms) s = load s m + total ms s
@@ -85,7 +85,7 @@ total-gt (m ∷ ms) s c x h p l =
     (λ e. let l′ : c < load s m = rw e l in omega (arith, total-ge ms s c (λ z q. h z (among-tail m z ms q))))
     (λ n q. omega (arith, total-gt ms s c x (λ z r. h z (among-tail m z ms r)) q l, h m (among-head m ms))))
 
--- so not every member has c or more, and one more than c, where the members' shares cover the assigned
+-- so not every member has c or more, and one more than c, where the members' shares cover the positions
 pub not-all-full : (ms : List ℕ) → Distinct ms → (s : Assignments) (c x : ℕ) → length s ≤ length ms * c → ((z : ℕ) → among ms z ≡ true → c ≤ load s z)
     → among ms x ≡ true → c < load s x → ⊥
 not-all-full ms d s c x hs h p l = omega (arith, total-gt ms s c x h p l, total-le ms d s)
@@ -123,7 +123,7 @@ beside (suc n) (a ∷ b ∷ s) x y hl d h =
     rw (t, ne-eqb b x v, eq-eqb b y u) (omega (arith, one-le a y)))
     (λ t e. by-eq b x (λ v w. let u = q .1 w in rw (t, v, eq-eqb a y u) (omega (arith, one-le b y))) (λ v w. rw (t, v) (omega (arith, one-le a y, one-le b y))))
 
--- ---- assigned from columns
+-- ---- assignments from columns
 pub assigned-length : (n : ℕ) (p b : ℕ → ℕ) → length (assignments-of n p b) ≡ 2 * n
 unfolding assignments-of
 assigned-length zero p b = refl

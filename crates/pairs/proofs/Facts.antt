@@ -15,7 +15,7 @@ use Rattle.pairs.proofs.Least.{not-zero}
 use Rattle.pairs.proofs.Stages.{stage, same-pair}
 use Rattle.pairs.proofs.Steps.{Left, Full, keep-step, fill-both, give-is, give-primary, give-backup, kept-member}
 
--- ---- the number of assigned is kept
+-- ---- the number of positions is kept
 order-length : (n : ℕ) (f : ℕ → Assignments → Assignments) → ((g : ℕ) (s : Assignments) → length (f g s) ≡ length s) → (s : Assignments) → length (in-order n f s) ≡ length s
 unfolding in-order
 order-length zero f h s = refl

@@ -60,7 +60,7 @@ module _ (n : ℕ) (ms : List ℕ) (c role : ℕ) (P : Assignments → Type 0)
   walk-keeps : P s → P (in-order n (walk-at ms c role) s)
   walk-keeps = walk-to n (omega arith)
 
--- ---- a brick that has no more than the share keeps its assigned in the walks
+-- ---- a brick that has no more than the share keeps its positions in the walks
 pub record Stays (c x : ℕ) (s t : Assignments) : Type 0 where
   pub light : load t x ≤ c
   pub assigned : (i : ℕ) → id-in s i ≡ x → id-in t i ≡ x
@@ -147,7 +147,7 @@ module _ (n : ℕ) (ms : List ℕ) (c : ℕ) (z0 : among ms 0 ≡ false) (x : �
   unfolding walked
   primaries-stuck s hl g hg = walk-stuck 0 (omega arith) (in-order n (walk-at ms c 1) s) (walk-length n ms c 1 s ∙ hl) n (omega arith) g hg
 
--- where x has more than c, assigned of both roles being stuck, and y beside x somewhere: all but x and y have c, so y has fewer, so y is beside x everywhere
+-- where x has more than c, positions of both roles being stuck, and y beside x somewhere: all but x and y have c, so y has fewer, so y is beside x everywhere
 module _ (n : ℕ) (ms : List ℕ) (o : Members ms) (c : ℕ) (covers : 2 * n ≤ length ms * c) (x : ℕ) (mx : among ms x ≡ true)
     (u : Assignments) (hl : length u ≡ 2 * n) (over : c < load u x)
     (stuck : Buckets n (λ g a b. Stuck ms c x u (2 * g) (2 * g + 1) × Stuck ms c x u (2 * g + 1) (2 * g)) u) where

@@ -29,7 +29,7 @@ module _ (ms : List ℕ) (x other : ℕ) where
   unfolding kept-of-pair _and_
   kept-twice e = by (among ms x) (λ q. cc (eq-eqb x other e)) (λ q. cc)
 
--- empty assigned are allowed: an id that is there is a member, and none is there twice
+-- empty positions are allowed: an id that is there is a member, and none is there twice
 pub record Proper (ms : List ℕ) (x y : ℕ) : Type 0 where
   pub first : (x ≡ 0 → ⊥) → among ms x ≡ true
   pub second : (y ≡ 0 → ⊥) → among ms y ≡ true

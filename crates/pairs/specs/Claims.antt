@@ -41,6 +41,6 @@ pub record ViewPairs (n : ℕ) (ms : List ℕ) (last : Assignments) : Type 0 whe
   pub fair : (x : ℕ) → among ms x ≡ true → load (pairs n ms last) x ≤ share n (length ms)
   -- a next view with the same members moves nothing
   pub again : pairs n ms (pairs n ms last) ≡ pairs n ms last
-  -- all members of the last pairs are there once the empty assigned are filled, and a brick that then has no more than the share keeps its assigned
+  -- all members of the last pairs are there once the empty positions are filled, and a brick that then has no more than the share keeps its positions
   pub held : Buckets n (λ g x y. Held ms (id-in last (2 * g)) (id-in last (2 * g + 1)) x y) (filled n ms last)
   pub stays : (x k : ℕ) → load (filled n ms last) x ≤ share n (length ms) → id-in (filled n ms last) k ≡ x → id-in (pairs n ms last) k ≡ x

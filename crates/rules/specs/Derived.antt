@@ -1,4 +1,4 @@
--- Parts of a store that several rules name.
+-- What several rules read from a store: members, holders, a pair's copies, pending, items.
 use mathlib.Core.List.{List, [], _∷_, _++_}
 use mathlib.Core.Bool.{Bool, not, cond}
 use Prim.Native.Nat.{ℕ}

@@ -96,7 +96,7 @@ share n (suc rest) = (2 * n + rest) / suc rest
 unfoldable pub pairs : ℕ → List ℕ → Assignments → Assignments
 pairs n members last = walked n members (share n (length members)) (filled n members last)
 
--- assigned from a column of primaries and one of backups
+-- assignments from a column of primaries and one of backups
 unfoldable pub assignments-of : ℕ → (ℕ → ℕ) → (ℕ → ℕ) → Assignments
 assignments-of zero primary backup = []
 assignments-of (suc n) primary backup = assignments-of n primary backup ++ primary n ∷ backup n ∷ []

@@ -79,7 +79,7 @@ module _ (w most : ℕ) (ws : List ℕ) (hl : length ws ≡ table-words w most) 
   unfolding table-dec
   dec-length = length-rows w row-words (getD ws 0 0) (drop 1 ws)
 
-  -- rows before and from a index on
+  -- rows before and from an index on
   front : (p : ℕ) → p ≤ getD ws 0 0 → enc-all row-words (take p (table-dec w row-words ws)) ≡ take (p * w) (drop 1 ws)
   unfolding table-dec
   front p h =

@@ -77,7 +77,7 @@ module _ {A : Type 0} {r : Row A} (x : Exact r) (most : ℕ) (ws : List ℕ) (hl
         → table-enc (r .size) row-words (only test raw) ws ≡ table-enc (r .size) (r .write) (only p values) ws
     typed-only test p e = typed r (only p values) (only test raw) (rw typed-rows (sym (map-only (r .write) p test e values))) ws
 
-    -- the value at a index, and another in its stead
+    -- the value at an index, and another in its stead
     pub typed-at : (p : ℕ) (d : A) → p < getD ws 0 0 → getD raw p [] ≡ r .write (getD values p d)
     typed-at p d h = rw typed-rows (getD-map-in (r .write) values p [] d (rw typed-length h))
 

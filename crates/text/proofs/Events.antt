@@ -18,7 +18,7 @@ use Rattle.text.specs.Lines.{make-fields, line-of, read-fields, is-event
 use Rattle.text.proofs.Laws.{kinds-count}
 use Rattle.text.proofs.RoundTrip.{WellFormed, well-formed, fields-of-line, line-of-fields, fields-well-formed}
 
--- ---- an event is made again of its parts
+-- ---- an event is made again of its fields
 pub event-of-event-fields : (e : Event) → event-of (event-fields e) ≡ e
 unfolding event-of event-fields kind-at kinds
 event-of-event-fields (put p i b d) = refl
@@ -45,7 +45,7 @@ event-of-event-fields (mend i) = refl
 event-of-event-fields (collect i) = refl
 event-of-event-fields unknown = refl
 
--- ---- and parts of their event, where there are as many numbers as the kind has and no bytes where it has no data
+-- ---- and fields of their event, where there are as many numbers as the kind has and no bytes where it has no data
 
 abbrev Back : ℕ → Kind → Type 0
 Back k f =

@@ -11,7 +11,7 @@ use crate::members;
 use rules::constants;
 use rules::settings::Settings;
 
-// The last ready pairs go into the assigned.
+// The last ready pairs go into the assignments.
 fn last_pairs(store: &[u8], settings: Settings, assigned: &mut [u64])
     requires { ⌜ StoreOf settings (now store) × (length (now assigned) ≡ 2 * buckets settings) ⌝ }
     ensures { λ _. ⌜ now (assigned .exit) ≡ last-pairs (decode (words (now (store .entry)))) ⌝ }
@@ -26,7 +26,7 @@ fn last_pairs(store: &[u8], settings: Settings, assigned: &mut [u64])
     }
 }
 
-// The pairs of a view with all up bricks as its members go into the assigned.
+// The pairs of a view with all up bricks as its members go into the assignments.
 pub fn view_pairs(store: &[u8], settings: Settings, assigned: &mut [u64])
     requires { ⌜ StoreOf settings (now store) × (length (now assigned) ≡ 2 * buckets settings) ⌝ }
     ensures { λ _. ⌜ now (assigned .exit) ≡ view-pairs (decode (words (now (store .entry)))) ⌝ }

@@ -68,7 +68,7 @@ module _ {s : State} (v : Sound s) where
       (λ e. u .3 (sym (b .apart (t .0) (u .0) e (first (t .0) (t .2))))) in
       pair-at (buckets (s .settings)) (s .given) (s .bricks .up) members (last-pairs s) last-length g l
 
-  -- beyond the buckets the assigned are empty
+  -- beyond the buckets the positions are empty
   no-pair : (k : ℕ) → 2 * buckets (s .settings) ≤ k → id-in (view-pairs s) k ≡ 0
   unfolding view-pairs
   no-pair k l =

@@ -19,7 +19,7 @@ use borrow.Author.Needs.{needs}
 use Rattle.store_check.proofs.is_sound.Statement.{statement}
 use Rattle.store_check.proofs.is_sound.Tie as tie
 
--- the settings that were read are the store's own, and in bounds
+-- the settings that were read are the store's own, and in limits
 abbrev lent-bytes : tie.After-settings → List ℕ
 lent-bytes c = let b : tie.Start = search in b .args .store .now
 
