@@ -202,6 +202,12 @@ pub an-element : {A : Type 0} (l : List A) → 0 < length l → (x : A) × List�
 an-element [] n = absurd (omega arith)
 an-element (x ∷ l) n = (x, List·Memᴰ·head refl)
 
+-- a list with two different elements is longer than one
+pub two-elements : {A : Type 0} (l : List A) {x y : A} → List·Memᴰ x l → List·Memᴰ y l → (x ≡ y → ⊥) → 1 < length l
+two-elements [] m n apart = absurd (List·Memᴰ·not-nil m)
+two-elements (z ∷ []) m n apart = absurd (apart (List·Memᴰ·eq-of-singleton m ∙ sym (List·Memᴰ·eq-of-singleton n)))
+two-elements (z ∷ (w ∷ l)) m n apart = omega arith
+
 -- what holds of each element, with one more
 pub one-more : {A : Type 0} {P : A → Type 0} (l : List A) {x : A} → ((y : A) → List·Memᴰ y l → P y) → P x → (y : A) → List·Memᴰ y (l ++ (x ∷ [])) → P y
 one-more l h p y m = elim (List·Memᴰ·append-cases l m) [ inl o ↦ h y o | inr o ↦ rw (List·Memᴰ·eq-of-singleton o) p ]

@@ -10,7 +10,7 @@ use lib.ListN.{length}
 use borrow.Author.Tests.{eqb-true}
 use Rattle.lists.specs.Tests.{_or_, any, only}
 use Rattle.lists.proofs.Tests.{by, by-eq, either, eqb-self, impossible, clash, and-l, and-r, both, or-cases, or-l, or-r, or-second, no, is-no}
-use Rattle.rules.specs.Chunks.{Chunk, held, saved-in, bytes-in, append, save, only-named}
+use Rattle.rules.specs.Chunks.{Chunk, held, saved-in, bytes-in, append, save}
 use Rattle.rules.specs.Sound.{keys-apart}
 
 -- a key that is held: its chunk, whose bytes are those that are read
@@ -101,11 +101,13 @@ module _ (test : Chunk → Bool) where
       (λ _. both _ _ (no _ (λ z. is-no (held l (c .key)) (and-l _ _ y) (held-only l (c .key) z))) (apart-only l (and-r _ _ y)))
       (λ _. apart-only l (and-r _ _ y))
 
-pub saved-only-named : (f : ℕ → Bool) (l : List Chunk) (k : ℕ) → f k ≡ true → saved-in l k ≡ true → saved-in (only-named f l) k ≡ true
-unfolding saved-in any only-named only
-saved-only-named f [] k n y = y
-saved-only-named f (c ∷ l) k n y =
-    elim (or-cases _ _ y) [
-      | inl z ↦ let e = eqb-true k (c .key) (and-l _ _ z) in rw (← e, n) (or-l _ _ (both _ _ (eqb-self k) (and-r _ _ z)))
-      | inr z ↦ either (λ (r : List Chunk). saved-in r k ≡ true) (f (c .key)) (λ _. or-r _ _ (saved-only-named f l k n z)) (λ _. saved-only-named f l k n z)
-    ]
+  -- a saved chunk that passes stays
+  pub saved-only : (l : List Chunk) (k : ℕ) → ((c : Chunk) → c .key ≡ k → c .saved ≡ true → test c ≡ true) → saved-in l k ≡ true
+      → saved-in (only test l) k ≡ true
+  unfolding saved-in any only
+  saved-only [] k f y = y
+  saved-only (c ∷ l) k f y =
+      elim (or-cases _ _ y) [
+        | inl z ↦ rw (f c (sym (eqb-true k (c .key) (and-l _ _ z))) (and-r _ _ z)) (or-l _ _ z)
+        | inr z ↦ either (λ (r : List Chunk). saved-in r k ≡ true) (test c) (λ _. or-r _ _ (saved-only l k f z)) (λ _. saved-only l k f z)
+      ]

@@ -9,7 +9,7 @@ use native.Mathlib.Nat.{mod-lt}
 use native.Mathlib.Omega.{arith}
 use lib.Dec.{ltb, leb}
 use lib.ListN.{length, length-append}
-use borrow.Author.Tests.{eqb-true, eq-eqb, le-leb}
+use borrow.Author.Tests.{eqb-true, eq-eqb, le-leb, leb-true}
 use Rattle.lists.specs.Tests.{_and_, only}
 use Rattle.lists.proofs.Tests.{by, by-eq, by-lt, either, clash, is-no, and-l, and-r, both, every-in, only-in, in-only, an-element}
 use Rattle.rules.specs.declared.settings.Settings.{Settings}
@@ -19,7 +19,7 @@ use Rattle.rules.specs.Entries.{Entry, key-for, has}
 use Rattle.rules.specs.Chunks.{held, saved-in}
 use Rattle.rules.specs.State.{Bricks, Bucket, State}
 use Rattle.rules.specs.Pairs.{ids-of}
-use Rattle.rules.specs.Derived.{members, members-from, first-holder, saved-at, primary-memory, primary-disk, backup-memory, backup-disk}
+use Rattle.rules.specs.Derived.{members, members-from, first-holder, saved-at, saved-twice, primary-memory, primary-disk, backup-memory, backup-disk}
 use Rattle.rules.specs.Derived.{agree, pending, none-pending, nothing-pending}
 use Rattle.rules.proofs.Limits.{some-buckets}
 use Rattle.rules.proofs.Entries.{has-entry, no-entry}
@@ -71,7 +71,7 @@ last-id n f test =
     (λ q. inl (e ∙ rw q (append-nil (only test (ids-of n f)))))
 
 -- of two picked ids, one is not x
-pub two-ids : (n : ℕ) (f test : ℕ → Bool) (x : ℕ) → 1 < length (only test (ids-of n f)) → (i : ℕ) × List·Memᴰ i (only test (ids-of n f)) × (i ≡ x → ⊥)
+two-ids : (n : ℕ) (f test : ℕ → Bool) (x : ℕ) → 1 < length (only test (ids-of n f)) → (i : ℕ) × List·Memᴰ i (only test (ids-of n f)) × (i ≡ x → ⊥)
 two-ids zero f test x l = absurd (empty l)
   where
     empty : 1 < length (only test (ids-of 0 f)) → ⊥
@@ -121,6 +121,19 @@ first-holder-found b k i (x ∷ l) p m u y =
 pub saved-at-in : (s : State) (k i : ℕ) → List·Memᴰ i (saved-at s k) → List·Memᴰ i (members s) × (saved-in (s .bricks .log i) k ≡ true)
 unfolding saved-at
 saved-at-in s k i m = only-in (λ j. saved-in (s .bricks .log j) k) (members s) m
+
+pub in-saved-at : (s : State) (k i : ℕ) → List·Memᴰ i (members s) → saved-in (s .bricks .log i) k ≡ true → List·Memᴰ i (saved-at s k)
+unfolding saved-at
+in-saved-at s k i m y = in-only (λ j. saved-in (s .bricks .log j) k) (members s) m y
+
+-- saved at two members, it is saved at one that is not x
+pub saved-elsewhere : (s : State) (k x : ℕ) → saved-twice s k ≡ true
+    → (i : ℕ) × List·Memᴰ i (members s) × (saved-in (s .bricks .log i) k ≡ true) × (i ≡ x → ⊥)
+unfolding saved-twice saved-at
+saved-elsewhere s k x y =
+    let t = two-ids (s .given) (s .bricks .member) (λ i. saved-in (s .bricks .log i) k) x (leb-true _ _ y) in
+    let u = saved-at-in s k (t .0) (t .1) in
+    (t .0, u .0, u .1, t .2)
 
 -- ---- agreeing and pending
 pub agree-all : (k : Bucket) (b : ℕ) → agree k b ≡ true

@@ -11,7 +11,7 @@ use Rattle.rules.specs.Chunks.{held, saved-in, bytes-in, save-all, save-
 use Rattle.rules.specs.Pairs.{ids-of, among, load, preferred, choose, least-loaded, kept-of-pair, keep-at, fill-position, give-way, in-order, filled, walked, share}
 use Rattle.rules.specs.Pairs.{pairs, assignments-of}
 use Rattle.rules.specs.Format.{first-id, is-first, first-pairs, format}
-use Rattle.rules.specs.Derived.{members-from, first-holder, holder, saved-at, agree, pending, none-pending, nothing-pending}
+use Rattle.rules.specs.Derived.{members-from, first-holder, holder, saved-at, saved-twice, agree, pending, none-pending, nothing-pending}
 use Rattle.rules.specs.Question.{first-no}
 use Rattle.rules.specs.Writes.{raised, put-effect, other-than, target, copy-effect, savelog-effect}
 use Rattle.rules.specs.Maps.{map-effect, send-effect, is-taken, remove-at, deliver-effect, drop-effect, savemap-effect, item-goes, learn-effect}
@@ -21,7 +21,7 @@ use Rattle.rules.specs.Membership.{crash-effect, lose-effect, rise-effec
 use Rattle.rules.specs.Views.{last-pairs, view-pairs, view-effect, source, fetch-effect, dropped, ready-effect}
 use Rattle.rules.specs.Upkeep.{of-first-two, mend-key, mend-keys, mend-buckets, mend-effect, is-named, collect-effect}
 use Rattle.rules.specs.Step.{rule, step, after-all}
-use Rattle.rules.specs.Whole.{saved-twice, whole}
+use Rattle.rules.specs.Whole.{whole, all-up-and-ready}
 use Rattle.rules.specs.Sound.{same-entries}
 use Rattle.rules.specs.Alike.{same-flag, same-settings, alike}
 use Rattle.rules.specs.Examples.{pairs-in, last-of, chunks-in, entries-in, orders-in, value, all-right, a1, b2, again, for-each}
@@ -32,7 +32,7 @@ unfolding _and_ _or_ all-below any-below count-below every any only upd
 lists-open = 0
 
 unfoldable parts-open : ℕ
-unfolding lists-open in-range in-limits buckets proxy-of bucket-of is-data key-for has names insert remove takes is-of-bucket drain held saved-in bytes-in save-all save-key only-saved only-named members-from first-holder holder saved-at agree pending none-pending nothing-pending
+unfolding lists-open in-range in-limits buckets proxy-of bucket-of is-data key-for has names insert remove takes is-of-bucket drain held saved-in bytes-in save-all save-key only-saved only-named members-from first-holder holder saved-at saved-twice agree pending none-pending nothing-pending
 parts-open = 0
 
 unfoldable pairs-open : ℕ
@@ -45,7 +45,7 @@ events-open = 0
 
 -- to unfold this is to unfold all the rules
 unfoldable pub rules-open : ℕ
-unfolding parts-open pairs-open events-open first-no rule step after-all saved-twice whole
+unfolding parts-open pairs-open events-open first-no rule step after-all whole all-up-and-ready
 rules-open = 0
 
 unfoldable tables-open : ℕ

@@ -3,6 +3,7 @@ use mathlib.Core.List.{List, [], _∷_, _++_}
 use mathlib.Core.Bool.{Bool, not, cond}
 use Prim.Native.Nat.{ℕ}
 use lib.Dec.{ltb, leb, eqb}
+use lib.ListN.{length}
 use Rattle.lists.specs.Tests.{_and_, _or_, every, only}
 use Rattle.rules.specs.Limits.{buckets}
 use Rattle.rules.specs.Numbers.{bucket-of, home-of}
@@ -34,6 +35,10 @@ holder s key = first-holder (s .bricks) key (members-from s (home-of key))
 -- the members at which the chunk is saved
 unfoldable pub saved-at : State → ℕ → List ℕ
 saved-at s key = only (λ i. saved-in (s .bricks .log i) key) (members s)
+
+-- at two members: what question 11 asks for map (request (i)), and whole of every mapped key
+unfoldable pub saved-twice : State → ℕ → Bool
+saved-twice s key = leb 2 (length (saved-at s key))
 
 -- ---- places
 abbrev pub is-up : State → ℕ → Bool

@@ -2,7 +2,7 @@
 -- order of questions.
 use mathlib.Core.List.{List, [], _∷_, _++_}
 use mathlib.Core.Bool.{Bool, cond}
-use Prim.Native.Nat.{ℕ, zero, suc, _*_, _^_}
+use Prim.Native.Nat.{ℕ, zero, suc, _+_, _*_, _^_}
 use lib.ListN.{replicate}
 use Rattle.lists.specs.Tests.{every, same-numbers}
 use Rattle.lists.specs.Columns.{upd}
@@ -108,21 +108,29 @@ a1 = replicate 8 161
 unfoldable pub b2 : List ℕ
 b2 = replicate 8 178
 
--- block 5 in bucket 0, whose pair is (1, 2): put at brick 1 and saved there
-abbrev put-5 : List Event
-put-5 = Event.learn 0 ∷ Event.put 0 0 5 a1 ∷ Event.savelog 0 ∷ []
+-- a block of a bucket whose pair is (1, 2): put at brick 1, and saved there and at brick 2
+abbrev put-of : ℕ → List Event
+put-of b = Event.learn 0 ∷ Event.put 0 0 b a1 ∷ Event.copy (key-of 1 0) ∷ Event.savelog 0 ∷ Event.savelog 1 ∷ []
 
-abbrev mapped-5 : List Event
-mapped-5 = put-5 ++ (Event.map 0 5 ∷ [])
+abbrev mapped : ℕ → List Event
+mapped b = put-of b ++ (Event.map 0 b ∷ [])
 
 -- all four copies have it
-abbrev settled-5 : List Event
-settled-5 = mapped-5 ++ (Event.send 5 ∷ Event.deliver 0 ∷ Event.savemap 0 ∷ Event.savemap 1 ∷ [])
+abbrev settled : ℕ → List Event
+settled b = mapped b ++ (Event.send b ∷ Event.deliver 0 ∷ Event.savemap 0 ∷ Event.savemap 1 ∷ [])
 
--- a second chunk, and confirmed
-abbrev written-5 : List Event
-written-5 = Event.learn 0 ∷ Event.put 0 0 5 a1 ∷ Event.copy (key-of 1 0) ∷ Event.savelog 0 ∷ Event.savelog 1 ∷ Event.map 0 5 ∷ Event.send 5 ∷ Event.deliver 0
-    ∷ Event.savemap 0 ∷ Event.savemap 1 ∷ Event.done 0 5 ∷ []
+-- block 5 in bucket 0; written: it is confirmed too
+abbrev put-5 : List Event
+put-5 = put-of 5
+
+abbrev mapped-5 : List Event
+mapped-5 = mapped 5
+
+abbrev settled-5 : List Event
+settled-5 = settled 5
+
+abbrev pub written-5 : List Event
+written-5 = settled-5 ++ (Event.done 0 5 ∷ [])
 
 -- a new view, with bucket 0 ready and proxy 0 knowing it
 abbrev next-view : List Event
@@ -137,13 +145,20 @@ unfoldable pub for-each : ℕ → (ℕ → Event) → List Event
 for-each zero f = []
 for-each (suc n) f = for-each n f ++ (f n ∷ [])
 
--- a block of bucket 15, whose pair is (1, 2) too: all four copies have it
+-- a new view, with every bucket ready
+abbrev pub all-ready : List Event
+all-ready = Event.view ∷ for-each 16 Event.fetch ++ for-each 16 Event.ready
+
+-- block 5 is written and brick 2 lost, with its chunk; a new brick, 4, has come
+abbrev replaced : List Event
+replaced = written-5 ++ (Event.lose 1 ∷ Event.join 1 ∷ all-ready)
+
+-- a block of bucket 15, whose pair is (1, 2) too
 abbrev in-15 : ℕ
 in-15 = 15 * 1024
 
 abbrev settled-15 : List Event
-settled-15 = Event.learn 0 ∷ Event.put 0 0 in-15 a1 ∷ Event.savelog 0 ∷ Event.map 0 in-15 ∷ Event.send in-15 ∷ Event.deliver 0 ∷ Event.savemap 0
-    ∷ Event.savemap 1 ∷ []
+settled-15 = settled in-15
 
 -- a view without brick 1, in which bucket 15 comes to be ready
 abbrev without-1 : List Event
@@ -152,7 +167,7 @@ without-1 = Event.crash 0 ∷ Event.view ∷ Event.fetch 15 ∷ Event.ready 15 �
 -- 32 blocks wait in the primary's buffer; proxy 1 has one more
 abbrev waiting : List Event
 waiting = Event.view ∷ Event.learn 0 ∷ Event.learn 1 ∷ for-each 32 (λ b. Event.put 0 0 b a1)
-    ++ (Event.put 1 0 (2 ^ 49) a1 ∷ Event.savelog 0 ∷ for-each 32 (λ b. Event.map 0 b))
+    ++ (Event.put 1 0 (2 ^ 49) a1 ∷ for-each 33 (λ n. Event.copy (key-of 1 n)) ++ (Event.savelog 0 ∷ Event.savelog 1 ∷ for-each 32 (λ b. Event.map 0 b)))
 
 abbrev long-log : Settings
 long-log = record { places = 3; size = 8; entries = 2; chunks = 33 }
@@ -178,8 +193,8 @@ marked =
     ∷ (pairs-after small (Event.lose 1 ∷ Event.view ∷ []) (0 ∷ 1 ∷ 2 ∷ []) gives (1 ∷ 3 ∷ 3 ∷ 1 ∷ 3 ∷ 1 ∷ []))
     ∷ (last-answer small (Event.put 0 0 5 a1 ∷ Event.crash 0 ∷ Event.rise 0 ∷ Event.view ∷ Event.put 0 0 6 a1 ∷ []) gives done-with (key-of 1 1024))
     ∷ (last-answer small (Event.learn 0 ∷ Event.put 0 0 5 a1 ∷ Event.map 0 5 ∷ []) gives refused 11)
-    ∷ (last-answer small (Event.learn 0 ∷ Event.put 0 0 5 a1 ∷ Event.put 0 0 6 a1 ∷ Event.put 0 0 7 a1 ∷ Event.savelog 0 ∷ Event.map 0 5 ∷ Event.map 0 6
-    ∷ Event.map 0 7 ∷ []) gives refused 10)
+    ∷ (last-answer small (Event.learn 0 ∷ for-each 3 (λ n. Event.put 0 0 (5 + n) a1) ++ for-each 3 (λ n. Event.copy (key-of 1 n))
+    ++ (Event.savelog 0 ∷ Event.savelog 1 ∷ for-each 3 (λ n. Event.map 0 (5 + n)))) gives refused 10)
     ∷ []
 
 -- ---- what a slip would change
@@ -215,11 +230,17 @@ slips =
     ∷ (last-answer small (mapped-5 ++ (Event.abandon 0 5 ∷ Event.map 0 5 ∷ [])) gives refused 8)
     -- 9 before 10: a second put of a block into a full log; a map without an item into a full bucket
     ∷ (last-answer small (Event.put 0 0 5 a1 ∷ Event.put 0 0 6 a1 ∷ Event.put 0 0 7 a1 ∷ Event.put 0 0 8 a1 ∷ Event.put 0 0 5 a1 ∷ []) gives refused 9)
-    ∷ (last-answer small (put-5 ++ (Event.put 0 0 6 a1 ∷ Event.savelog 0 ∷ Event.map 0 5 ∷ Event.map 0 6 ∷ Event.map 0 7 ∷ [])) gives refused 9)
+    ∷ (last-answer small (put-5 ++ (Event.put 0 0 6 a1 ∷ Event.copy (key-of 1 1) ∷ Event.savelog 0 ∷ Event.savelog 1 ∷ for-each 3 (λ n. Event.map 0 (5 + n))))
+    gives refused 9)
     -- 10: a fifth chunk; 10 before 11: a copy of a key that is not held into a full log
     ∷ (last-answer small (Event.put 0 0 5 a1 ∷ Event.put 0 0 6 a1 ∷ Event.put 0 0 7 a1 ∷ Event.put 0 0 8 a1 ∷ Event.put 0 0 9 a1 ∷ []) gives refused 10)
     ∷ (last-answer small (Event.put 0 1 5 a1 ∷ Event.put 0 1 6 a1 ∷ Event.put 0 1 7 a1 ∷ Event.put 0 1 8 a1 ∷ Event.copy (key-of 1 0) ∷ []) gives refused 10)
     ∷ (last-answer small (Event.copy (key-of 1 0) ∷ []) gives refused 11)
+    -- 11: a chunk saved at its home alone is not mapped, nor with a copy not saved there, nor with a saved copy at a brick that is down; two members are enough
+    ∷ (last-answer small (Event.learn 0 ∷ Event.put 0 0 5 a1 ∷ Event.savelog 0 ∷ Event.map 0 5 ∷ []) gives refused 11)
+    ∷ (last-answer small (Event.learn 0 ∷ Event.put 0 0 5 a1 ∷ Event.savelog 0 ∷ Event.copy (key-of 1 0) ∷ Event.map 0 5 ∷ []) gives refused 11)
+    ∷ (last-answer small (put-5 ++ (Event.crash 1 ∷ Event.map 0 5 ∷ [])) gives refused 11)
+    ∷ (last-answer small mapped-5 gives done-with 0)
     -- 10 before 13: a block that is not mapped, with a full bag
     ∷ (last-answer small (mapped-5 ++ again 64 (Event.send 5 ∷ []) ++ (Event.send 6 ∷ [])) gives refused 10)
     ∷ (last-answer small (mapped-5 ++ (Event.send 6 ∷ [])) gives refused 13)
@@ -246,9 +267,9 @@ slips =
     ∷ (seen-after small (Event.put 0 1 5 a1 ∷ Event.copy (key-of 2 0) ∷ []) (log-of 3) gives (key-of 2 0 ∷ 0 ∷ []))
     ∷ (seen-after small (Event.put 0 2 5 a1 ∷ Event.copy (key-of 3 0) ∷ []) (log-of 1) gives (key-of 3 0 ∷ 0 ∷ []))
     -- mend: the second member from the home on gets the chunk saved, the third does not, and none in a bucket that is not ready
-    ∷ (seen-after small (settled-5 ++ (Event.mend 1 ∷ [])) (log-of 2) gives (key-of 1 0 ∷ 1 ∷ []))
-    ∷ (seen-after small (settled-5 ++ (Event.mend 2 ∷ [])) (log-of 3) gives [])
-    ∷ (seen-after small (settled-5 ++ (Event.view ∷ Event.mend 1 ∷ [])) (log-of 2) gives [])
+    ∷ (seen-after small (replaced ++ (Event.mend 2 ∷ [])) (log-of 3) gives (key-of 1 0 ∷ 1 ∷ []))
+    ∷ (seen-after small (replaced ++ (Event.mend 1 ∷ [])) (log-of 4) gives [])
+    ∷ (seen-after small (replaced ++ (Event.view ∷ Event.mend 2 ∷ [])) (log-of 3) gives [])
     -- collect: what no copy names goes, and nothing else
     ∷ (seen-after small (written-5 ++ (Event.put 0 0 6 b2 ∷ Event.abandon 0 6 ∷ Event.collect 0 ∷ [])) (log-of 1) gives (key-of 1 0 ∷ 1 ∷ []))
     -- done, abandon, reset, drop: an item goes, all items go, one relay goes
@@ -260,7 +281,7 @@ slips =
     ∷ (seen-after small (settled-15 ++ without-1) (copies-of 15 1) gives (in-15 ∷ key-of 1 0 ∷ in-15 ∷ key-of 1 0 ∷ []))
     ∷ (seen-after small (settled-15 ++ without-1 ++ (Event.rise 0 ∷ Event.view ∷ Event.fetch 15 ∷ Event.ready 15 ∷ [])) (copies-of 15 1) gives [])
     -- pairs: brick 1 comes back to buckets that the two others have; backups give way before primaries, down to 11 = 32 / 3 rounded up
-    ∷ (pairs-after small (Event.crash 0 ∷ Event.view ∷ for-each 16 Event.fetch ++ for-each 16 Event.ready ++ (Event.rise 0 ∷ Event.view ∷ []))
+    ∷ (pairs-after small (Event.crash 0 ∷ all-ready ++ (Event.rise 0 ∷ Event.view ∷ []))
     (0 ∷ 1 ∷ 2 ∷ 3 ∷ 4 ∷ 5 ∷ 6 ∷ 7 ∷ 8 ∷ 9 ∷ 10 ∷ 11 ∷ 12 ∷ 13 ∷ 14 ∷ 15 ∷ [])
     gives (2 ∷ 1 ∷ 3 ∷ 1 ∷ 2 ∷ 1 ∷ 2 ∷ 1 ∷ 3 ∷ 1 ∷ 2 ∷ 1 ∷ 2 ∷ 1 ∷ 3 ∷ 1 ∷ 2 ∷ 3 ∷ 2 ∷ 3 ∷ 3 ∷ 1 ∷ 2 ∷ 3 ∷ 2 ∷ 3 ∷ 3 ∷ 1 ∷ 2 ∷ 3 ∷ 2 ∷ 3 ∷ []))
     -- pairs: of a pair whose primary is lost the backup becomes primary, and counts with all its assignments before any empty position is filled
@@ -270,7 +291,8 @@ slips =
     ∷ (are-alike small mapped-5 put-5 gives (0 ∷ []))
     ∷ (are-alike small (Event.view ∷ []) [] gives (0 ∷ []))
     ∷ (are-alike small (Event.crash 2 ∷ []) [] gives (0 ∷ []))
-    -- whole asks for two saved chunks
-    ∷ (is-whole small settled-5 gives (0 ∷ []))
+    -- whole asks for two saved chunks: one is left of two, until a mend
     ∷ (is-whole small written-5 gives (1 ∷ []))
+    ∷ (is-whole small replaced gives (0 ∷ []))
+    ∷ (is-whole small (replaced ++ (Event.mend 2 ∷ [])) gives (1 ∷ []))
     ∷ []

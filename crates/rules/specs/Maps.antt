@@ -10,7 +10,7 @@ use Rattle.rules.specs.Limits.{max-relays, max-waiting, max-view-or-orde
 use Rattle.rules.specs.Entries.{entry, key-for, has, insert, remove, takes}
 use Rattle.rules.specs.State.{State, Bucket, Relay, blank-relay, set-bricks, set-buckets, set-bucket, set-bag, set-items, set-known}
 use Rattle.rules.specs.State.{with-buffer, with-copies, with-last-sent, with-taken}
-use Rattle.rules.specs.Derived.{up-member, saved-at, bucket-no, bucket-at, primary-memory, backup-memory, item}
+use Rattle.rules.specs.Derived.{up-member, saved-twice, bucket-no, bucket-at, primary-memory, backup-memory, item}
 use Rattle.rules.specs.Question.{Question, _asks_, is-proxy, is-place, is-block, belongs, knows-view, primary-up}
 use Rattle.rules.specs.Question.{is-ready, not-pending, not-waiting, has-item}
 
@@ -28,7 +28,7 @@ map-asks s proxy block =
     ∷ (9 asks has-item s proxy block)
     ∷ (10 asks not (bucket .ready) or takes (s .settings .entries) (primary-memory bucket) block)
     ∷ (10 asks bucket .ready or ltb (length (s .bricks .buffer (bucket .primary))) max-waiting)
-    ∷ (11 asks ltb 0 (length (saved-at s (item s proxy block))))
+    ∷ (11 asks saved-twice s (item s proxy block))
     ∷ []
 
 unfoldable pub map-effect : State → ℕ → ℕ → State
