@@ -60,6 +60,17 @@ LiesWith settings s id key (lies.Nowhere) = id ≡ 0
 abbrev pub member-saved : State → ℕ → ℕ → Bool
 member-saved s key place = s .bricks .member (s .ids place) and saved-in (s .bricks .log (s .ids place)) key
 
+-- the first such place from one on
+pub record NextSavedAt (settings : Settings) (s : State) (key from place : ℕ) : Type 0 where
+  pub inside : place < settings .places
+  pub saved : member-saved s key place ≡ true
+  pub low : from ≤ place
+  pub before : (p : ℕ) → p < place → from ≤ p → member-saved s key p ≡ false
+
+abbrev pub NextSaved : Settings → State → ℕ → ℕ → Found → Type 0
+NextSaved settings s key from (At place) = NextSavedAt settings s key from place
+NextSaved settings s key from (Nowhere) = (p : ℕ) → p < settings .places → from ≤ p → member-saved s key p ≡ false
+
 -- the members from an id upward, and after them those from the lowest id to below the home id
 abbrev pub round : State → ℕ → ℕ → List ℕ
 round s from home = between s from ids ++ between s 0 home

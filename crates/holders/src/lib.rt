@@ -1,19 +1,18 @@
 // Who holds a chunk: members in the order of their ids, and what their logs hold.
 ghost use mathlib.Core.Path.{_≡_};
 ghost use Prim.Native.Nat.{_≤_, _<_};
-ghost use lib.Dec.{ltb};
 ghost use lib.ListN.{length};
 ghost use Rattle.words.specs.Words.{words};
 ghost use Rattle.rules.specs.Numbers.{home-of};
 ghost use Rattle.rules.specs.Chunks.{held, saved-in};
-ghost use Rattle.rules.specs.Derived.{members-from, first-holder, holder, saved-at};
+ghost use Rattle.rules.specs.Derived.{members-from, first-holder, holder, saved-twice};
 ghost use Rattle.rules.specs.Upkeep.{of-first-two};
 ghost use Rattle.rules.specs.Writes.{target};
 ghost use Rattle.layout.specs.Store.{decode};
 ghost use Rattle.log.specs.Log.{chunk-at};
 ghost use Rattle.log.specs.Answers.{FoundIn};
 ghost use Rattle.lent.specs.Stores.{StoreOf};
-ghost use Rattle.holders.specs.Members.{between, member-within, NextIn, Chosen, LiesWith, member-saved, round, begins-with};
+ghost use Rattle.holders.specs.Members.{between, member-within, NextIn, Chosen, LiesWith, member-saved, NextSaved, round, begins-with};
 use layout::sizes;
 use lent::brick::Found;
 use lent::place;
@@ -155,19 +154,33 @@ fn member_saved(store: &[u8], settings: Settings, place: usize, key: ChunkKey) -
     false
 }
 
-// Is the chunk saved at some member?
-pub fn saved_somewhere(store: &[u8], settings: Settings, key: ChunkKey) -> bool
+// The first place from one on whose member has the chunk saved.
+fn next_saved(store: &[u8], settings: Settings, key: ChunkKey, from: usize) -> Found
     requires { ⌜ StoreOf settings (now store) ⌝ }
-    ensures { λ r. ⌜ r ≡ ltb 0 (length (saved-at (decode (words (now (store .entry)))) (key .0))) ⌝ }
+    ensures { λ r. ⌜ NextSaved settings (decode (words (now (store .entry)))) (key .0) from r ⌝ }
 {
-    let mut place = 0;
+    let mut place = from;
     while place < settings.places {
         if member_saved(store, settings, place, key) {
-            return true;
+            return Found::At(place);
         }
         place += 1;
     }
-    false
+    Found::Nowhere
+}
+
+// Is the chunk saved at two members?
+pub fn saved_twice(store: &[u8], settings: Settings, key: ChunkKey) -> bool
+    requires { ⌜ StoreOf settings (now store) ⌝ }
+    ensures { λ r. ⌜ r ≡ saved-twice (decode (words (now (store .entry)))) (key .0) ⌝ }
+{
+    match next_saved(store, settings, key, 0) {
+        Found::At(first) => match next_saved(store, settings, key, first + 1) {
+            Found::At(_) => true,
+            Found::Nowhere => false,
+        },
+        Found::Nowhere => false,
+    }
 }
 
 // ---- the members from the home id upward, circularly

@@ -41,7 +41,7 @@ fn room_asks(store: &[u8], settings: Settings, block: BlockNumber) -> u64
     10
 }
 
-// Has the proxy an item, is there room for it, and is its chunk saved at a member? The number of the first no, or 0.
+// Has the proxy an item, is there room for it, and is its chunk saved at two members? The number of the first no, or 0.
 fn item_asks(store: &[u8], settings: Settings, proxy: usize, block: BlockNumber) -> u64
     requires { ⌜ StoreOf settings (now store) × (proxy < proxies) ⌝ }
     ensures { λ r. ⌜ r ≡ first-no (item-asks (decode (words (now (store .entry)))) proxy (block .0)) ⌝ }
@@ -53,7 +53,7 @@ fn item_asks(store: &[u8], settings: Settings, proxy: usize, block: BlockNumber)
     if no != 0 {
         return no;
     }
-    if holders::saved_somewhere(store, settings, proxy::item(store, settings, proxy, block)) {
+    if holders::saved_twice(store, settings, proxy::item(store, settings, proxy, block)) {
         return 0;
     }
     11
