@@ -12,22 +12,25 @@ use Rattle.rules.specs.Format.{format}
 use Rattle.rules.specs.Derived.{bucket-at}
 use Rattle.rules.specs.Question.{first-no}
 use Rattle.rules.specs.Maps.{is-taken}
-use Rattle.rules.specs.Whole.{whole}
+use Rattle.rules.specs.Whole.{whole, all-up-and-ready}
 use Rattle.rules.specs.Step.{Outcome, rule, step}
 use Rattle.rules.proofs.Step.{Yes, Stepped, refused, accepted, stepped, code-is}
 use Rattle.rules.proofs.Sound.{Sound}
 use Rattle.rules.proofs.Examples.{rules-open}
-use Rattle.history.specs.Claim.{Answered, answered, History, no-history, number, after-answer, Shown, Obeys, Ageing}
-use Rattle.history.specs.Claim.{IsCrashOrLose, FailuresFindWhole, awaiting-ready, NotRefusedForWant, NeverRefusedForWant, Claim}
+use Rattle.history.specs.Claim.{Answered, answered, Each, History, no-history, number, after-answer, Shown, Obeys, Ageing}
+use Rattle.history.specs.Claim.{IsCrash, IsLose, IsCrashOrLose, FailuresFindWhole, awaiting-ready, BytesFound, NotRefusedForWant, NeverRefusedForWant}
+use Rattle.history.specs.Claim.{NothingLost, CrashesFindReady, Claim}
 use Rattle.history.proofs.Sound.All.{format-sound, sound-kept, step-sound}
 use Rattle.history.proofs.AgeingInvariant.{AgeingInvariant}
-use Rattle.history.proofs.WantInvariant.{WantInvariant}
+use Rattle.history.proofs.WantInvariant.{KeptBy, Uses, WantInvariant, TwoSavedInvariant}
 use Rattle.history.proofs.Ageing.Put.{put-key-unused}
 use Rattle.history.proofs.Ageing.Reads.{get-shown}
 use Rattle.history.proofs.Ageing.All.{ageing-kept, format-ageing}
 use Rattle.history.proofs.Want.Reads.{get-found}
 use Rattle.history.proofs.Want.Views.{fetch-found}
+use Rattle.history.proofs.Want.Uses.{uses-map}
 use Rattle.history.proofs.Want.All.{want-kept, format-want}
+use Rattle.history.proofs.Want.TwoSaved.{member-keeps, two-saved-kept, format-two-saved}
 
 -- ---- the settings stay
 same-settings : (s : State) (e : Event) → rule s e .after .settings ≡ s .settings
@@ -58,7 +61,7 @@ same-settings s Event.unknown = refl
 
 -- ---- one step
 abbrev as-answered : State → Event → Outcome → Answered
-as-answered s e u = record { event = e; code = u .code; said = u .said; found-whole = whole s }
+as-answered s e u = record { event = e; code = u .code; said = u .said; found = s }
 
 module _ (s : State) (h : History) (v : AgeingInvariant s h) (z : Sound s) where
   new-key : (e : Event) → Yes s e → (p i b : ℕ) (d : List ℕ) → e ≡ Event.put p i b d → (c : ℕ) → number (h .writes c) (rule s e .said .key) ≡ 0
@@ -74,10 +77,13 @@ module _ (s : State) (h : History) (v : AgeingInvariant s h) (z : Sound s) where
   obeys e u (refused c) = record { key-unused = λ p i b d q n. absurd (omega (arith, n)); shown = λ p b q n. absurd (omega (arith, n)) }
   obeys e u (accepted y) = record { key-unused = λ p i b d q _. new-key e y p i b d q; shown = λ p b q _. shows e y p b q }
 
-  sated : (o : ℕ → Bool) → WantInvariant s o → (e : Event) → NotRefusedForWant o (as-answered s e (step s e))
-  sated o w e = record {
-    bytes = λ p b q n. subst (λ (a : Event). first-no (rule s a .questions) ≡ 11 → ⊥) (sym q) (get-found s z h v o w p b) (sym (code-is s e) ∙ n);
-    source = λ g q y n. subst (λ (a : Event). first-no (rule s a .questions) ≡ 13 → ⊥) (sym q) (fetch-found s h v z o w g y) (sym (code-is s e) ∙ n);
+  found : Uses (KeptBy s) s → (e : Event) → BytesFound (as-answered s e (step s e))
+  found w e p b q n = subst (λ (a : Event). first-no (rule s a .questions) ≡ 11 → ⊥) (sym q) (get-found s z h v w p b) (sym (code-is s e) ∙ n)
+
+  not-refused : (o : ℕ → Bool) → WantInvariant s o → (e : Event) → NotRefusedForWant o (as-answered s e (step s e))
+  not-refused o w e = record {
+    bytes = found (w .uses) e;
+    source = λ g q y n. subst (λ (a : Event). first-no (rule s a .questions) ≡ 13 → ⊥) (sym q) (fetch-found s z o (w .buckets) g y) (sym (code-is s e) ∙ n);
   }
 
   ageing-on : (e : Event) (u : Outcome) → Stepped s e u → AgeingInvariant (u .after) (after-answer h e (u .code) (u .said))
@@ -87,7 +93,12 @@ module _ (s : State) (h : History) (v : AgeingInvariant s h) (z : Sound s) where
   want-on : (o : ℕ → Bool) → WantInvariant s o → (e : Event) (u : Outcome) → Stepped s e u → (IsCrashOrLose e → u .code ≡ 0 → whole s ≡ true)
       → WantInvariant (u .after) (awaiting-ready o e (u .code))
   want-on o w e u (refused c) f = w
-  want-on o w e u (accepted y) f = want-kept s h o e v z w y (λ t. f t refl)
+  want-on o w e u (accepted y) f = want-kept s h o v z w e y (λ t. f t refl)
+
+  two-saved-on : TwoSavedInvariant s → (e : Event) (u : Outcome) → Stepped s e u
+      → (IsLose e → u .code ≡ 0 → ⊥) → (IsCrash e → u .code ≡ 0 → all-up-and-ready s ≡ true) → TwoSavedInvariant (u .after)
+  two-saved-on d e u (refused c) none f = d
+  two-saved-on d e u (accepted y) none f = two-saved-kept s h v z d e y (λ t. none t refl) (λ t. f t refl)
 
 pub settings-on : (s : State) (e : Event) (u : Outcome) → Stepped s e u → u .after .settings ≡ s .settings
 settings-on s e u (refused c) = refl
@@ -104,21 +115,37 @@ ageing size (e ∷ es) s h v z q =
       ageing size es (u .after) _ (ageing-on s h v z e u t) (step-sound s e z) (ap (λ (c : Settings). c .size) (settings-on s e u t) ∙ q),
     )
 
-never-refused : (es : List Event) (s : State) (h : History) (o : ℕ → Bool) → AgeingInvariant s h → Sound s → WantInvariant s o → FailuresFindWhole (answered s es) → NeverRefusedForWant o (answered s es)
-unfolding FailuresFindWhole NeverRefusedForWant answered
+never-refused : (es : List Event) (s : State) (h : History) (o : ℕ → Bool) → AgeingInvariant s h → Sound s → WantInvariant s o
+    → FailuresFindWhole (answered s es) → NeverRefusedForWant o (answered s es)
+unfolding Each NeverRefusedForWant answered
 never-refused [] s h o v z w f = tt
 never-refused (e ∷ es) s h o v z w f =
     let u = step s e in
     let t = stepped s e in (
-      sated s h v z o w e,
+      not-refused s h v z o w e,
       never-refused es (u .after) _ _ (ageing-on s h v z e u t) (step-sound s e z) (want-on s h v z o w e u t (f .0)) (f .1),
+    )
+
+all-found : (es : List Event) (s : State) (h : History) → AgeingInvariant s h → Sound s → TwoSavedInvariant s
+    → NothingLost (answered s es) → CrashesFindReady (answered s es) → Each BytesFound (answered s es)
+unfolding Each answered
+all-found [] s h v z d none f = tt
+all-found (e ∷ es) s h v z d none f =
+    let u = step s e in
+    let t = stepped s e in (
+      found s h v z (uses-map (member-keeps s (d .bricks)) (d .uses)) e,
+      all-found es (u .after) _ (ageing-on s h v z e u t) (step-sound s e z) (two-saved-on s h v z d e u t (none .0) (f .0)) (none .1) (f .1),
     )
 
 pub claim : Claim
 claim c y es =
     let z = format-sound c y in
     let v = format-ageing c in
-    (ageing (c .size) es (format c) no-history v z (same-size c), never-refused es (format c) no-history (λ g. false) v z (format-want c z))
+    record {
+      ageing = ageing (c .size) es (format c) no-history v z (same-size c);
+      for-want = never-refused es (format c) no-history (λ g. false) v z (format-want c z);
+      two-saved = all-found es (format c) no-history v z (format-two-saved c);
+    }
   where
     same-size : (c : Settings) → format c .settings .size ≡ c .size
     same-size c = unfold format in refl

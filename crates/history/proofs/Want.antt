@@ -1,9 +1,9 @@
-pub mod Writes
-pub mod Maps
-pub mod Relays
-pub mod Reads
+pub mod Uses
+pub mod Saved
 pub mod NothingPending
+pub mod Reads
+pub mod Relays
 pub mod Membership
 pub mod Views
-pub mod Upkeep
 pub mod All
+pub mod TwoSaved

@@ -7,61 +7,83 @@ use Prim.Native.Nat.{ℕ}
 use lib.Dec.{eqb}
 use borrow.Author.Tests.{eq-eqb}
 use Rattle.lists.specs.Tests.{_and_, _or_, every, same-numbers, only}
-use Rattle.lists.proofs.Tests.{both, and-l, and-r, or-l, or-r, if-so}
+use Rattle.lists.proofs.Tests.{both, and-l, and-r, or-l, or-r, if-so, is-no}
 use Rattle.rules.specs.declared.settings.Settings.{Settings}
 use Rattle.rules.specs.Limits.{in-limits}
 use Rattle.rules.specs.Numbers.{key-of}
 use Rattle.rules.specs.Event.{Event, event-fields}
+use Rattle.rules.specs.State.{State}
 use Rattle.rules.specs.Format.{format}
-use Rattle.rules.specs.Examples.{last-of, a1}
+use Rattle.rules.specs.Whole.{whole, all-up-and-ready}
+use Rattle.rules.specs.Examples.{last-of, a1, b2, for-each, written-5, all-ready}
 use Rattle.rules.proofs.Examples.{rules-open}
-use Rattle.history.specs.Claim.{Answered, answered, IsCrashOrLose, FailuresFindWhole, NeverRefusedForWant}
+use Rattle.history.specs.Claim.{Answered, answered, Each, IsCrash, IsLose, Finds, IsCrashOrLose, FailuresFindWhole, NeverRefusedForWant}
+use Rattle.history.specs.Claim.{BytesFound, NothingLost, CrashesFindReady}
 use Rattle.history.proofs.Claim.{claim}
 
--- ---- the premise as a test: a crash is of kind 14, a loss of kind 15
+-- ---- the premises as tests: a crash is of kind 14, a loss of kind 15
 abbrev kind : Event → ℕ
 kind e = event-fields e .kind
 
-abbrev is-strike : Answered → Bool
-is-strike t = (eqb (kind (t .event)) 14 or eqb (kind (t .event)) 15) and eqb (t .code) 0
+abbrev is-crash : Event → Bool
+is-crash e = eqb (kind e) 14
 
-unfoldable failure-found-whole : List Answered → Bool
-failure-found-whole ts = every (λ t. not (is-strike t) or t .found-whole) ts
+abbrev is-lose : Event → Bool
+is-lose e = eqb (kind e) 15
 
-strike-kind : (e : Event) → IsCrashOrLose e → (eqb (kind e) 14 or eqb (kind e) 15) ≡ true
+abbrev is-failure : Event → Bool
+is-failure e = is-crash e or is-lose e
+
+crash-kind : (e : Event) → IsCrash e → is-crash e ≡ true
 unfolding event-fields
-strike-kind e (i, inl q) = rw q (or-l true _ refl)
-strike-kind e (i, inr q) = rw q (or-r _ true refl)
+crash-kind e (i, q) = rw q refl
 
-is-failure-found-whole : (ts : List Answered) → failure-found-whole ts ≡ true → FailuresFindWhole ts
-unfolding failure-found-whole every FailuresFindWhole
-is-failure-found-whole [] y = tt
-is-failure-found-whole (t ∷ ts) y = (λ e n. if-so _ _ (and-l _ _ y) (both _ _ (strike-kind (t .event) e) (eq-eqb (t .code) 0 n)), is-failure-found-whole ts (and-r _ _ y))
+lose-kind : (e : Event) → IsLose e → is-lose e ≡ true
+unfolding event-fields
+lose-kind e (i, q) = rw q refl
+
+failure-kind : (e : Event) → IsCrashOrLose e → is-failure e ≡ true
+failure-kind e (inl t) = or-l _ _ (crash-kind e t)
+failure-kind e (inr t) = or-r _ _ (lose-kind e t)
+
+-- an accepted event of some kinds
+abbrev accepted : (Event → Bool) → Answered → Bool
+accepted is t = is (t .event) and eqb (t .code) 0
+
+unfoldable pub each-finds : (Event → Bool) → (State → Bool) → List Answered → Bool
+each-finds is test ts = every (λ t. not (accepted is t) or test (t .found)) ts
+
+finds : {Is : Event → Type 0} {is : Event → Bool} → ((e : Event) → Is e → is e ≡ true) → (test : State → Bool) (ts : List Answered)
+    → each-finds is test ts ≡ true → Each (Finds Is test) ts
+unfolding each-finds every Each
+finds f test [] y = tt
+finds f test (t ∷ ts) y = (λ e n. if-so _ _ (and-l _ _ y) (both _ _ (f (t .event) e) (eq-eqb (t .code) 0 n)), finds f test ts (and-r _ _ y))
+
+unfoldable none-lost : List Answered → Bool
+none-lost ts = every (λ t. not (accepted is-lose t)) ts
+
+nothing-lost : (ts : List Answered) → none-lost ts ≡ true → NothingLost ts
+unfolding none-lost every Each
+nothing-lost [] y = tt
+nothing-lost (t ∷ ts) y = (λ e n. is-no _ (and-l _ _ y) (both _ _ (lose-kind (t .event) e) (eq-eqb (t .code) 0 n)), nothing-lost ts (and-r _ _ y))
 
 -- the kinds of the accepted crashes and losses
-abbrev strikes : List Answered → List ℕ
-strikes ts = map (λ (t : Answered). kind (t .event)) (only is-strike ts)
+abbrev failures : List Answered → List ℕ
+failures ts = map (λ (t : Answered). kind (t .event)) (only (accepted is-failure) ts)
 
 -- ---- a life: a write confirmed, its primary crashed and risen, shown again after a view, fetches, readies and mends; then the other brick of the pair
 -- is lost for good and another joins
 abbrev small : Settings
 small = record { places = 3; size = 8; entries = 2; chunks = 4 }
 
-abbrev each-bucket : (ℕ → Event) → List Event
-each-bucket f = map f (0 ∷ 1 ∷ 2 ∷ 3 ∷ 4 ∷ 5 ∷ 6 ∷ 7 ∷ 8 ∷ 9 ∷ 10 ∷ 11 ∷ 12 ∷ 13 ∷ 14 ∷ 15 ∷ [])
-
 abbrev each-place : (ℕ → Event) → List Event
 each-place f = map f (0 ∷ 1 ∷ 2 ∷ [])
 
-abbrev written : List Event
-written = Event.learn 0 ∷ Event.put 0 0 5 a1 ∷ Event.copy (key-of 1 0) ∷ Event.savelog 0 ∷ Event.savelog 1 ∷ Event.map 0 5 ∷ Event.send 5 ∷ Event.deliver 0
-    ∷ Event.savemap 0 ∷ Event.savemap 1 ∷ Event.done 0 5 ∷ []
-
 abbrev anew : List Event
-anew = Event.view ∷ each-bucket Event.fetch ++ each-bucket Event.ready ++ (Event.learn 0 ∷ each-place Event.savemap ++ each-place Event.mend)
+anew = all-ready ++ (Event.learn 0 ∷ each-place Event.savemap ++ each-place Event.mend)
 
 abbrev crashed : List Event
-crashed = written ++ (Event.crash 0 ∷ Event.rise 0 ∷ anew)
+crashed = written-5 ++ (Event.crash 0 ∷ Event.rise 0 ∷ anew)
 
 abbrev lost : List Event
 lost = crashed ++ (Event.get 0 5 ∷ Event.lose 1 ∷ Event.join 1 ∷ anew)
@@ -74,40 +96,108 @@ abbrev gives : Settings → List Event → List ℕ → Type 0
 gives c es l = same-numbers (last-of (format c) es) l ≡ true
 
 pub read-after-crash : gives small (crashed ++ (Event.get 0 5 ∷ [])) shown
-unfolding rules-open last-of same-numbers a1
+unfolding rules-open last-of same-numbers for-each a1
 read-after-crash = refl
 
 pub read-after-loss : gives small (lost ++ (Event.get 0 5 ∷ [])) shown
-unfolding rules-open last-of same-numbers a1
+unfolding rules-open last-of same-numbers for-each a1
 read-after-loss = refl
 
 -- a crash and a loss are accepted in it
-pub two-failures : strikes (answered (format small) lost) ≡ (14 ∷ 15 ∷ [])
-unfolding rules-open answered event-fields a1
+pub two-failures : failures (answered (format small) lost) ≡ (14 ∷ 15 ∷ [])
+unfolding rules-open answered event-fields for-each a1
 two-failures = refl
 
 -- and each finds a whole store: so there is no want in it
 pub premise-met : FailuresFindWhole (answered (format small) lost)
-premise-met = is-failure-found-whole (answered (format small) lost) computed
+premise-met = finds failure-kind whole (answered (format small) lost) computed
   where
-    computed : failure-found-whole (answered (format small) lost) ≡ true
-    computed = unfold rules-open answered event-fields failure-found-whole a1 in refl
+    computed : each-finds is-failure whole (answered (format small) lost) ≡ true
+    computed = unfold rules-open answered event-fields each-finds for-each a1 in refl
+
+small-passes : in-limits small ≡ true
+unfolding rules-open
+small-passes = refl
 
 pub never-refused-in-it : NeverRefusedForWant (λ g. false) (answered (format small) lost)
-never-refused-in-it = claim small computed lost .1 premise-met
-  where
-    computed : in-limits small ≡ true
-    computed = unfold rules-open in refl
+never-refused-in-it = claim small small-passes lost .for-want premise-met
 
--- ---- without the premise there is want
--- the one brick that has the chunk is lost
-pub bytes-refused : gives small (Event.learn 0 ∷ Event.put 0 2 5 a1 ∷ Event.savelog 2 ∷ Event.map 0 5 ∷ Event.send 5 ∷ Event.deliver 0
-    ∷ Event.savemap 0 ∷ Event.savemap 1 ∷ Event.lose 2 ∷ Event.get 0 5 ∷ []) (11 ∷ 0 ∷ [])
+-- ---- a write under way: its primary, the chunk's home, crashes between map and done, with the relay not yet taken; the block is read without it, then
+-- the brick returns, the write is confirmed and read again
+abbrev crashed-amid : List Event
+crashed-amid = written-5
+    ++ (Event.put 0 0 5 b2 ∷ Event.copy (key-of 1 1) ∷ Event.savelog 0 ∷ Event.savelog 1 ∷ Event.map 0 5 ∷ Event.send 5 ∷ Event.crash 0 ∷ Event.deliver 0 ∷ [])
+    ++ all-ready ++ (Event.learn 0 ∷ [])
+
+abbrev returned : List Event
+returned = crashed-amid ++ (Event.get 0 5 ∷ Event.rise 0 ∷ all-ready) ++ (Event.learn 0 ∷ Event.done 0 5 ∷ [])
+
+abbrev shown-amid : List ℕ
+shown-amid = 0 ∷ key-of 1 1 ∷ b2
+
+pub read-amid-write : gives small (crashed-amid ++ (Event.get 0 5 ∷ [])) shown-amid
+unfolding rules-open last-of same-numbers for-each a1 b2
+read-amid-write = refl
+
+pub confirmed-after-return : gives small returned (0 ∷ 0 ∷ [])
+unfolding rules-open last-of same-numbers for-each a1 b2
+confirmed-after-return = refl
+
+pub read-after-return : gives small (returned ++ (Event.get 0 5 ∷ [])) shown-amid
+unfolding rules-open last-of same-numbers for-each a1 b2
+read-after-return = refl
+
+-- the crash is accepted, and does not find a whole store
+pub crash-amid-write : failures (answered (format small) returned) ≡ (14 ∷ [])
+unfolding rules-open answered event-fields for-each a1 b2
+crash-amid-write = refl
+
+pub not-whole : each-finds is-crash whole (answered (format small) returned) ≡ false
+unfolding rules-open answered event-fields each-finds for-each a1 b2
+not-whole = refl
+
+-- it finds every place an up member and every bucket ready, and nothing is lost: so every get finds bytes
+pub finds-ready : CrashesFindReady (answered (format small) returned)
+finds-ready = finds crash-kind all-up-and-ready (answered (format small) returned) computed
+  where
+    computed : each-finds is-crash all-up-and-ready (answered (format small) returned) ≡ true
+    computed = unfold rules-open answered event-fields each-finds for-each a1 b2 in refl
+
+pub loses-nothing : NothingLost (answered (format small) returned)
+loses-nothing = nothing-lost (answered (format small) returned) computed
+  where
+    computed : none-lost (answered (format small) returned) ≡ true
+    computed = unfold rules-open answered event-fields none-lost for-each a1 b2 in refl
+
+pub all-found-in-it : Each BytesFound (answered (format small) returned)
+all-found-in-it = claim small small-passes returned .two-saved loses-nothing finds-ready
+
+-- ---- without the premises there is want
+-- a chunk at two bricks that are not of the block's pair
+abbrev four : Settings
+four = record { places = 4; size = 8; entries = 2; chunks = 4 }
+
+abbrev saved-apart : List Event
+saved-apart = Event.learn 0 ∷ Event.put 0 2 5 a1 ∷ Event.copy (key-of 3 0) ∷ Event.savelog 2 ∷ Event.savelog 3 ∷ Event.map 0 5 ∷ Event.send 5 ∷ Event.deliver 0
+    ∷ Event.savemap 0 ∷ Event.savemap 1 ∷ []
+
+-- both are lost
+pub bytes-refused : gives four (saved-apart ++ (Event.lose 2 ∷ Event.lose 3 ∷ Event.get 0 5 ∷ [])) (11 ∷ 0 ∷ [])
 unfolding rules-open last-of same-numbers a1
 bytes-refused = refl
 
+-- both are down: the second crash finds a place without an up member
+pub two-down : gives four (saved-apart ++ (Event.crash 2 ∷ Event.crash 3 ∷ Event.get 0 5 ∷ [])) (11 ∷ 0 ∷ [])
+unfolding rules-open last-of same-numbers a1
+two-down = refl
+
+-- one is lost, and the other crashes, with all up and ready again but nothing mended
+pub lost-then-crashed : gives four (saved-apart ++ (Event.lose 2 ∷ Event.join 2 ∷ all-ready) ++ (Event.learn 0 ∷ Event.crash 3 ∷ Event.get 0 5 ∷ []))
+    (11 ∷ 0 ∷ [])
+unfolding rules-open last-of same-numbers for-each a1
+lost-then-crashed = refl
+
 -- both bricks of a pair are lost, one after the other
-pub source-refused : gives (record { places = 4; size = 8; entries = 2; chunks = 4 })
-    (Event.lose 0 ∷ Event.view ∷ Event.lose 1 ∷ Event.view ∷ Event.fetch 0 ∷ []) (13 ∷ 0 ∷ [])
+pub source-refused : gives four (Event.lose 0 ∷ Event.view ∷ Event.lose 1 ∷ Event.view ∷ Event.fetch 0 ∷ []) (13 ∷ 0 ∷ [])
 unfolding rules-open last-of same-numbers
 source-refused = refl

@@ -1,5 +1,5 @@
--- Demand 3: the one claim about a list of events. The history, the ageing rule and the claim on want read events and their answers, and whether a crash or
--- loss found a whole store; nothing else of the store.
+-- Demand 3: the one claim about a list of events. The history and the ageing rule read events and their answers; the premises of the claims on want read,
+-- of the store that a crash or loss found, whether it was whole, or all up and ready; nothing else of the store.
 use mathlib.Core.Path.{_≡_}
 use mathlib.Core.List.{List, [], _∷_}
 use mathlib.Core.Bool.{Bool, true, false, cond}
@@ -15,19 +15,23 @@ use Rattle.rules.specs.State.{State}
 use Rattle.rules.specs.Format.{format}
 use Rattle.rules.specs.Reads.{zeros}
 use Rattle.rules.specs.Step.{Answer, step}
-use Rattle.rules.specs.Whole.{whole}
+use Rattle.rules.specs.Whole.{whole, all-up-and-ready}
 
 -- ---- the list: each event with its code and answer, as the step gives them from the store that the events before left
 pub record Answered : Type 0 where
   pub event : Event
   pub code : ℕ
   pub said : Answer
-  -- whether it found a whole store
-  pub found-whole : Bool
+  -- the store that it found
+  pub found : State
 
 unfoldable pub answered : State → List Event → List Answered
 answered s [] = []
-answered s (e ∷ es) = let o = step s e in record { event = e; code = o .code; said = o .said; found-whole = whole s } ∷ answered (o .after) es
+answered s (e ∷ es) = let o = step s e in record { event = e; code = o .code; said = o .said; found = s } ∷ answered (o .after) es
+
+unfoldable pub Each : (Answered → Type 0) → List Answered → Type 0
+Each P [] = Unit {0}
+Each P (t ∷ ts) = P t × Each P ts
 
 -- ---- history: for each block it has its writes, numbered from 1 (the newest first in the list), and a mark, first 0
 pub record Write : Type 0 where
@@ -115,14 +119,24 @@ unfoldable pub Ageing : ℕ → History → List Answered → Type 0
 Ageing size h [] = Unit {0}
 Ageing size h (t ∷ ts) = Obeys size h t × Ageing size (after-answer h (t .event) (t .code) (t .said)) ts
 
--- ---- for want
--- accepted crash and lose events each find a whole store
-abbrev pub IsCrashOrLose : Event → Type 0
-IsCrashOrLose e = (i : ℕ) × ((e ≡ Event.crash i) ⊎ (e ≡ Event.lose i))
+-- ---- what a crash or loss finds
+abbrev pub IsCrash : Event → Type 0
+IsCrash e = (i : ℕ) × (e ≡ Event.crash i)
 
-unfoldable pub FailuresFindWhole : List Answered → Type 0
-FailuresFindWhole [] = Unit {0}
-FailuresFindWhole (t ∷ ts) = (IsCrashOrLose (t .event) → t .code ≡ 0 → t .found-whole ≡ true) × FailuresFindWhole ts
+abbrev pub IsLose : Event → Type 0
+IsLose e = (i : ℕ) × (e ≡ Event.lose i)
+
+-- an accepted event of some kinds finds a store that passes a test
+abbrev pub Finds : (Event → Type 0) → (State → Bool) → Answered → Type 0
+Finds Is test t = Is (t .event) → t .code ≡ 0 → test (t .found) ≡ true
+
+-- ---- for want
+abbrev pub IsCrashOrLose : Event → Type 0
+IsCrashOrLose e = IsCrash e ⊎ IsLose e
+
+-- accepted crash and lose events each find a whole store
+abbrev pub FailuresFindWhole : List Answered → Type 0
+FailuresFindWhole = Each (Finds IsCrashOrLose whole)
 
 -- the buckets of which a view was accepted and no ready has been accepted since
 abbrev pub awaiting-by : (ℕ → Bool) → Meaning → (ℕ → Bool)
@@ -137,9 +151,12 @@ abbrev pub awaiting-ready : (ℕ → Bool) → Event → ℕ → (ℕ → Bool)
 awaiting-ready o e zero = awaiting-by o (meaning e)
 awaiting-ready o e (suc c) = o
 
+-- no get answers 11
+abbrev pub BytesFound : Answered → Type 0
+BytesFound t = (p b : ℕ) → t .event ≡ Event.get p b → t .code ≡ 11 → ⊥
+
 pub record NotRefusedForWant (o : ℕ → Bool) (t : Answered) : Type 0 where
-  -- no get answers 11
-  pub bytes : (p b : ℕ) → t .event ≡ Event.get p b → t .code ≡ 11 → ⊥
+  pub bytes : BytesFound t
   -- no fetch answers 13 where a view was accepted and no ready of its bucket has been accepted since
   pub source : (g : ℕ) → t .event ≡ Event.fetch g → o g ≡ true → t .code ≡ 13 → ⊥
 
@@ -147,8 +164,22 @@ unfoldable pub NeverRefusedForWant : (ℕ → Bool) → List Answered → Type 0
 NeverRefusedForWant o [] = Unit {0}
 NeverRefusedForWant o (t ∷ ts) = NotRefusedForWant o t × NeverRefusedForWant (awaiting-ready o (t .event) (t .code)) ts
 
+-- ---- two saved copies (request (i)): where nothing is ever lost and each crash finds every place an up member and every bucket ready, no read is refused for
+-- want of bytes, even with writes under way
+-- no lose event is accepted
+abbrev pub NothingLost : List Answered → Type 0
+NothingLost = Each (λ t. IsLose (t .event) → t .code ≡ 0 → ⊥)
+
+-- accepted crash events each find every place an up member and every bucket ready
+abbrev pub CrashesFindReady : List Answered → Type 0
+CrashesFindReady = Each (Finds IsCrash all-up-and-ready)
+
+-- ---- what is claimed of a list
+pub record Claimed (size : ℕ) (ts : List Answered) : Type 0 where
+  pub ageing : Ageing size no-history ts
+  pub for-want : FailuresFindWhole ts → NeverRefusedForWant (λ g. false) ts
+  pub two-saved : NothingLost ts → CrashesFindReady ts → Each BytesFound ts
+
 -- ---- the claim: format with any settings that question 1 passes, then take any list of events, all kinds, any order, refused ones included
 abbrev pub Claim : Type 0
-Claim = (c : Settings) → in-limits c ≡ true → (es : List Event) →
-    let ts = answered (format c) es in
-    Ageing (c .size) no-history ts × (FailuresFindWhole ts → NeverRefusedForWant (λ g. false) ts)
+Claim = (c : Settings) → in-limits c ≡ true → (es : List Event) → Claimed (c .size) (answered (format c) es)

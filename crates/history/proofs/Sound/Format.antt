@@ -29,7 +29,7 @@ first-in : (n i : ℕ) → is-first n i ≡ true → (0 < i) × (i ≤ n)
 unfolding is-first
 first-in n i y = (ltb-true 0 i (and-l _ _ y), leb-true i n (and-r _ _ y))
 
-in-first : (n i : ℕ) → 0 < i → i ≤ n → is-first n i ≡ true
+pub in-first : (n i : ℕ) → 0 < i → i ≤ n → is-first n i ≡ true
 unfolding is-first
 in-first n i a b = both _ _ (lt-ltb 0 i a) (le-leb i n b)
 

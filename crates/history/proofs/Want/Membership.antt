@@ -1,39 +1,35 @@
--- crash, lose, rise and join keep the invariant of the claim on want; a crash and a loss where they find a whole store.
+-- crash, lose and join keep the invariant of the claim on want; a crash and a loss where they find a whole store.
 use mathlib.Core.Path.{_≡_, refl, sym, _∙_}
 use mathlib.Core.List.{List, [], List·Memᴰ}
 use mathlib.Core.Bool.{Bool, true, false}
 use mathlib.Core.Logic.{inl, inr}
 use Prim.Native.Nat.{ℕ, suc, _<_}
 use native.Mathlib.Omega.{arith}
-use lib.ListN.{length}
-use borrow.Author.Tests.{ltb-true, leb-true}
+use borrow.Author.Tests.{ltb-true}
 use Rattle.lists.specs.Tests.{every}
 use Rattle.lists.specs.Columns.{upd}
 use Rattle.lists.proofs.Tests.{by, by-eq, clash, and-l, and-r, all-at, every-in}
 use Rattle.lists.proofs.Columns.{upd-same, upd-other, unflag, still-flagged}
 use Rattle.rules.specs.Limits.{buckets}
 use Rattle.rules.specs.Entries.{Entry, key-for, has}
-use Rattle.rules.specs.Chunks.{Chunk, saved-in}
+use Rattle.rules.specs.Chunks.{Chunk}
 use Rattle.rules.specs.Event.{Event}
 use Rattle.rules.specs.State.{State, Bucket, with-copies}
-use Rattle.rules.specs.Derived.{up-member, saved-at, primary-memory, nothing-pending}
-use Rattle.rules.specs.Membership.{crash-effect, lose-effect, rise-effect, join-effect}
-use Rattle.rules.specs.Whole.{saved-twice, whole}
+use Rattle.rules.specs.Derived.{up-member, saved-twice, primary-memory, nothing-pending}
+use Rattle.rules.specs.Membership.{crash-effect, lose-effect, join-effect}
+use Rattle.rules.specs.Whole.{whole}
 use Rattle.rules.specs.Step.{rule}
 use Rattle.rules.proofs.Step.{Yes}
-use Rattle.rules.proofs.Derived.{ids-in, two-ids, saved-at-in, agree-all}
+use Rattle.rules.proofs.Derived.{agree-all}
 use Rattle.rules.proofs.Entries.{has-entry, no-entry}
 use Rattle.rules.proofs.Sound.{Sound}
 use Rattle.history.specs.Claim.{History}
-use Rattle.history.proofs.Copies.{ReliedOn, Copies, copies-map, copies-crashed, copies-blank}
-use Rattle.history.proofs.Facts.{present-born, brick-here, not-joined, joined-relied, lost-relied, emptied}
+use Rattle.history.proofs.Facts.{present-born, brick-here, not-joined}
 use Rattle.history.proofs.AgeingInvariant.{AgeingInvariant}
-use Rattle.history.proofs.WantInvariant.{Kept, KeptBy, Full, PairWant, BucketWant, WantInvariant}
-use Rattle.history.proofs.Want.NothingPending.{Settled, copies-mapped, live-mapped, settled, none-waits}
-
-pub rise-want : (s : State) (o : ℕ → Bool) → WantInvariant s o → (i : ℕ) → WantInvariant (rule s (Event.rise i) .after) o
-unfolding rule rise-effect
-rise-want s o w i = record { waiting = w .waiting; buckets = w .buckets }
+use Rattle.history.proofs.WantInvariant.{Kept, KeptBy, Uses, Full, PairWant, BucketWant, WantInvariant}
+use Rattle.history.proofs.Want.Uses.{uses-map, crash-uses, lose-uses, join-uses}
+use Rattle.history.proofs.Want.Saved.{kept-by, twice-kept}
+use Rattle.history.proofs.Want.NothingPending.{Settled, Follows, wants-follow, settled, uses-mapped}
 
 -- ---- a crash or loss that finds a whole store
 module _ (s : State) (h : History) (v : AgeingInvariant s h) (z : Sound s) (o : ℕ → Bool) (w : WantInvariant s o) (was : whole s ≡ true) where
@@ -41,18 +37,21 @@ module _ (s : State) (h : History) (v : AgeingInvariant s h) (z : Sound s) (o : 
   unfolding whole
   calms = all-at _ _ (and-r _ _ (and-l _ _ was))
 
+  follows : (g : ℕ) → g < buckets (s .settings) → s .bucket g .ready ≡ true → Follows s g (s .bucket g)
+  follows = wants-follow s o (w .buckets)
+
   calmed : (g : ℕ) → g < buckets (s .settings) → Settled s g (s .bucket g)
-  calmed = settled s h v o w calms
+  calmed = settled s h v calms follows
 
   full : Full (s .settings .places) (s .ids) (s .bricks .member)
   unfolding whole
   full p l = and-r _ _ (all-at (s .settings .places) (λ p. up-member s (s .ids p)) (and-l _ _ (and-l _ _ was)) p l)
 
-  twice : (g : ℕ) → g < buckets (s .settings) → (e : Entry) → List·Memᴰ e (primary-memory (s .bucket g)) → 1 < length (saved-at s (e .key))
-  unfolding whole saved-twice
+  twice : (g : ℕ) → g < buckets (s .settings) → (e : Entry) → List·Memᴰ e (primary-memory (s .bucket g)) → saved-twice s (e .key) ≡ true
+  unfolding whole
   twice g l e m =
       let t = all-at (buckets (s .settings)) (λ j. every (λ a. saved-twice s (a .key)) (primary-memory (s .bucket j))) (and-r _ _ was) g l in
-      leb-true _ _ (every-in (λ (a : Entry). saved-twice s (a .key)) (primary-memory (s .bucket g)) t e m)
+      every-in (λ (a : Entry). saved-twice s (a .key)) (primary-memory (s .bucket g)) t e m
 
   module _ (x : ℕ) where
     abbrev member′ : ℕ → Bool
@@ -61,20 +60,18 @@ module _ (s : State) (h : History) (v : AgeingInvariant s h) (z : Sound s) (o : 
     -- without brick x every mapped key is kept
     kept-elsewhere : (l : List Chunk) (g : ℕ) → g < buckets (s .settings) → (b : ℕ)
         → Kept member′ (upd (s .bricks .log) x l) (key-for (primary-memory (s .bucket g)) b)
-    unfolding saved-at
     kept-elsewhere l g n b =
         by (has (primary-memory (s .bucket g)) b)
         (λ y.
         let e = has-entry (primary-memory (s .bucket g)) b y in
         let k = e .0 .key in
-        let t = two-ids (s .given) (s .bricks .member) (λ i. saved-in (s .bricks .log i) k) x (twice g n (e .0) (e .1)) in
-        let u = saved-at-in s k (t .0) (t .1) in
-        rw (e .3) (inr (record {
-          who = t .0;
-          is-member = still-flagged (s .bricks .member) x (t .0) (t .2) (ids-in _ _ _ (u .0) .2);
-          saved = rw (upd-other (s .bricks .log) x (t .0) l (t .2)) (u .1);
-        })))
+        rw (e .3) (kept-by k (λ i m t. (m, rw (upd-other (s .bricks .log) x i l (unflag (s .bricks .member) x i m .1)) t))
+        (twice-kept s k (twice g n (e .0) (e .1)) x)))
         (λ n. inl (no-entry _ b n))
+
+    -- so is every key in use
+    uses-elsewhere : (l : List Chunk) → Uses (Kept member′ (upd (s .bricks .log) x l)) s
+    uses-elsewhere l = uses-mapped s h v calms follows (KeptBy s) (w .uses) _ (kept-elsewhere l)
 
     -- the last ready pair keeps a member, and place i holds none
     module _ (ids′ : ℕ → ℕ) (i : ℕ) (inside : i < s .settings .places) (gone : member′ (ids′ i) ≡ true → ⊥) (g : ℕ) (l : g < buckets (s .settings)) where
@@ -93,25 +90,14 @@ module _ (s : State) (h : History) (v : AgeingInvariant s h) (z : Sound s) (o : 
             all = λ _ f. absurd (gone (f i inside));
           }
 
-      -- what is left of the bucket: where the primary crashes or is lost, the backup shows every mapped key
-      bucket-after-failure : (log : List Chunk) (present′ : ℕ → Bool) (memory′ disk′ : ℕ → List Entry)
-          → Copies (λ _. Kept member′ (upd (s .bricks .log) x log)) (ReliedOn present′ own) memory′ disk′
+      -- where the primary crashes or is lost, the backup shows every mapped key
+      bucket-after-failure : (memory′ disk′ : ℕ → List Entry)
           → ((b : ℕ) → member′ (own .primary) ≡ false → key-for (memory′ (own .backup)) b ≡ key-for (primary-memory own) b)
-          → BucketWant (Kept member′ (upd (s .bricks .log) x log)) (s .settings .places) ids′ present′ member′ (s .bag) (s .view) (o g) g
-          (with-copies own memory′ disk′)
-      bucket-after-failure log present′ memory′ disk′ kept shows = record {
+          → BucketWant (s .settings .places) ids′ member′ (s .bag) (s .view) (o g) g (with-copies own memory′ disk′)
+      bucket-after-failure memory′ disk′ shows = record {
         pair = pair-after-failure;
-        copies = kept;
-        live-kept = live-mapped (calmed g l) _ (kept-elsewhere log g l);
         matches-backup = λ _ n r m t. calmed g l .live-kept r m t ∙ sym (shows (r .block) n);
       }
-
-    copies-elsewhere : (log : List Chunk) (g : ℕ) → g < buckets (s .settings)
-        → let k = s .bucket g in Copies (λ _. Kept member′ (upd (s .bricks .log) x log)) (ReliedOn (s .bricks .present) k) (k .memory) (k .disk)
-    copies-elsewhere log g l = copies-mapped (calmed g l) _ (kept-elsewhere log g l) (w .buckets g l .copies)
-
-    none-waiting : (j : ℕ) (e : Entry) → List·Memᴰ e (upd (s .bricks .buffer) x [] j) → ⊥
-    none-waiting j e m = none-waits s h v o w calms j e (emptied (s .bricks .buffer) x j e m)
 
   pub crash-want : (i : ℕ) → Yes s (Event.crash i) → WantInvariant (rule s (Event.crash i) .after) o
   unfolding rule crash-effect upd
@@ -119,10 +105,10 @@ module _ (s : State) (h : History) (v : AgeingInvariant s h) (z : Sound s) (o : 
       let x = s .ids i in
       let gone : member′ x x ≡ true → ⊥ = λ m. unflag (s .bricks .member) x x m .1 refl in
       record {
-        waiting = λ j e m. absurd (none-waiting x j e m);
+        uses = crash-uses _ s (uses-elsewhere x _) i;
         buckets = λ g l.
             let k = s .bucket g in
-            bucket-after-failure x (s .ids) i (search ltb-true) gone g l _ _ _ _ (copies-crashed _ (copies-elsewhere x _ g l) x) (λ b _.
+            bucket-after-failure x (s .ids) i (search ltb-true) gone g l _ _ (λ b _.
             let agreed = agree-all k b (calmed g l .one-key b) in
             by-eq (k .backup) x (λ q e. rw (q, ← e) (agreed .2)) (λ q _. rw q (agreed .1)));
       }
@@ -132,14 +118,14 @@ module _ (s : State) (h : History) (v : AgeingInvariant s h) (z : Sound s) (o : 
   lose-want i y =
       let x = s .ids i in
       record {
-        waiting = λ j e m. absurd (none-waiting x j e m);
+        uses = lose-uses _ s (uses-elsewhere x _) i;
         buckets = λ g l.
             let k = s .bucket g in
             let c = calmed g l in
-            bucket-after-failure x _ i (search ltb-true) (no-member x i) g l _ _ _ _ (copies-blank _ (copies-elsewhere x _ g l) x (lost-relied s x k)) (λ b n.
+            bucket-after-failure x _ i (search ltb-true) (no-member x i) g l _ _ (λ b n.
             let primary = rw (← c .same .one) at (w .buckets g l .pair .all (c .ready) full .0) in
-            let struck : k .primary ≡ x = by-eq (k .primary) x (λ _ e. e) (λ _ d. clash n (still-flagged (s .bricks .member) x _ d primary)) in
-            let apart : k .backup ≡ x → ⊥ = λ e. z .buckets-ok g l .pair .apart (struck ∙ sym e) in
+            let lost : k .primary ≡ x = by-eq (k .primary) x (λ _ e. e) (λ _ d. clash n (still-flagged (s .bricks .member) x _ d primary)) in
+            let apart : k .backup ≡ x → ⊥ = λ e. z .buckets-ok g l .pair .apart (lost ∙ sym e) in
             rw (upd-other (k .memory) x (k .backup) [] apart) (agree-all k b (c .one-key b) .1));
       }
     where
@@ -159,17 +145,12 @@ module _ (s : State) (z : Sound s) (o : ℕ → Bool) (w : WantInvariant s o) wh
   still-member j y = still-flagged (s .bricks .member) new j (old j y) y
 
   still-kept : (k : ℕ) → KeptBy s k → Kept (upd (s .bricks .member) new false) (upd (s .bricks .log) new []) k
-  still-kept k (inl e) = inl e
-  still-kept k (inr t) = inr (record {
-    who = t .who;
-    is-member = still-member (t .who) (t .is-member);
-    saved = rw (upd-other (s .bricks .log) new (t .who) [] (old _ (t .is-member))) (t .saved);
-  })
+  still-kept k = kept-by k (λ i m t. (still-member i m, rw (upd-other (s .bricks .log) new i [] (old i m)) t))
 
   pub join-want : (i : ℕ) → Yes s (Event.join i) → WantInvariant (rule s (Event.join i) .after) o
   unfolding rule join-effect
   join-want i y = record {
-    waiting = λ j e m. still-kept _ (w .waiting j e (emptied (s .bricks .buffer) new j e m));
+    uses = uses-map still-kept (join-uses (KeptBy s) s (w .uses) z i);
     buckets = λ g l.
         let k = s .bucket g in
         let u = w .buckets g l in
@@ -180,8 +161,6 @@ module _ (s : State) (z : Sound s) (o : ℕ → Bool) (w : WantInvariant s o) wh
             one = elim (u .pair .one) [ inl m ↦ inl (still-member _ m) | inr m ↦ inr (still-member _ m) ];
             all = λ _ f. absurd (unflag (s .bricks .member) new new (rw (upd-same (s .ids) i new) at (f i (search ltb-true))) .1 refl);
           };
-          copies = copies-map _ _ (λ _. still-kept) (λ _ r. r) (copies-blank _ (u .copies) new (joined-relied s z g l));
-          live-kept = λ r m t. still-kept _ (u .live-kept r m t);
           matches-backup = λ ready n r m t.
               let backup : k .backup ≡ new → ⊥ = not-joined s _ (pair .two-born) in
               let primary : k .primary ≡ new → ⊥ = not-joined s _ (pair .one-born) in
