@@ -12,7 +12,7 @@ use Rattle.rules.specs.Format.{format}
 use Rattle.layout.specs.Store.{decode-bytes, sound-bytes}
 use Rattle.lent.specs.Stores.{StoreOf}
 use Rattle.lent.proofs.Stores as stores
-use Rattle.history.specs.Claim.{Answered, no-history, Ageing, FailuresFindWhole, NeverRefusedForWant}
+use Rattle.history.specs.Claim.{Answered, Claimed}
 use Rattle.calls.specs.Outcome.{outcome}
 use Rattle.calls.specs.Claim.{answered-calls, NeverTwo}
 use Rattle.calls.proofs.Calls.{call-keeps, kept-of}
@@ -111,5 +111,5 @@ pub batches-claim : BatchesClaim
 batches-claim c bytes b y code store f requests =
     let h = formatted c bytes b y code store f in
     let v : StoreOf c store = stores.store-of store (store-sound store (h .passes)) c (sym (held-settings h ∙ (unfold format in refl))) in
-    subst (λ (ts : List Answered). Ageing (c .size) no-history ts × (FailuresFindWhole ts → NeverRefusedForWant (λ g. false) ts) × NeverTwo ts)
+    subst (λ (ts : List Answered). Claimed (c .size) ts × NeverTwo ts)
     (sym (requests-answered c store v (h .bytes) requests)) (calls-claim c bytes b y code store f (calls-made (c .size) store requests))

@@ -16,6 +16,7 @@ use Rattle.lists.proofs.Tests.{by, clash, and-l, and-r, both, yes-first, some-a
 use Rattle.words.specs.Words.{words}
 use Rattle.rules.specs.declared.settings.Settings.{Settings}
 use Rattle.rules.specs.Event.{Event}
+use Rattle.rules.specs.State.{State}
 use Rattle.rules.specs.Call.{get-kind}
 use Rattle.layout.specs.Layout.{settings-of}
 use Rattle.layout.specs.Store.{decode-bytes, sound-bytes}
@@ -33,10 +34,10 @@ use Rattle.batch.proofs.Blocks.{block-with, block-same, apart, with-len
 use Rattle.batch.proofs.Turns.{turn-keeps, ran-unsound, ran-none, ran-all}
 use Rattle.step.proofs.Areas.{area-left, area-length}
 
-same-answered : (e : Event) (w : Bool) {code code' key key' : ℕ} {bytes bytes' : List ℕ} → code ≡ code' → key ≡ key' → bytes ≡ bytes'
-    → _≡_ {A = Answered} (record { event = e; code = code; said = record { key = key; bytes = bytes }; found-whole = w })
-    (record { event = e; code = code'; said = record { key = key'; bytes = bytes' }; found-whole = w })
-same-answered e w p q s = rw (p, q, s) refl
+same-answered : (e : Event) (found : State) {code code' key key' : ℕ} {bytes bytes' : List ℕ} → code ≡ code' → key ≡ key' → bytes ≡ bytes'
+    → _≡_ {A = Answered} (record { event = e; code = code; said = record { key = key; bytes = bytes }; found = found })
+    (record { event = e; code = code'; said = record { key = key'; bytes = bytes' }; found = found })
+same-answered e found p q s = rw (p, q, s) refl
 
 none-at : (n : ℕ) (test : ℕ → Bool) (k : ℕ) → k < n → any-below n test ≡ false → test k ≡ false
 none-at n test k l f = by (test k) (λ y. clash f (some-at n test k l y)) (λ z. z)

@@ -11,9 +11,8 @@ use Rattle.rules.specs.declared.settings.Settings.{Settings}
 use Rattle.rules.specs.Event.{Event}
 use Rattle.rules.specs.Call.{Call, get-kind, event-called}
 use Rattle.rules.specs.Step.{only-key}
-use Rattle.rules.specs.Whole.{whole}
 use Rattle.layout.specs.Store.{decode-bytes}
-use Rattle.history.specs.Claim.{Answered, no-history, Ageing, FailuresFindWhole, NeverRefusedForWant}
+use Rattle.history.specs.Claim.{Answered, Claimed}
 use Rattle.store.specs.Calls.{may-format, Formatted}
 use Rattle.calls.specs.Outcome.{Outcome, outcome}
 use Rattle.calls.specs.Claim.{answered-calls, NeverTwo}
@@ -81,17 +80,17 @@ answered-from size batch left i (suc k) l =
       event = event-called size (call-at size batch i (l .area));
       code = getD (left .answers) (answer-words * i) 0;
       said = record { key = getD (left .answers) (answer-words * i + 1) 0; bytes = seen size batch left i (turn size batch i l) };
-      found-whole = whole (decode-bytes (l .store));
+      found = decode-bytes (l .store);
     }
     ∷ answered-from size batch left (suc i) k (turn size batch i l)
 
 -- that the store is not sound
-abbrev pub answered-unsound : Answered
-answered-unsound = record { event = Event.unknown; code = 2; said = only-key 0; found-whole = false }
+abbrev pub answered-unsound : List ℕ → Answered
+answered-unsound bs = record { event = Event.unknown; code = 2; said = only-key 0; found = decode-bytes bs }
 
 -- what a batch was answered, by what it left: one for each event; a batch that is refused with 3 was answered nothing of any block
 unfoldable pub answered-batch : ℕ → Batch → Lent → Ran → List Answered
-answered-batch size batch l r = cond (eqb (r .code) 0) (answered-from size batch (r .left) 0 (count batch) l) (cond (eqb (r .code) 2) (answered-unsound ∷ []) [])
+answered-batch size batch l r = cond (eqb (r .code) 0) (answered-from size batch (r .left) 0 (count batch) l) (cond (eqb (r .code) 2) (answered-unsound (l .store) ∷ []) [])
 
 pub data Request : Type 0 where
   single : Call → Request
@@ -112,4 +111,4 @@ abbrev pub BatchesClaim : Type 0
 BatchesClaim = (c : Settings) (lent : List ℕ) → Below 256 lent → may-format c lent ≡ true →
     (code : ℕ) (store : List ℕ) → Formatted c lent code store → (requests : List Request) →
     let ts = answered-requests (c .size) store requests in
-    Ageing (c .size) no-history ts × (FailuresFindWhole ts → NeverRefusedForWant (λ g. false) ts) × NeverTwo ts
+    Claimed (c .size) ts × NeverTwo ts
