@@ -35,7 +35,9 @@ pub worked : trace-text
     ∷ ascii "learn,0"
     ∷ ascii "get,0,5"
     ∷ ascii "put,0,0,5,a1a1a1a1a1a1a1a1"
+    ∷ ascii "copy,72057594037927936"
     ∷ ascii "savelog,0"
+    ∷ ascii "savelog,1"
     ∷ ascii "map,0,5"
     ∷ ascii "get,0,5"
     ∷ []))
@@ -46,7 +48,9 @@ pub worked : trace-text
     ∷ ascii "3,0,72057594037927936,-"
     ∷ ascii "4,0,0,-"
     ∷ ascii "5,0,0,-"
-    ∷ ascii "6,8,0,-"
+    ∷ ascii "6,0,0,-"
+    ∷ ascii "7,0,0,-"
+    ∷ ascii "8,8,0,-"
     ∷ [])
 unfolding rules-open lines-open text can-trace header refused event-in answers with-settings trace-lines trace-text
 worked = refl
