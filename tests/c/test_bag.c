@@ -9,7 +9,9 @@ static lent mapped(position position)
     static const row rows[] = {
         {DISK_LEARN, 0, 0, 0, 0, NO_KEY},
         {DISK_PUT, 0, 0, 5, 0, KEY(1, 0)},
+        {DISK_COPY, KEY(1, 0), 0, 0, 0, NO_KEY},
         {DISK_SAVELOG, 0, 0, 0, 0, NO_KEY},
+        {DISK_SAVELOG, 1, 0, 0, 0, NO_KEY},
         {DISK_MAP, 0, 5, 0, 0, NO_KEY},
     };
     lent lent = formatted(position, least);

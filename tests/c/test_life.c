@@ -34,6 +34,7 @@ static void write_5(lent *lent)
         {DISK_MAP, 0, 5, 0, DISK_NO_CHUNK, NO_KEY},
         {DISK_COPY, KEY(1, 0), 0, 0, DISK_OK, NO_KEY},
         {DISK_SAVELOG, 0, 0, 0, DISK_OK, NO_KEY},
+        {DISK_MAP, 0, 5, 0, DISK_NO_CHUNK, NO_KEY},
         {DISK_SAVELOG, 1, 0, 0, DISK_OK, NO_KEY},
         {DISK_DONE, 0, 5, 0, DISK_OTHER_KEY, NO_KEY},
         {DISK_MAP, 0, 5, 0, DISK_OK, NO_KEY},

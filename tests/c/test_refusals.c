@@ -5,7 +5,7 @@
 #define PROXY_BLOCKS ((uint64_t)1 << 49)
 
 /* Block 5 is put at place 0 and saved there. */
-static void put_5(lent *lent)
+static void save_once(lent *lent)
 {
     static const row rows[] = {
         {DISK_LEARN, 0, 0, 0, DISK_OK, NO_KEY},
@@ -13,6 +13,14 @@ static void put_5(lent *lent)
         {DISK_SAVELOG, 0, 0, 0, DISK_OK, NO_KEY},
     };
     WALK(lent, rows);
+}
+
+/* And copied to place 1 and saved there too. */
+static void put_5(lent *lent)
+{
+    save_once(lent);
+    accept(lent, DISK_COPY, KEY(1, 0), 0);
+    accept(lent, DISK_SAVELOG, 1, 0);
 }
 
 static void map_5(lent *lent)
@@ -63,7 +71,10 @@ static void fill_bucket_0(lent *lent)
 {
     fill_log_0(lent);
     accept(lent, DISK_LEARN, 0, 0);
+    accept(lent, DISK_COPY, KEY(1, 0), 0);
+    accept(lent, DISK_COPY, KEY(1, 1), 0);
     accept(lent, DISK_SAVELOG, 0, 0);
+    accept(lent, DISK_SAVELOG, 1, 0);
     accept(lent, DISK_MAP, 0, 5);
     accept(lent, DISK_MAP, 0, 6);
 }
@@ -115,6 +126,7 @@ static const struct {
     {map_5, {DISK_MAP, 0, 5, 0, DISK_PENDING, NO_KEY}},
     {map_5, {DISK_MAP, 0, 6, 0, DISK_WRONG_ITEM, NO_KEY}},
     {fill_bucket_0, {DISK_MAP, 0, 7, 0, DISK_NO_ROOM, NO_KEY}},
+    {save_once, {DISK_MAP, 0, 5, 0, DISK_NO_CHUNK, NO_KEY}},
     {nothing, {DISK_SEND, 5, 0, 0, DISK_WRONG_STATE, NO_KEY}},
     {begin_view, {DISK_SEND, 5, 0, 0, DISK_NOT_READY, NO_KEY}},
     {fill_bag, {DISK_SEND, 6, 0, 0, DISK_NO_ROOM, NO_KEY}},

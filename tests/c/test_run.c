@@ -88,9 +88,10 @@ static void blocks_at_the_ends(position position, settings settings)
 static void blocks_that_overlap(position position)
 {
     static const row write[] = {
-        {DISK_LEARN, 0, 0, 0, DISK_OK, NO_KEY},     {DISK_PUT, 0, 0, 5, DISK_OK, KEY(1, 0)}, {DISK_SAVELOG, 0, 0, 0, DISK_OK, NO_KEY},
-        {DISK_MAP, 0, 5, 0, DISK_OK, NO_KEY},       {DISK_SEND, 5, 0, 0, DISK_OK, NO_KEY},   {DISK_DELIVER, 0, 0, 0, DISK_OK, 1},
-        {DISK_SAVEMAP, 0, 0, 0, DISK_OK, NO_KEY},   {DISK_SAVEMAP, 1, 0, 0, DISK_OK, NO_KEY}, {DISK_DONE, 0, 5, 0, DISK_OK, NO_KEY},
+        {DISK_LEARN, 0, 0, 0, DISK_OK, NO_KEY},   {DISK_PUT, 0, 0, 5, DISK_OK, KEY(1, 0)},   {DISK_COPY, KEY(1, 0), 0, 0, DISK_OK, NO_KEY},
+        {DISK_SAVELOG, 0, 0, 0, DISK_OK, NO_KEY}, {DISK_SAVELOG, 1, 0, 0, DISK_OK, NO_KEY},  {DISK_MAP, 0, 5, 0, DISK_OK, NO_KEY},
+        {DISK_SEND, 5, 0, 0, DISK_OK, NO_KEY},    {DISK_DELIVER, 0, 0, 0, DISK_OK, 1},       {DISK_SAVEMAP, 0, 0, 0, DISK_OK, NO_KEY},
+        {DISK_SAVEMAP, 1, 0, 0, DISK_OK, NO_KEY}, {DISK_DONE, 0, 5, 0, DISK_OK, NO_KEY},
     };
     size_t size = least.size;
     lent lent = formatted(position, least);

@@ -75,7 +75,10 @@ static void pairs(position position)
 static void likeness(position position)
 {
     lent one = formatted(position, least), other = formatted(position, least), wider = formatted(position, most_places);
-    const row put[] = {{DISK_LEARN, 0, 0, 0, DISK_OK, NO_KEY}, {DISK_PUT, 0, 0, 5, DISK_OK, KEY(1, 0)}, {DISK_SAVELOG, 0, 0, 0, DISK_OK, NO_KEY}};
+    const row put[] = {
+        {DISK_LEARN, 0, 0, 0, DISK_OK, NO_KEY},   {DISK_PUT, 0, 0, 5, DISK_OK, KEY(1, 0)},  {DISK_COPY, KEY(1, 0), 0, 0, DISK_OK, NO_KEY},
+        {DISK_SAVELOG, 0, 0, 0, DISK_OK, NO_KEY}, {DISK_SAVELOG, 1, 0, 0, DISK_OK, NO_KEY},
+    };
     EXPECT(alike(&one.store, &other.store) == 0 && alike(&one.store, &one.store) == 0 && alike(&one.store, &wider.store) == 1);
     WALK(&one, put);
     EXPECT(alike(&one.store, &other.store) == 0);

@@ -193,9 +193,11 @@ static void printed_trace(position position)
         {"learn,0\n", "1,0,0,-"},
         {"get,0,5\n", "2,0,0,0000000000000000"},
         {"put,0,0,5,a1a1a1a1a1a1a1a1\n", "3,0,72057594037927936,-"},
-        {"savelog,0\n", "4,0,0,-"},
-        {"map,0,5\n", "5,0,0,-"},
-        {"get,0,5\n", "6,8,0,-"},
+        {"copy,72057594037927936\n", "4,0,0,-"},
+        {"savelog,0\n", "5,0,0,-"},
+        {"savelog,1\n", "6,0,0,-"},
+        {"map,0,5\n", "7,0,0,-"},
+        {"get,0,5\n", "8,8,0,-"},
     };
     lent lent = formatted(position, least);
     for (size_t i = 0; i < COUNT(trace); i++) {

@@ -24,7 +24,7 @@ fn by_hand() {
     assert_eq!(compared(&fresh.bytes, &fresh.bytes), 0);
     // bytes that are not in use do not count
     assert_eq!(compared(&fresh.bytes, &Lent::new(&mut r, SMALL).bytes), 0);
-    let put = "learn,0 put,0,0,5,a1a1a1a1a1a1a1a1 savelog,0";
+    let put = "learn,0 put,0,0,5,a1a1a1a1a1a1a1a1 copy,72057594037927936 savelog,0 savelog,1";
     let rows = [
         // items, logs and known views do not count
         (put.to_string(), 0),

@@ -39,7 +39,7 @@ fn by_hand() {
     let mut r = Random::new(51);
     let mut lent = Lent::new(&mut r, Settings::new(3, 8, 2, 4));
     assert_eq!(handed_out(&mut r, &lent.bytes, 0), BagAnswer { code: 0, count: 0 });
-    lent.accepted("learn,0 put,0,0,5,a1a1a1a1a1a1a1a1 savelog,0 map,0,5 send,5 send,5");
+    lent.accepted("learn,0 put,0,0,5,a1a1a1a1a1a1a1a1 copy,72057594037927936 savelog,0 savelog,1 map,0,5 send,5 send,5");
     let mut records = [[7; 5]; 3];
     assert_eq!(bag(&lent.bytes, &mut records), BagAnswer { code: 0, count: 2 });
     assert_eq!(records, [[1, 0, 1, 5, 1 << 56], [1, 0, 2, 5, 1 << 56], [7; 5]]);

@@ -33,13 +33,13 @@ fn shown(key: u64, data: &str) -> (u64, u64, String) {
 #[test]
 fn printed_trace() {
     let mut store = Lent::new(&mut Random::new(1), SMALL);
-    let lines = ["learn,0", "get,0,5", "put,0,0,5,a1a1a1a1a1a1a1a1", "savelog,0", "map,0,5", "get,0,5"];
+    let lines = ["learn,0", "get,0,5", "put,0,0,5,a1a1a1a1a1a1a1a1", "copy,72057594037927936", "savelog,0", "savelog,1", "map,0,5", "get,0,5"];
     let mut text = "line,code,key,data\n".to_string();
     for (i, l) in lines.iter().enumerate() {
         let (code, key, data) = store.line(l);
         text += &format!("{},{code},{key},{data}\n", i + 1);
     }
-    let printed = "line,code,key,data\n1,0,0,-\n2,0,0,0000000000000000\n3,0,72057594037927936,-\n4,0,0,-\n5,0,0,-\n6,8,0,-\n";
+    let printed = "line,code,key,data\n1,0,0,-\n2,0,0,0000000000000000\n3,0,72057594037927936,-\n4,0,0,-\n5,0,0,-\n6,0,0,-\n7,0,0,-\n8,8,0,-\n";
     assert_eq!(text, printed);
 }
 
@@ -67,9 +67,10 @@ fn whole_writes() {
 /// Lists from the rules' worked examples, with what the last event is told.
 #[test]
 fn slips() {
-    let put_5 = format!("learn,0 put,0,0,5,{A1} savelog,0");
+    let saved_once = format!("learn,0 put,0,0,5,{A1} savelog,0");
+    let put_5 = format!("learn,0 put,0,0,5,{A1} copy,{KEY} savelog,0 savelog,1");
     let mapped_5 = format!("{put_5} map,0,5");
-    let written_5 = format!("learn,0 put,0,0,5,{A1} copy,{KEY} savelog,0 savelog,1 map,0,5 send,5 deliver,0 savemap,0 savemap,1 done,0,5");
+    let written_5 = format!("{mapped_5} send,5 deliver,0 savemap,0 savemap,1 done,0,5");
     let four = format!("put,0,0,5,{A1} put,0,0,6,{A1} put,0,0,7,{A1} put,0,0,8,{A1}");
     let ids = "lose,0 join,0 ".repeat(252);
     let bag = " send,5".repeat(64);
@@ -105,6 +106,12 @@ fn slips() {
         (3, format!("put,0,1,5,{A1} put,0,1,6,{A1} put,0,1,7,{A1} put,0,1,8,{A1} copy,{KEY}"), refused(10)),
         (3, format!("copy,{KEY}"), refused(11)),
         (3, format!("learn,0 put,0,0,5,{A1} map,0,5"), refused(11)),
+        // two members have the chunk saved, or it is not mapped
+        (3, format!("{saved_once} map,0,5"), refused(11)),
+        (3, format!("{saved_once} copy,{KEY} map,0,5"), refused(11)),
+        (3, format!("{put_5} crash,1 map,0,5"), refused(11)),
+        (3, format!("{put_5} crash,1 rise,1 map,0,5"), refused(11)),
+        (3, mapped_5.clone(), done(0)),
         (3, format!("{mapped_5}{bag} send,6"), refused(10)),
         (3, format!("{mapped_5} send,6"), refused(13)),
         (3, format!("{ids}join,0"), refused(12)),
@@ -210,7 +217,7 @@ fn data_of_a_put() {
 #[test]
 fn no_room_at_the_backup() {
     let mut store = Lent::new(&mut Random::new(10), SMALL);
-    store.accepted(&format!("learn,0 put,0,0,5,{A1} savelog,0 map,0,5 send,5"));
+    store.accepted(&format!("learn,0 put,0,0,5,{A1} copy,{KEY} savelog,0 savelog,1 map,0,5 send,5"));
     let memory = model::AT_PLACES + SMALL.place() + model::AT_COPIES;
     for (i, word) in [2, 6, KEY, 7, KEY].into_iter().enumerate() {
         model::put(&mut store.bytes, memory + i, word);
@@ -226,10 +233,10 @@ fn field(r: &mut Random, kind: u64, which: usize, store: &Lent) -> u64 {
     if r.one_in(20) {
         return r.number();
     }
-    let block = |r: &mut Random| r.below(4) << 49 | r.below(3) << 10 | r.below(3);
+    let block = |r: &mut Random| r.below(4) << 49 | r.below(2) << 10 | r.below(2);
     match (kind, which) {
         (1, 2) | (4, 1) | (9..=11, 1) | (5, 0) => block(r),
-        (2, 0) => r.among(1, store.settings.places + 2) << 56 | r.below(6) + 1024 * r.below(2),
+        (2, 0) => r.among(1, store.settings.places + 1) << 56 | r.below(3) + 1024 * r.one_in(8) as u64,
         (6..=7, 0) => r.below(store.relays() + 1),
         (1 | 4 | 9..=13, 0) => r.below(4),
         (19..=20, 0) => r.below(4),

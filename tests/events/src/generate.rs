@@ -4,14 +4,38 @@ mod plans;
 mod start;
 mod tasks;
 
+pub use plans::{random, under_way, Plan};
 pub use start::{edited, settings};
 pub use tasks::Task;
 
+use crate::choose::one_of;
 use crate::damage::Damage;
 use crate::model::{kind, Block, Call, State};
 use crate::trial::Act;
 use call_tests::random::Random;
 use std::collections::VecDeque;
+
+/// What crashes and losses strike.
+#[derive(Clone, Copy, Debug, PartialEq, Eq)]
+pub enum Care {
+    /// any store
+    None,
+    /// crashes one with every place an up member and every bucket ready; there are no losses
+    Ready,
+    /// both a whole one
+    Whole,
+}
+
+impl Care {
+    fn allows(self, kind: u64, state: &State) -> bool {
+        match (self, kind) {
+            (Care::Ready, kind::CRASH) => state.is_all_up_and_ready(),
+            (Care::Ready, kind::LOSE) => false,
+            (Care::Whole, kind::CRASH | kind::LOSE) => state.is_whole(),
+            _ => true,
+        }
+    }
+}
 
 /// How a list behaves.
 #[derive(Clone, Debug)]
@@ -20,8 +44,9 @@ pub struct Profile {
     pub wild: u64,
     /// of a hundred tasks of a plan so many left out
     pub skipped: u64,
-    /// crashes and losses strike whole stores alone
-    pub careful: bool,
+    pub care: Care,
+    /// the next plan
+    pub plan: Plan,
     /// of a thousand acts so many on a damaged copy
     pub probes: u64,
 }
@@ -35,7 +60,7 @@ impl Profile {
             4 => (40, 20),
             _ => (95, 30),
         };
-        Profile { wild, skipped, careful: r.one_in(2), probes: 30 }
+        Profile { wild, skipped, care: one_of(r, &[Care::None, Care::None, Care::Ready, Care::Whole]), plan: random, probes: 30 }
     }
 }
 
@@ -59,11 +84,10 @@ impl Generator {
     }
 
     pub fn call(&mut self, r: &mut Random, state: &State) -> Call {
-        let call = if r.below(100) < self.profile.wild { self.wild(r, state) } else { self.planned(r, state) };
-        if self.profile.careful && matches!(call.kind, kind::CRASH | kind::LOSE) && !state.is_whole() {
-            self.plans.clear();
-            self.plans.push(plans::repair(r, state).into());
-            return self.planned(r, state);
+        let mut call = if r.below(100) < self.profile.wild { self.wild(r, state) } else { self.planned(r, state) };
+        while !self.profile.care.allows(call.kind, state) {
+            self.plans = vec![plans::repair(r, state).into()];
+            call = self.planned(r, state);
         }
         call
     }
@@ -74,7 +98,7 @@ impl Generator {
             self.plans.retain(|p| !p.is_empty());
             let at_once = if self.profile.wild == 0 { 1 } else { 3 };
             if self.plans.is_empty() || self.plans.len() < at_once && r.one_in(8) {
-                self.plans.push(plans::random(r, state, &self.blocks).into());
+                self.plans.push((self.profile.plan)(r, state, &self.blocks).into());
             }
             let plan = r.below(self.plans.len() as u64) as usize;
             let Some(task) = self.plans[plan].pop_front() else { continue };

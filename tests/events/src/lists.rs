@@ -18,6 +18,8 @@ pub struct Sum {
     pub met: Met,
     /// lists from format whose crashes and losses, at least one, all struck whole stores
     pub careful: u64,
+    /// lists from format without a loss whose crashes, at least one, all found every place an up member and every bucket ready
+    pub ready: u64,
 }
 
 /// Stores from here on have short lists, since each byte is compared after every event.
@@ -62,7 +64,8 @@ fn list(seed: u64, most: u64, sum: &mut Sum) -> Result<(), String> {
         }
     }
     sum.lists += 1;
-    sum.careful += (crashes > 0 && trial.history.is_some_and(|h| h.is_careful())) as u64;
+    sum.careful += (crashes > 0 && trial.history.as_ref().is_some_and(|h| h.is_careful())) as u64;
+    sum.ready += (crashes > 0 && trial.history.as_ref().is_some_and(|h| h.is_ready_before_crashes())) as u64;
     sum.counts.add_all(&trial.counts);
     Ok(())
 }

@@ -16,8 +16,8 @@ mod views;
 pub use call::{Call, Event};
 pub use numbers::{Block, Id, Key, View, BLOCKS, LAST_ID, LAST_NUMBER, SEQUENCES};
 pub use pairs::{pairs, Pair};
-pub use state::{Brick, Bucket, Chunk, Copy, Proxy, Relay, State, Table, BUCKETS, MOST_ITEMS, MOST_RELAYS, MOST_WAITING, PROXIES};
-pub use step::{step, Answer};
+pub use state::{Brick, Bucket, Chunk, Copy, Proxy, Relay, State, Table, BUCKETS, COPIES, MOST_ITEMS, MOST_RELAYS, MOST_WAITING, PROXIES};
+pub use step::{step, step_with, Answer};
 
 /// Places, block size, entries of a copy and chunks of a log, with their limits.
 pub use call_tests::store::model::Settings;

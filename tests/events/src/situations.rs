@@ -77,6 +77,11 @@ impl Moment<'_> {
         self.before.mapped(self.block()).is_some_and(|key| self.before.member(key.home()).is_some_and(|b| b.chunk(key).is_some()))
     }
 
+    /// At how many members the item of a map is saved.
+    fn saved_copies(&self) -> usize {
+        self.before.proxies[self.call.a as usize].items.get(&self.block()).map_or(0, |&key| self.before.saved_at(key))
+    }
+
     fn copy_target(&self) -> Option<&Brick> {
         let home = Key(self.call.a).home();
         self.before.members_from(home).find(|b| b.id != home)
@@ -98,6 +103,8 @@ const SITUATIONS: &[Situation] = &[
     (kind::MAP, 8, "map of a block in the buffer", |m| !m.before.is_pending(m.block())),
     (kind::MAP, 10, "map finds a full copy", |m| m.before.buckets[m.block().bucket()].ready),
     (kind::MAP, 10, "map finds a full buffer", |m| !m.before.buckets[m.block().bucket()].ready && m.primary().buffer.len() == MOST_WAITING),
+    (kind::MAP, 11, "map of a chunk saved nowhere", |m| m.saved_copies() == 0),
+    (kind::MAP, 11, "map of a chunk saved at one member", |m| m.saved_copies() == 1),
     (kind::DELIVER, 0, "relay taken", |m| m.after.buckets != m.before.buckets),
     (kind::DELIVER, 0, "relay of another view set aside", |m| m.before.bag[m.call.a as usize].view != m.before.view),
     (kind::DELIVER, 0, "relay of a lower number set aside", |m| m.before.bag[m.call.a as usize].view == m.before.view && m.after.buckets == m.before.buckets),
@@ -110,6 +117,7 @@ const SITUATIONS: &[Situation] = &[
     (kind::CRASH, 0, "crash with a buffer", |m| m.place().is_some_and(|b| !b.buffer.is_empty())),
     (kind::CRASH, 0, "crash of a brick that is no member", |m| m.place().is_some_and(|b| !b.member)),
     (kind::CRASH, 0, "crash of a whole store", |m| m.before.is_whole()),
+    (kind::CRASH, 0, "crash of a store all up and ready with a block pending", |m| m.before.is_all_up_and_ready() && !m.before.nothing_pending()),
     (kind::CRASH, 13, "crash at an empty place", |m| m.place().is_none()),
     (kind::CRASH, 13, "crash of a down brick", |m| m.place().is_some()),
     (kind::LOSE, 0, "loss of a down brick", |m| m.place().is_some_and(|b| !b.up)),

@@ -3,7 +3,7 @@ use crate::counts::Counts;
 use crate::damage::Damage;
 use crate::decode::decode;
 use crate::encode::encode;
-use crate::history::History;
+use crate::history::{Found, History};
 use crate::model::{kind, step, Answer, Call, Settings, State, MOST_RELAYS};
 use call_tests::lists::Relay;
 use call_tests::store;
@@ -108,7 +108,7 @@ impl Trial {
     }
 
     fn step(&mut self, call: &Call) -> Result<Answer, String> {
-        let whole = matches!(call.kind, kind::CRASH | kind::LOSE) && self.state.is_whole();
+        let found = Found::before(call, &self.state);
         let answer = step(&mut self.state, call);
         if answer.code == 0 {
             encode(&self.state, &mut self.expected);
@@ -122,7 +122,7 @@ impl Trial {
             same("bag", proved_bag(&self.proved), Some(bag(&self.state)))?;
         }
         if let Some(history) = &mut self.history {
-            history.watch(call, &answer, whole)?;
+            history.watch(call, &answer, found)?;
         }
         Ok(answer)
     }

@@ -12,12 +12,13 @@ fn random_lists() {
     println!("seed {seed}, {events} events");
     let sum = lists(seed, events).unwrap_or_else(|why| panic!("{why}"));
     println!("{} events in {} lists, in {} of them all crashes and losses struck whole stores", sum.events, sum.lists, sum.careful);
+    println!("{} without a loss, whose crashes all found every place an up member and every bucket ready", sum.ready);
     println!("{}", sum.counts.table());
     println!("{}", sum.met.table());
     assert!(sum.counts.impossible().is_empty(), "the rules have no such answer: {:?}", sum.counts.impossible());
     if events >= ENOUGH {
         assert!(sum.counts.missing().is_empty(), "did not happen: {:?}", sum.counts.missing());
         assert!(sum.met.missing().is_empty(), "not met: {:?}", sum.met.missing());
-        assert!(sum.careful > 0);
+        assert!(sum.careful > 0 && sum.ready > 0);
     }
 }

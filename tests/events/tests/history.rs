@@ -1,5 +1,5 @@
 //! The history machine finds what the claim about lists forbids.
-use event_tests::history::History;
+use event_tests::history::{Found, History};
 use event_tests::model::{kind, Answer, Call};
 
 const A1: u8 = 0xa1;
@@ -14,21 +14,25 @@ fn told(key: u64, data: Option<u8>) -> Answer {
 }
 
 fn put(history: &mut History, block: u64, key: u64, byte: u8) -> Result<(), String> {
-    history.watch(&call(kind::PUT, [0, 0, block], byte), &told(key, None), false)
+    history.watch(&call(kind::PUT, [0, 0, block], byte), &told(key, None), Found::default())
 }
 
 fn confirm(history: &mut History, block: u64) -> Result<(), String> {
-    history.watch(&call(kind::DONE, [0, block, 0], 0), &told(0, None), false)
+    history.watch(&call(kind::DONE, [0, block, 0], 0), &told(0, None), Found::default())
 }
 
 fn read(history: &mut History, block: u64, key: u64, byte: u8) -> Result<(), String> {
-    history.watch(&call(kind::GET, [0, block, 0], 0), &told(key, Some(byte)), false)
+    history.watch(&call(kind::GET, [0, block, 0], 0), &told(key, Some(byte)), Found::default())
 }
 
 /// An event of one field, accepted or refused.
-fn event(history: &mut History, kind: u64, a: u64, code: u64, whole: bool) -> Result<(), String> {
-    history.watch(&call(kind, [a, 0, 0], 0), &Answer { code, key: 0, data: None }, whole)
+fn event(history: &mut History, kind: u64, a: u64, code: u64, found: Found) -> Result<(), String> {
+    history.watch(&call(kind, [a, 0, 0], 0), &Answer { code, key: 0, data: None }, found)
 }
+
+const LESS: Found = Found { whole: false, all_up_and_ready: false };
+const READY: Found = Found { whole: false, all_up_and_ready: true };
+const WHOLE: Found = Found { whole: true, all_up_and_ready: true };
 
 /// Block 5 written twice, with keys 1 and 2; the first write confirmed.
 fn written_twice() -> History {
@@ -82,26 +86,57 @@ fn other_bytes_and_other_blocks() {
     assert!(confirm(&mut written_twice(), 9).is_err());
 }
 
-/// What is refused for want, where every crash struck a whole store, and where one did not.
+/// What is refused for want, where every crash and loss struck a whole store, and where one did not.
 #[test]
 fn want() {
-    for (whole, forbidden) in [(true, true), (false, false)] {
+    for (kind, found, forbidden) in [(kind::CRASH, WHOLE, true), (kind::CRASH, LESS, false), (kind::LOSE, WHOLE, true), (kind::LOSE, READY, false)] {
         let mut history = History::default();
-        assert!(event(&mut history, kind::CRASH, 0, 0, whole).is_ok());
-        assert_eq!(event(&mut history, kind::GET, 0, 11, false).is_err(), forbidden);
-        assert!(event(&mut history, kind::FETCH, 3, 13, false).is_ok());
-        event(&mut history, kind::VIEW, 0, 0, false).unwrap();
-        assert_eq!(event(&mut history, kind::FETCH, 3, 13, false).is_err(), forbidden);
-        event(&mut history, kind::READY, 3, 0, false).unwrap();
-        assert!(event(&mut history, kind::FETCH, 3, 13, false).is_ok());
-        assert_eq!(event(&mut history, kind::FETCH, 4, 13, false).is_err(), forbidden);
+        assert!(event(&mut history, kind, 0, 0, found).is_ok());
+        assert_eq!(event(&mut history, kind::GET, 0, 11, LESS).is_err(), forbidden);
+        assert!(event(&mut history, kind::FETCH, 3, 13, LESS).is_ok());
+        event(&mut history, kind::VIEW, 0, 0, LESS).unwrap();
+        assert_eq!(event(&mut history, kind::FETCH, 3, 13, LESS).is_err(), forbidden);
+        event(&mut history, kind::READY, 3, 0, LESS).unwrap();
+        assert!(event(&mut history, kind::FETCH, 3, 13, LESS).is_ok());
+        assert_eq!(event(&mut history, kind::FETCH, 4, 13, LESS).is_err(), forbidden);
     }
+}
+
+/// Lists of crashes and losses, with what each found: after which a get for want of bytes is forbidden, as long as no loss is accepted and each crash finds
+/// every place an up member and every bucket ready, or each of both a whole store.
+#[test]
+fn want_of_bytes() {
+    let rows: [(&[(u64, u64, Found)], bool); 9] = [
+        (&[], true),
+        (&[(kind::CRASH, 0, READY)], true),
+        (&[(kind::CRASH, 0, READY), (kind::CRASH, 0, READY)], true),
+        (&[(kind::CRASH, 0, WHOLE), (kind::CRASH, 0, READY)], true),
+        (&[(kind::CRASH, 0, READY), (kind::CRASH, 0, LESS)], false),
+        (&[(kind::CRASH, 0, LESS), (kind::CRASH, 0, READY)], false),
+        (&[(kind::LOSE, 0, WHOLE), (kind::CRASH, 0, READY)], false),
+        (&[(kind::CRASH, 0, READY), (kind::LOSE, 0, WHOLE)], false),
+        (&[(kind::CRASH, 0, READY), (kind::LOSE, 13, LESS), (kind::CRASH, 13, LESS)], true),
+    ];
+    for (list, forbidden) in rows {
+        let mut history = History::default();
+        list.iter().for_each(|&(kind, code, found)| event(&mut history, kind, 0, code, found).unwrap());
+        assert_eq!(event(&mut history, kind::GET, 0, 11, LESS).is_err(), forbidden, "{list:?}");
+    }
+}
+
+/// A writer under way says nothing of a source: a fetch may want one after a crash of a store that was not whole.
+#[test]
+fn want_of_a_source_with_writes_under_way() {
+    let mut history = History::default();
+    event(&mut history, kind::CRASH, 0, 0, READY).unwrap();
+    event(&mut history, kind::VIEW, 0, 0, LESS).unwrap();
+    assert!(event(&mut history, kind::FETCH, 3, 13, LESS).is_ok());
 }
 
 /// A crash that is refused strikes nothing.
 #[test]
 fn refused_crashes() {
     let mut history = History::default();
-    assert!(event(&mut history, kind::CRASH, 0, 13, false).is_ok());
-    assert!(event(&mut history, kind::GET, 0, 11, false).is_err());
+    assert!(event(&mut history, kind::CRASH, 0, 13, LESS).is_ok());
+    assert!(event(&mut history, kind::GET, 0, 11, LESS).is_err());
 }

@@ -12,10 +12,14 @@ fn store() -> Both {
     Both::new(Settings::new(3, 8, 2, 4))
 }
 
-/// `P5` and the like are puts at place 0, `W5` is a write of block 5 up to its map; other words are lines.
+/// `P5` and the like are puts at place 0, `W5` is a write of block 5 up to its map, `W56` one of two blocks, `V5` one that is saved at places 1 and 2 and
+/// not at the primary; other words are lines.
 fn lines(short: &str) -> String {
-    let write = format!("learn,0 P5 copy,{KEY} savelog,0 savelog,1 map,0,5");
-    let long = short.replace("W5", &write).replace("FULL", "P5 P6 P7 P8").replace("KEY", &KEY.to_string());
+    let two = "learn,0 P5 P6 copy,KEY copy,KEY+1 SAVE map,0,5 map,0,6";
+    let away = "learn,0 put,0,1,5,A1 copy,2*KEY savelog,1 savelog,2 map,0,5";
+    let long = short.replace("W56", two).replace("W5", "learn,0 P5 copy,KEY SAVE map,0,5").replace("V5", away).replace("FULL", "P5 P6 P7 P8");
+    let long = long.replace("SAVE", "savelog,0 savelog,1").replace("2*KEY", &(2 * KEY).to_string());
+    let long = long.replace("KEY+1", &(KEY + 1).to_string()).replace("KEY+2", &(KEY + 2).to_string()).replace("KEY", &KEY.to_string());
     let puts = (5..10).fold(long, |text, block| text.replace(&format!("P{block}"), &format!("put,0,0,{block},A1")));
     puts.replace("A1", A1)
 }
@@ -53,11 +57,16 @@ const REFUSED: &[(u64, &str)] = &[
     (8, "W5 map,0,5"),
     (8, "W5 abandon,0,5 map,0,5"),
     (9, "learn,0 map,0,5"),
-    (9, "learn,0 P5 P6 savelog,0 map,0,5 map,0,6 map,0,7"),
-    (10, "learn,0 P5 P6 P7 savelog,0 map,0,5 map,0,6 map,0,7"),
-    (10, "learn,0 P5 P6 savelog,0 map,0,5 map,0,6 P7 map,0,7"),
+    (9, "W56 map,0,7"),
+    (10, "W56 P7 copy,KEY+2 SAVE map,0,7"),
+    (10, "W56 P7 map,0,7"),
     (11, "learn,0 P5 map,0,5"),
-    (11, "view learn,0 P5 map,0,5"),
+    (11, "learn,0 P5 savelog,0 map,0,5"),
+    (11, "learn,0 P5 savelog,0 copy,KEY map,0,5"),
+    (11, "learn,0 P5 copy,KEY savelog,1 map,0,5"),
+    (11, "learn,0 P5 copy,KEY SAVE crash,1 map,0,5"),
+    (11, "learn,0 P5 copy,KEY SAVE crash,1 rise,1 map,0,5"),
+    (11, "view learn,0 P5 savelog,0 map,0,5"),
     // send
     (3, "send,2251799813685248"),
     (6, "view crash,0 send,5"),
@@ -91,7 +100,7 @@ const REFUSED: &[(u64, &str)] = &[
     (6, "view learn,0 crash,0 get,0,5"),
     (7, "view learn,0 get,0,5"),
     (8, "W5 get,0,5"),
-    (11, "learn,0 put,0,2,5,A1 savelog,2 map,0,5 send,5 deliver,0 savemap,0 savemap,1 crash,2 get,0,5"),
+    (11, "V5 send,5 deliver,0 savemap,0 savemap,1 crash,1 crash,2 get,0,5"),
     // abandon
     (3, "abandon,4,5"),
     (4, "abandon,1,5"),
@@ -126,7 +135,7 @@ const REFUSED: &[(u64, &str)] = &[
     // mend
     (3, "mend,3"),
     (6, "crash,0 rise,0 mend,0"),
-    (10, "learn,0 P5 put,0,1,6,A1 put,0,1,7,A1 put,0,1,8,A1 put,0,1,9,A1 savelog,0 map,0,5 mend,1"),
+    (10, "W5 crash,1 put,0,2,6,A1 put,0,2,7,A1 put,0,2,8,A1 put,0,2,9,A1 mend,2"),
     // collect
     (3, "collect,3"),
     (6, "crash,0 collect,0"),
@@ -144,7 +153,8 @@ const ACCEPTED: &[(u64, &str)] = &[
     (0, "P5 copy,KEY copy,KEY"),
     (0, "P5 crash,1 crash,2 copy,KEY"),
     (0, "W5"),
-    (0, "view learn,0 P5 savelog,0 map,0,5"),
+    (0, "V5"),
+    (0, "view W5"),
     (1, "W5 send,5 deliver,0"),
     // set aside, whatever the backup is
     (0, "W5 send,5 send,5 deliver,1 crash,1 deliver,0"),
@@ -158,9 +168,9 @@ const ACCEPTED: &[(u64, &str)] = &[
     (0, "crash,0 rise,0 crash,0 lose,0 join,0 lose,0"),
     (0, "crash,0 view rise,0 view"),
     (0, "view fetch,0 fetch,0 ready,0"),
-    (0, "learn,0 P5 savelog,0 map,0,5 mend,1 mend,1"),
+    (0, "W5 crash,1 mend,2 mend,2"),
     // a chunk that no member holds is not asked for
-    (0, "learn,0 put,0,2,5,A1 savelog,2 map,0,5 crash,2 mend,0 mend,1"),
+    (0, "V5 crash,1 crash,2 mend,0"),
 ];
 
 fn full(short: &str) -> String {

@@ -24,10 +24,10 @@ fn order_is_kept() {
 fn text_of_a_list() {
     let settings = Settings::new(3, 8, 2, 4);
     let start = Start::Format(settings, vec![7; settings.bytes()]);
-    let lines = "learn,0\nput,0,0,5,a1a1a1a1a1a1a1a1\nsavelog,0\nmap,0,5\nget,0,5\n";
+    let lines = "learn,0\nput,0,0,5,a1a1a1a1a1a1a1a1\ncopy,72057594037927936\nsavelog,0\nsavelog,1\nmap,0,5\nget,0,5\n";
     let acts: Vec<Act> = lines.split_inclusive('\n').map(|l| Act::Step(call(l.as_bytes(), 8).unwrap())).collect();
     assert_eq!(replay(&start, &acts), Ok(()));
     let text = show(&start, &acts);
     assert_eq!(text, format!("3,8,2,4\n{lines}"));
-    assert!(trace(text.as_bytes()).ends_with("\n5,8,0,-\n"));
+    assert!(trace(text.as_bytes()).ends_with("\n7,8,0,-\n"));
 }

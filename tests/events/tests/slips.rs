@@ -75,10 +75,26 @@ fn a_map_before_savelog() {
     assert_eq!(store(3).last(&format!("learn,0 put,0,0,5,{A1} map,0,5")), refused(11));
 }
 
+/// The home alone, a second copy that is not saved, or one at a brick that is no member: each would be lost with one brick.
+#[test]
+fn a_map_with_one_saved_copy() {
+    let put = format!("learn,0 put,0,0,5,{A1} copy,{KEY}");
+    for saves in ["savelog,0", "savelog,1", "savelog,0 savelog,1 crash,1", "savelog,0 savelog,1 lose,1", "savelog,0 savelog,1 crash,1 rise,1"] {
+        assert_eq!(store(3).last(&format!("{put} {saves} map,0,5")), refused(11), "{saves}");
+    }
+    assert_eq!(store(3).last(&format!("{put} savelog,0 savelog,1 map,0,5")), done(0));
+}
+
+/// Blocks 5, 6 and 7 put at place 0 of a fresh store, saved there and at place 1.
+fn put_three() -> String {
+    let puts: String = (0..3).map(|i| format!("put,0,0,{},{A1} copy,{} ", 5 + i, KEY + i)).collect();
+    format!("learn,0 {puts} savelog,0 savelog,1")
+}
+
 #[test]
 fn a_third_new_block_with_two_entries() {
     let mut both = store(3);
-    both.accepted(&format!("learn,0 put,0,0,5,{A1} put,0,0,6,{A1} put,0,0,7,{A1} savelog,0 map,0,5 map,0,6"));
+    both.accepted(&format!("{} map,0,5 map,0,6", put_three()));
     assert_eq!(both.line("map,0,7"), refused(10));
 }
 
@@ -87,15 +103,17 @@ fn a_second_crash_of_one_place() {
     assert_eq!(store(3).last("crash,1 crash,1"), refused(13));
 }
 
-/// A copy under the old key lives at brick 2: the brick's next key is another, and the old one still shows its own bytes.
+/// A copy under the old key lives at brick 2: the brick's next key is another, and both bricks have its bytes.
 #[test]
 fn numbering_from_the_last_saved_chunk_after_a_crash() {
     let mut both = store(3);
     both.accepted(&format!("put,0,0,5,{A1} copy,{KEY} savelog,1 crash,0 rise,0 view"));
     assert_eq!(both.line(&format!("put,0,0,6,{B2}")), done(KEY + 1024));
     both.accepted(&format!("copy,{} savelog,0 savelog,1 learn,0 {}", KEY + 1024, all_ready()));
-    both.accepted("map,0,5 map,0,6 send,5 send,6 deliver,0 deliver,0 savemap,0 savemap,1 savemap,2");
-    assert_eq!(both.line("get,0,5"), shown(KEY, A1));
+    assert_eq!(both.line("map,0,5"), refused(11));
+    both.accepted("map,0,6 send,6 deliver,0 savemap,0 savemap,1 savemap,2");
+    assert_eq!(both.line("get,0,6"), shown(KEY + 1024, B2));
+    both.accepted(&format!("crash,0 view learn,0 {}", all_ready()));
     assert_eq!(both.line("get,0,6"), shown(KEY + 1024, B2));
 }
 
@@ -255,11 +273,29 @@ fn crashes_and_losses_of_whole_stores() {
     }
 }
 
+/// A second write of the block is cut off by a crash after each of its events, at each place; then the brick is back, and the block is shown as soon as it
+/// is not pending. No event but the crash takes anything away.
+#[test]
+fn crashes_with_a_write_under_way() {
+    let second = format!("put,0,0,5,{B2} copy,{} savelog,0 savelog,1 map,0,5 send,5 deliver,0 savemap,0 savemap,1", KEY + 1);
+    let second: Vec<&str> = second.split(' ').collect();
+    for (cut, place) in (0..=second.len()).flat_map(|cut| (0..3).map(move |place| (cut, place))) {
+        let mut both = store(3);
+        both.accepted(&format!("{} {}", written(A1, 0), second[..cut].join(" ")));
+        assert!(both.0.state.is_all_up_and_ready());
+        both.accepted(&format!("crash,{place} view learn,0 {}", all_ready()));
+        let (code, key, _) = both.line("get,0,5");
+        assert!(code == 0 && (key == KEY || key == KEY + 1), "{cut} {place}: {code}");
+        both.accepted(&format!("rise,{place} view learn,0 {}", all_ready()));
+        assert_eq!(both.line("get,0,5"), shown(key, if key == KEY { A1 } else { B2 }));
+    }
+}
+
 /// A copy has room for two; of three blocks that wait the third is dropped, and it is as if it had not been mapped.
 #[test]
 fn a_buffer_with_more_than_the_copy_holds() {
     let mut both = store(3);
-    both.accepted(&format!("view learn,0 put,0,0,5,{A1} put,0,0,6,{A1} put,0,0,7,{A1} savelog,0 map,0,7 map,0,5 map,0,6 fetch,0 ready,0"));
+    both.accepted(&format!("view {} map,0,7 map,0,5 map,0,6 fetch,0 ready,0", put_three()));
     both.accepted("send,5 send,7");
     assert_eq!(both.line("send,6"), refused(13));
     assert_eq!(both.line("get,0,6"), shown(0, ZEROS));

@@ -137,7 +137,7 @@ fn random_events() {
 /// Cut at every place.
 #[test]
 fn cut_inputs() {
-    let input = b"3,8,2,4\nlearn,0\nput,0,0,5,a1a1a1a1a1a1a1a1\nsavelog,0\nmap,0,5\nget,0,6\n\n";
+    let input = b"3,8,2,4\nlearn,0\nput,0,0,5,a1a1a1a1a1a1a1a1\ncopy,72057594037927936\nsavelog,0\nsavelog,1\nmap,0,5\nget,0,6\n\n";
     for n in 0..=input.len() {
         check(&input[..n]);
     }
@@ -199,7 +199,7 @@ fn check_long_line(head: &'static [u8], bytes: usize, tail: &'static [u8]) {
 
 #[test]
 fn a_line_of_a_gigabyte() {
-    const HEAD: &[u8] = b"3,8,2,4\nlearn,0\nput,0,0,5,a1a1a1a1a1a1a1a1\nsavelog,0\n";
+    const HEAD: &[u8] = b"3,8,2,4\nlearn,0\nput,0,0,5,a1a1a1a1a1a1a1a1\ncopy,72057594037927936\nsavelog,0\nsavelog,1\n";
     check_long_line(HEAD, 1 << 30, b"\nmap,0,5\nget,0,6\n");
     check_long_line(HEAD, 1 << 28, b"");
     check_long_line(b"", 1 << 28, b"\nlearn,0\n");

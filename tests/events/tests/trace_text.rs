@@ -1,12 +1,12 @@
 //! What the trace program has to print, by the model alone.
 use event_tests::lines::trace;
 
-const PRINTED: &str = "line,code,key,data\n1,0,0,-\n2,0,0,0000000000000000\n3,0,72057594037927936,-\n4,0,0,-\n5,0,0,-\n6,8,0,-\n";
+const PRINTED: &str = "line,code,key,data\n1,0,0,-\n2,0,0,0000000000000000\n3,0,72057594037927936,-\n4,0,0,-\n5,0,0,-\n6,0,0,-\n7,0,0,-\n8,8,0,-\n";
 const REFUSED: &str = "line,code,key,data\n0,1,0,-\n";
 
 #[test]
 fn printed_trace() {
-    let input = "3,8,2,4\nlearn,0\nget,0,5\nput,0,0,5,a1a1a1a1a1a1a1a1\nsavelog,0\nmap,0,5\nget,0,5\n";
+    let input = "3,8,2,4\nlearn,0\nget,0,5\nput,0,0,5,a1a1a1a1a1a1a1a1\ncopy,72057594037927936\nsavelog,0\nsavelog,1\nmap,0,5\nget,0,5\n";
     assert_eq!(trace(input.as_bytes()), PRINTED);
 }
 

@@ -4,25 +4,23 @@ use super::tasks::Task;
 use crate::choose::pick;
 use crate::model::{Block, State, BUCKETS, MOST_ITEMS, PROXIES};
 use call_tests::random::Random;
+use std::collections::VecDeque;
+
+/// What makes the next tasks of a list.
+pub type Plan = fn(&mut Random, &State, &[Block]) -> Vec<Task>;
+
+/// A put, saved at two members, and its map.
+fn mapped(r: &mut Random, state: &State, block: Block) -> [Task; 5] {
+    [Task::Put(block, member_place(r, state)), Task::Copy(block), Task::SaveHome(block), Task::SaveTarget(block), Task::Map(block)]
+}
 
 /// A write from put to done and a read. An older write of the block that has an item is finished or abandoned first.
 /// Now and then two neighbours change places.
 fn write(r: &mut Random, state: &State, block: Block) -> Vec<Task> {
     let mut tasks = if r.one_in(2) { vec![Task::Abandon(block)] } else { Vec::new() };
-    tasks.extend([
-        Task::Learn(block.proxy()),
-        Task::Put(block, member_place(r, state)),
-        Task::Copy(block),
-        Task::SaveHome(block),
-        Task::SaveTarget(block),
-        Task::Map(block),
-        Task::Send(block),
-        Task::Deliver(block),
-        Task::SavePrimary(block),
-        Task::SaveBackup(block),
-        Task::Done(block),
-        Task::Get(block),
-    ]);
+    tasks.push(Task::Learn(block.proxy()));
+    tasks.extend(mapped(r, state, block));
+    tasks.extend([Task::Send(block), Task::Deliver(block), Task::SavePrimary(block), Task::SaveBackup(block), Task::Done(block), Task::Get(block)]);
     if r.one_in(4) {
         let at = r.below(tasks.len() as u64 - 1) as usize;
         tasks.swap(at, at + 1);
@@ -65,6 +63,19 @@ fn late_relays(r: &mut Random, state: &State, block: Block) -> Vec<Task> {
     tasks
 }
 
+/// A written block whose saved copies go one after the other, with a third one in between, which is mended in one half of the cases.
+fn fewer_copies(r: &mut Random, state: &State, block: Block) -> Vec<Task> {
+    let mut tasks = write(r, state, block);
+    tasks.extend([Task::CrashTarget(block), Task::Copy(block)]);
+    if r.one_in(2) {
+        tasks.extend((0..state.places.len()).map(Task::Mend));
+    }
+    tasks.extend([Task::CrashHome(block), Task::Get(block), Task::CrashTarget(block), Task::Get(block), Task::View]);
+    tasks.extend(learn_all());
+    tasks.extend([Task::Fetch(block.bucket()), Task::Ready(block.bucket()), Task::Get(block)]);
+    tasks
+}
+
 /// More relays of a block than the bag holds.
 fn fill_bag(r: &mut Random, block: Block) -> Vec<Task> {
     let sends = (0..r.among(60, 70)).map(|_| Task::Send(block));
@@ -81,8 +92,7 @@ fn read(blocks: &[Block]) -> Vec<Task> {
 
 /// Relays, saves and missing chunks, until nothing is pending and every chunk is at two members.
 fn settle(state: &State) -> Vec<Task> {
-    let mut pending: Vec<Block> = (0..BUCKETS).flat_map(|g| state.named(g)).map(|(b, _)| b).filter(|&b| state.is_pending(b)).collect();
-    pending.dedup();
+    let pending = state.pending();
     let sends = pending.iter().flat_map(|&b| [Task::Send(b), Task::Deliver(b)]);
     let saves = pending.iter().flat_map(|&b| [Task::SavePrimary(b), Task::SaveBackup(b)]);
     let mends = (0..state.places.len()).map(Task::Mend);
@@ -101,6 +111,11 @@ fn collect_all(r: &mut Random, state: &State) -> Vec<Task> {
     tasks.extend(places.clone().map(Task::Collect));
     tasks.extend(places.map(Task::Mend));
     tasks
+}
+
+/// A new view with what is up, and every bucket ready in it.
+fn next_view() -> impl Iterator<Item = Task> {
+    [Task::View].into_iter().chain(learn_all()).chain((0..BUCKETS).flat_map(|g| [Task::Fetch(g), Task::Ready(g)]))
 }
 
 /// A new view with what is up; some bricks rise or join before, or all of them.
@@ -126,7 +141,7 @@ fn many_puts(r: &mut Random, state: &State, proxy: u64) -> Vec<Task> {
     tasks.extend(learn_all());
     for i in 0..MOST_ITEMS as u64 + 4 {
         let block = block(proxy, bucket, i);
-        tasks.extend([Task::Put(block, member_place(r, state)), Task::SaveHome(block), Task::Map(block)]);
+        tasks.extend(mapped(r, state, block));
         if abandoned {
             tasks.push(Task::Abandon(block));
         }
@@ -139,10 +154,80 @@ fn late_maps(r: &mut Random, state: &State, blocks: &[Block]) -> Vec<Task> {
     let mut tasks = vec![Task::View];
     tasks.extend(learn_all());
     for &b in blocks {
-        tasks.extend([Task::Put(b, member_place(r, state)), Task::SaveHome(b), Task::Map(b), Task::Get(b)]);
+        tasks.extend(mapped(r, state, b));
+        tasks.push(Task::Get(b));
     }
     tasks.extend(blocks.iter().flat_map(|b| [Task::Fetch(b.bucket()), Task::Ready(b.bucket())]));
     tasks
+}
+
+fn one(r: &mut Random, blocks: &[Block]) -> Block {
+    pick(r, blocks).unwrap_or(Block(0))
+}
+
+/// A write that ends early, mostly between its map and its done; now and then with one saved copy alone, with which the map is to be refused.
+fn cut_off(r: &mut Random, state: &State, blocks: &[Block]) -> VecDeque<Task> {
+    let block = one(r, blocks);
+    let mut tasks = write(r, state, block);
+    if r.one_in(4) {
+        tasks.retain(|task| !matches!(task, Task::Copy(_) | Task::SaveTarget(_)));
+    }
+    let map = tasks.iter().position(|task| matches!(task, Task::Map(_))).unwrap_or(0);
+    let length = if r.one_in(5) { r.below(tasks.len() as u64) as usize } else { map + r.among(1, 4) as usize };
+    tasks.truncate(length);
+    tasks.into()
+}
+
+/// One list of all, each in its own order.
+fn merged(r: &mut Random, mut lists: Vec<VecDeque<Task>>) -> Vec<Task> {
+    let mut tasks = Vec::new();
+    while !lists.is_empty() {
+        let one = r.below(lists.len() as u64) as usize;
+        match lists[one].pop_front() {
+            Some(task) => tasks.push(task),
+            None => drop(lists.swap_remove(one)),
+        }
+    }
+    tasks
+}
+
+/// Whether a log has hardly room for the chunks of a few writes.
+fn is_nearly_full(state: &State) -> bool {
+    state.bricks.values().any(|b| b.log.len() + 6 > state.chunks())
+}
+
+/// Writes under way, relays of theirs and older ones; then a crash, now and then a view without the brick and a write in it; then the brick is back. In one
+/// half of the cases nothing is mended.
+fn crash_under_way(r: &mut Random, state: &State, blocks: &[Block]) -> Vec<Task> {
+    let (block, place) = (one(r, blocks), r.below(state.settings.places) as usize);
+    let mut writes: Vec<VecDeque<Task>> = (0..r.among(1, 3)).map(|_| cut_off(r, state, blocks)).collect();
+    writes.push((0..r.below(4)).map(|_| Task::DeliverAny).collect());
+    let mut tasks = merged(r, writes);
+    tasks.push(Task::Crash(place));
+    tasks.extend(read(blocks));
+    if r.one_in(3) {
+        tasks.extend(next_view());
+        tasks.extend(read(blocks));
+        tasks.extend(write(r, state, block));
+    }
+    tasks.push(Task::Rise(place));
+    tasks.extend(next_view());
+    if r.one_in(2) {
+        tasks.extend((0..state.places.len()).map(Task::Mend));
+    }
+    tasks.extend(read(blocks));
+    tasks
+}
+
+/// One crash with writes under way after the other; the logs are collected where they are nearly full.
+pub fn under_way(r: &mut Random, state: &State, blocks: &[Block]) -> Vec<Task> {
+    if !state.is_all_up_and_ready() {
+        rebuild(r, state, true)
+    } else if is_nearly_full(state) && !r.one_in(4) {
+        collect_all(r, state)
+    } else {
+        crash_under_way(r, state, blocks)
+    }
 }
 
 fn crash_or_lose(r: &mut Random, state: &State) -> Vec<Task> {
@@ -150,14 +235,9 @@ fn crash_or_lose(r: &mut Random, state: &State) -> Vec<Task> {
     vec![if r.one_in(3) { Task::Lose(place) } else { Task::Crash(place) }]
 }
 
-/// Every place an up member and every bucket ready.
-fn is_settled(state: &State) -> bool {
-    (0..state.places.len()).all(|place| state.member_at(place).is_some()) && state.buckets.iter().all(|b| b.ready)
-}
-
 /// What a store that is not whole needs next.
 pub fn repair(r: &mut Random, state: &State) -> Vec<Task> {
-    if !is_settled(state) {
+    if !state.is_all_up_and_ready() {
         rebuild(r, state, true)
     } else if !state.nothing_pending() || r.one_in(2) {
         settle(state)
@@ -167,13 +247,14 @@ pub fn repair(r: &mut Random, state: &State) -> Vec<Task> {
 }
 
 pub fn random(r: &mut Random, state: &State, blocks: &[Block]) -> Vec<Task> {
-    let one = pick(r, blocks).unwrap_or(Block(0));
-    if !is_settled(state) && r.one_in(3) {
+    let one = one(r, blocks);
+    if !state.is_all_up_and_ready() && r.one_in(3) {
         let all = !r.one_in(3);
         return rebuild(r, state, all);
     }
     match r.below(100) {
-        0..=55 => write(r, state, one),
+        0..=51 => write(r, state, one),
+        52..=55 => fewer_copies(r, state, one),
         56..=59 => late_relays(r, state, one),
         60..=68 => repeated_sends(r, state, one),
         69..=74 => read(blocks),
@@ -181,8 +262,8 @@ pub fn random(r: &mut Random, state: &State, blocks: &[Block]) -> Vec<Task> {
         80..=83 => collect_all(r, state),
         84..=86 => repair(r, state),
         87..=94 => crash_or_lose(r, state),
-        95..=96 => late_maps(r, state, blocks),
-        97 => fill_bag(r, one),
+        95 => late_maps(r, state, blocks),
+        96 => fill_bag(r, one),
         _ => many_puts(r, state, one.proxy() as u64),
     }
 }

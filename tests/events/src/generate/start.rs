@@ -1,6 +1,6 @@
 //! Where lists start: settings, and sound stores that are edited or made up.
 use super::fields::block;
-use super::{Generator, Profile};
+use super::{random, Care, Generator, Profile};
 use crate::choose::{one_of, pick};
 use crate::encode::encode;
 use crate::layout::length;
@@ -46,7 +46,8 @@ pub fn edited(r: &mut Random, s: Settings) -> Vec<u8> {
 /// A state after a short list of events.
 fn used(r: &mut Random, s: Settings) -> State {
     let mut state = State::formatted(s).expect("settings in limits");
-    let profile = Profile { wild: 5, skipped: 5, careful: r.one_in(2), probes: 0 };
+    let care = one_of(r, &[Care::None, Care::Whole]);
+    let profile = Profile { wild: 5, skipped: 5, care, plan: random, probes: 0 };
     let mut generator = Generator::new(r, profile);
     for _ in 0..r.below(120) {
         let call = generator.call(r, &state);

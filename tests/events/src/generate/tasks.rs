@@ -29,6 +29,9 @@ pub enum Task {
     Crash(usize),
     /// the place of the block's primary
     CrashPrimary(Block),
+    /// the place of its chunk's home, and of the member to which that is copied
+    CrashHome(Block),
+    CrashTarget(Block),
     Lose(usize),
     Rise(usize),
     Join(usize),
@@ -70,11 +73,13 @@ impl Task {
         let one = |kind: u64, number: u64| (kind, [number, 0, 0]);
         let of_proxy = |kind: u64, block: Block| (kind, [block.proxy() as u64, block.0, 0]);
         let pair = |block: Block| state.buckets[block.bucket()].pair;
+        let home = |block: Block| place_of(state, key_of(state, block).home());
+        let next = |block: Block| place_of(state, target(state, key_of(state, block)));
         match *self {
             Task::Put(block, place) => (kind::PUT, [block.proxy() as u64, place as u64, block.0]),
             Task::Copy(block) => one(kind::COPY, key_of(state, block).0),
-            Task::SaveHome(block) => one(kind::SAVELOG, place_of(state, key_of(state, block).home())),
-            Task::SaveTarget(block) => one(kind::SAVELOG, place_of(state, target(state, key_of(state, block)))),
+            Task::SaveHome(block) => one(kind::SAVELOG, home(block)),
+            Task::SaveTarget(block) => one(kind::SAVELOG, next(block)),
             Task::Map(block) => of_proxy(kind::MAP, block),
             Task::Send(block) => one(kind::SEND, block.0),
             Task::Deliver(block) => one(kind::DELIVER, newest_relay(state, block)),
@@ -90,6 +95,8 @@ impl Task {
             Task::Reset(proxy) => one(kind::RESET, proxy as u64),
             Task::Crash(place) => one(kind::CRASH, place as u64),
             Task::CrashPrimary(block) => one(kind::CRASH, place_of(state, pair(block).primary)),
+            Task::CrashHome(block) => one(kind::CRASH, home(block)),
+            Task::CrashTarget(block) => one(kind::CRASH, next(block)),
             Task::Lose(place) => one(kind::LOSE, place as u64),
             Task::Rise(place) => one(kind::RISE, place as u64),
             Task::Join(place) => one(kind::JOIN, place as u64),

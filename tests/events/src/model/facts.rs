@@ -1,5 +1,6 @@
 //! What the rules say of a state: who is needed, what is pending, what is whole.
-use super::{Block, Brick, Chunk, Copy, Id, Key, State, Table, BUCKETS};
+use super::{Block, Brick, Chunk, Copy, Id, Key, State, Table, BUCKETS, COPIES};
+use std::collections::BTreeSet;
 
 static NOTHING: Copy = Copy { memory: Table::new(), disk: Table::new() };
 
@@ -81,6 +82,12 @@ impl State {
         self.four(bucket).into_iter().flatten().map(|(&block, &key)| (block, key))
     }
 
+    /// Every pending block.
+    pub fn pending(&self) -> BTreeSet<Block> {
+        let named = (0..self.buckets.len()).flat_map(|bucket| self.named(bucket));
+        named.map(|(block, _)| block).filter(|&block| self.is_pending(block)).collect()
+    }
+
     pub fn nothing_pending(&self) -> bool {
         let settled = |bucket| {
             let [first, others @ ..] = self.four(bucket);
@@ -95,12 +102,14 @@ impl State {
         primary.is_some_and(|b| b.buffer.iter().any(|entry| entry.0 == block))
     }
 
+    /// Every place an up member and every bucket ready.
+    pub fn is_all_up_and_ready(&self) -> bool {
+        (0..self.places.len()).all(|place| self.member_at(place).is_some()) && self.buckets.iter().all(|b| b.ready)
+    }
+
     pub fn is_whole(&self) -> bool {
         let mut mapped = (0..self.buckets.len()).flat_map(|bucket| self.four(bucket)[0].values());
-        (0..self.places.len()).all(|place| self.member_at(place).is_some())
-            && self.buckets.iter().all(|b| b.ready)
-            && self.nothing_pending()
-            && mapped.all(|&key| self.saved_at(key) >= 2)
+        self.is_all_up_and_ready() && self.nothing_pending() && mapped.all(|&key| self.saved_at(key) >= COPIES)
     }
 
     /// Same settings, view and members and, for each bucket, the same blocks and keys in the primary's memory.

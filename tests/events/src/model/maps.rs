@@ -3,7 +3,7 @@ use super::step::{ask, done, Told};
 use super::{Block, Relay, State, LAST_NUMBER, MOST_RELAYS, MOST_WAITING};
 
 impl State {
-    pub(super) fn map(&mut self, proxy: usize, block: Block) -> Told {
+    pub(super) fn map(&mut self, proxy: usize, block: Block, copies: usize) -> Told {
         self.ask_owner(proxy, block)?;
         self.ask_known_view(proxy)?;
         let (bucket, ready) = (block.bucket(), self.buckets[block.bucket()].ready);
@@ -17,7 +17,7 @@ impl State {
         let room_in_bucket = memory.contains_key(&block) || memory.len() < self.entries();
         ask(10, if ready { room_in_bucket } else { primary.buffer.len() < MOST_WAITING })?;
         let key = item.unwrap();
-        ask(11, self.saved_at(key) >= 1)?;
+        ask(11, self.saved_at(key) >= copies)?;
 
         let id = primary.id;
         if ready {

@@ -7,6 +7,8 @@ pub const PROXIES: usize = 4;
 pub const MOST_ITEMS: usize = 32;
 pub const MOST_WAITING: usize = 32;
 pub const MOST_RELAYS: usize = 64;
+/// So many members have a chunk saved before it is mapped.
+pub const COPIES: usize = 2;
 
 /// Mapped keys by block.
 pub type Table = BTreeMap<Block, Key>;

@@ -1,6 +1,6 @@
 //! One event on a state. Each kind asks its questions in their order and then changes the state.
 use super::call::{event, Call, Event};
-use super::{Block, Key, State};
+use super::{Block, Key, State, COPIES};
 
 /// The number of the question that says no.
 #[derive(Clone, Copy, Debug, PartialEq, Eq)]
@@ -52,16 +52,21 @@ impl State {
 
 /// On a refusal the state stays as it was.
 pub fn step(state: &mut State, call: &Call) -> Answer {
-    let told = event(state, call).and_then(|e| dispatch(state, e));
+    step_with(COPIES, state, call)
+}
+
+/// Where a map asks for so many saved copies: with fewer than the rules have it is a rule that loses bytes.
+pub fn step_with(copies: usize, state: &mut State, call: &Call) -> Answer {
+    let told = event(state, call).and_then(|e| dispatch(copies, state, e));
     told.unwrap_or_else(|Refusal(code)| Answer::refused(code))
 }
 
-fn dispatch(state: &mut State, event: Event) -> Told {
+fn dispatch(copies: usize, state: &mut State, event: Event) -> Told {
     match event {
         Event::Put { proxy, place, block, data } => state.put(proxy, place, block, data),
         Event::Copy(key) => state.copy(key),
         Event::SaveLog(place) => state.savelog(place),
-        Event::Map(proxy, block) => state.map(proxy, block),
+        Event::Map(proxy, block) => state.map(proxy, block, copies),
         Event::Send(block) => state.send(block),
         Event::Deliver(index) => state.deliver(index),
         Event::Drop(index) => state.drop_relay(index),

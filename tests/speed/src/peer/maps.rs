@@ -1,6 +1,6 @@
 //! map, savemap, done.
 use super::asks::{ask, member_at, owner, place, primary_key, ready, served, settled};
-use super::members::has_saved;
+use super::members::saved_twice;
 use super::store::{buffer_at, Store, READY};
 use super::writes::{item, remove_item};
 use super::{table, Told};
@@ -15,7 +15,7 @@ pub fn map(store: &mut Store, proxy_field: u64, block: u64) -> Told {
     let (memory, buffer) = (store.memory(primary, bucket), buffer_at(primary));
     let room = if is_ready { table::fits(&store.words[memory..], block, store.shape.entries) } else { store.get(buffer) < MAX_WAITING as u64 };
     ask(room, 10)?;
-    ask(has_saved(store, key), 11)?;
+    ask(saved_twice(store, key), 11)?;
     if is_ready {
         table::put(&mut store.words[memory..], block, key);
     } else {

@@ -1,6 +1,6 @@
 //! Members in the circle of ids.
 use super::log;
-use super::store::{Store, MEMBER};
+use super::store::Store;
 
 /// Steps upward from one id to another; ids are below 256.
 pub fn distance(from: u64, to: u64) -> u64 {
@@ -22,18 +22,20 @@ pub fn holder(store: &Store, key: u64) -> Option<(usize, usize)> {
     if at_home.is_some() {
         return at_home;
     }
-    let mut least = 1;
-    while let Some((steps, brick)) = nearest(store, home, least) {
-        if let Some(found) = held(brick) {
-            return Some(found);
-        }
-        least = steps + 1;
-    }
-    None
+    members_from(store, home, 1).find_map(held)
 }
 
-/// Whether a member has the chunk saved; mostly the home has.
-pub fn has_saved(store: &Store, key: u64) -> bool {
-    let saved = |brick| log::find(store.log(brick), &store.shape, key).is_ok_and(|row| log::is_saved(store.log(brick), row));
-    store.member(key >> 56).is_some_and(saved) || store.bricks().any(|brick| store.get(brick + MEMBER) == 1 && saved(brick))
+/// The members at least so many steps above an id, upward.
+fn members_from<'a>(store: &'a Store, id: u64, mut least: u64) -> impl Iterator<Item = usize> + use<'a> {
+    std::iter::from_fn(move || {
+        let (steps, brick) = nearest(store, id, least)?;
+        least = steps + 1;
+        Some(brick)
+    })
+}
+
+/// Whether two members have the chunk saved; mostly the home and the next one have.
+pub fn saved_twice(store: &Store, key: u64) -> bool {
+    let saved = |&brick: &usize| log::find(store.log(brick), &store.shape, key).is_ok_and(|row| log::is_saved(store.log(brick), row));
+    members_from(store, key >> 56, 0).filter(saved).nth(1).is_some()
 }

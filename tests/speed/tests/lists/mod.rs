@@ -93,9 +93,10 @@ impl Both {
         }
     }
 
-    /// A block of proxy 0 put at place 0, mapped and sent.
+    /// A block of proxy 0 put at place 0 of a fresh store, saved there and at place 1, mapped and sent.
     pub fn sent_block(&mut self, r: &mut Random, block: u64) {
-        for (kind, a, b, c) in [(12, 0, 0, 0), (1, 0, 0, block), (3, 0, 0, 0), (4, 0, block, 0), (5, block, 0, 0)] {
+        let saved = [(12, 0, 0, 0), (1, 0, 0, block), (2, 1 << 56, 0, 0), (3, 0, 0, 0), (3, 1, 0, 0)];
+        for (kind, a, b, c) in saved.into_iter().chain([(4, 0, block, 0), (5, block, 0, 0)]) {
             assert_eq!(self.event(r, kind, a, b, c).code, 0);
         }
     }
@@ -179,7 +180,7 @@ impl Both {
         }
         match (kind, which) {
             (1, 2) | (4, 1) | (9..=11, 1) | (5, 0) => some_block(r),
-            (2, 0) => (r.among(1, self.settings.places + 2) << 56) + r.below(6) + 1024 * r.below(2),
+            (2, 0) => (r.among(1, self.settings.places + 1) << 56) + r.below(3) + 1024 * r.one_in(8) as u64,
             (6..=7, 0) => r.below(get(&self.peer, AT_BAG) + 1),
             (1 | 4 | 9..=13, 0) => r.below(4),
             (19..=20, 0) => r.below(4),
@@ -190,5 +191,5 @@ impl Both {
 
 /// Of few buckets, so that copies fill.
 fn some_block(r: &mut Random) -> u64 {
-    r.below(4) << 49 | r.below(3) << 10 | r.below(3)
+    r.below(4) << 49 | r.below(2) << 10 | r.below(2)
 }
