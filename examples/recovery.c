@@ -50,8 +50,8 @@ static int read_blocks(void)
     return memcmp(shown, drawings, sizeof shown) == 0;
 }
 
-/* The chunks go to two bricks, their keys to the bucket's primary and backup; once all of it is saved the writes are confirmed. The puts are a list of their
- * own: a copy needs the key that its put answers. */
+/* The chunks are saved at two bricks, as map asks; then their keys go to the bucket's primary and backup, and once these have saved them the writes are
+ * confirmed. The puts are a list of their own: a copy needs the key that its put answers. */
 static void write_blocks(void)
 {
     const disk_event puts[] = {{DISK_PUT, PROXY, 0, ONE, 0}, {DISK_PUT, PROXY, 0, TWO, SIZE}};

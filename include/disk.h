@@ -164,13 +164,16 @@ uint64_t disk_check(const uint8_t *store, size_t store_length);
  *  8: the block is pending, or waits in the buffer (map, get, done).
  *  9: there is an item for the block (put), or there is none (map, done, abandon).
  * 10: no room in items, log, bucket, buffer or bag.
- * 11: the chunk is saved at no member (map), or not held at its home (copy), or at no up member (get).
+ * 11: the chunk is not saved at two members (map), or not held at its home (copy), or at no up member (get).
  * 12: no id, sequence number, order number or view number is left.
  * 13: the brick is not up (crash), not down (rise), or there is none (lose) or one already (join) at the place; fewer than two bricks are up, or not more
  *     than half of those that the view began with (view); the bucket is ready or has no source (fetch), or is not fetched in this view or ready already
  *     (ready); the block is not mapped (send); a brick is down or no member, a bucket not ready, a block pending, or an item left (collect).
  * 14: no room at the backup (deliver).
  * 15: the primary's key is not the item's (done).
+ *
+ * A block is written by a proxy that has learned the view: put; copy of the key that it answers; savelog at both places that now hold the chunk, since map
+ * asks for it saved at two members; map; send; deliver; savemap at the places of the bucket's primary and backup; done.
  *
  * Each call checks the whole store first, as disk_check does: for many events, disk_run checks it once. */
 disk_step_answer disk_step(uint8_t *store, size_t store_length, uint64_t kind, uint64_t a, uint64_t b, uint64_t c, const uint8_t *data, size_t data_length,
@@ -264,7 +267,7 @@ static inline const char *disk_code_text(uint64_t code)
         "the block is pending or waits in the buffer",
         "the block has an item already, or has none",
         "no room",
-        "the chunk is not held where it must be",
+        "the chunk is not held or saved where it must be",
         "no number is left",
         "the bricks, the bucket or the block are not in the state for it",
         "no room at the backup",
