@@ -3,10 +3,12 @@ mod fields;
 mod plans;
 mod start;
 mod tasks;
+mod under_way;
 
-pub use plans::{random, under_way, Plan};
+pub use plans::{random, Plan};
 pub use start::{edited, settings};
 pub use tasks::Task;
+pub use under_way::under_way;
 
 use crate::choose::one_of;
 use crate::damage::Damage;
@@ -45,7 +47,7 @@ pub struct Profile {
     /// of a hundred tasks of a plan so many left out
     pub skipped: u64,
     pub care: Care,
-    /// the next plan
+    /// what makes its plans
     pub plan: Plan,
     /// of a thousand acts so many on a damaged copy
     pub probes: u64,

@@ -124,7 +124,7 @@ fn want_of_bytes() {
     }
 }
 
-/// A writer under way says nothing of a source: a fetch may want one after a crash of a store that was not whole.
+/// The claim on two saved copies says nothing of sources.
 #[test]
 fn want_of_a_source_with_writes_under_way() {
     let mut history = History::default();

@@ -273,8 +273,8 @@ fn crashes_and_losses_of_whole_stores() {
     }
 }
 
-/// A second write of the block is cut off by a crash after each of its events, at each place; then the brick is back, and the block is shown as soon as it
-/// is not pending. No event but the crash takes anything away.
+/// A second write of the block is cut off by a crash after each of its events, at each place. The next view shows one of the two writes, and the one in which
+/// the brick is back shows the same.
 #[test]
 fn crashes_with_a_write_under_way() {
     let second = format!("put,0,0,5,{B2} copy,{} savelog,0 savelog,1 map,0,5 send,5 deliver,0 savemap,0 savemap,1", KEY + 1);

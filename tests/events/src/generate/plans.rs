@@ -4,10 +4,13 @@ use super::tasks::Task;
 use crate::choose::pick;
 use crate::model::{Block, State, BUCKETS, MOST_ITEMS, PROXIES};
 use call_tests::random::Random;
-use std::collections::VecDeque;
 
 /// What makes the next tasks of a list.
 pub type Plan = fn(&mut Random, &State, &[Block]) -> Vec<Task>;
+
+pub fn one(r: &mut Random, blocks: &[Block]) -> Block {
+    pick(r, blocks).unwrap_or(Block(0))
+}
 
 /// A put, saved at two members, and its map.
 fn mapped(r: &mut Random, state: &State, block: Block) -> [Task; 5] {
@@ -16,7 +19,7 @@ fn mapped(r: &mut Random, state: &State, block: Block) -> [Task; 5] {
 
 /// A write from put to done and a read. An older write of the block that has an item is finished or abandoned first.
 /// Now and then two neighbours change places.
-fn write(r: &mut Random, state: &State, block: Block) -> Vec<Task> {
+pub fn write(r: &mut Random, state: &State, block: Block) -> Vec<Task> {
     let mut tasks = if r.one_in(2) { vec![Task::Abandon(block)] } else { Vec::new() };
     tasks.push(Task::Learn(block.proxy()));
     tasks.extend(mapped(r, state, block));
@@ -57,9 +60,9 @@ fn late_relays(r: &mut Random, state: &State, block: Block) -> Vec<Task> {
         tasks.extend(rebuild(r, state, true));
     }
     tasks.extend(write(r, state, block));
-    tasks.extend([Task::DeliverOldest(block), Task::DeliverOldest(block), Task::SaveBackup(block), Task::CrashPrimary(block), Task::View]);
-    tasks.extend(learn_all());
-    tasks.extend([Task::Fetch(block.bucket()), Task::Ready(block.bucket()), Task::Get(block)]);
+    tasks.extend([Task::DeliverOldest(block), Task::DeliverOldest(block), Task::SaveBackup(block), Task::CrashPrimary(block)]);
+    tasks.extend(next_view([block.bucket()]));
+    tasks.push(Task::Get(block));
     tasks
 }
 
@@ -68,11 +71,11 @@ fn fewer_copies(r: &mut Random, state: &State, block: Block) -> Vec<Task> {
     let mut tasks = write(r, state, block);
     tasks.extend([Task::CrashTarget(block), Task::Copy(block)]);
     if r.one_in(2) {
-        tasks.extend((0..state.places.len()).map(Task::Mend));
+        tasks.extend(mend_all(state));
     }
-    tasks.extend([Task::CrashHome(block), Task::Get(block), Task::CrashTarget(block), Task::Get(block), Task::View]);
-    tasks.extend(learn_all());
-    tasks.extend([Task::Fetch(block.bucket()), Task::Ready(block.bucket()), Task::Get(block)]);
+    tasks.extend([Task::CrashHome(block), Task::Get(block), Task::CrashTarget(block), Task::Get(block)]);
+    tasks.extend(next_view([block.bucket()]));
+    tasks.push(Task::Get(block));
     tasks
 }
 
@@ -86,7 +89,11 @@ fn learn_all() -> impl Iterator<Item = Task> {
     (0..PROXIES).map(Task::Learn)
 }
 
-fn read(blocks: &[Block]) -> Vec<Task> {
+pub fn mend_all(state: &State) -> impl Iterator<Item = Task> + use<> {
+    (0..state.places.len()).map(Task::Mend)
+}
+
+pub fn read(blocks: &[Block]) -> Vec<Task> {
     learn_all().chain(blocks.iter().map(|&b| Task::Get(b))).collect()
 }
 
@@ -95,42 +102,38 @@ fn settle(state: &State) -> Vec<Task> {
     let pending = state.pending();
     let sends = pending.iter().flat_map(|&b| [Task::Send(b), Task::Deliver(b)]);
     let saves = pending.iter().flat_map(|&b| [Task::SavePrimary(b), Task::SaveBackup(b)]);
-    let mends = (0..state.places.len()).map(Task::Mend);
-    sends.chain(saves).chain(mends).chain(learn_all()).collect()
+    sends.chain(saves).chain(mend_all(state)).chain(learn_all()).collect()
 }
 
 /// Items end, then every log is collected.
-fn collect_all(r: &mut Random, state: &State) -> Vec<Task> {
+pub fn collect_all(r: &mut Random, state: &State) -> Vec<Task> {
     let mut tasks = settle(state);
     let items: Vec<Block> = state.proxies.iter().flat_map(|p| p.items.keys().copied()).collect();
     tasks.extend(items.iter().flat_map(|&b| [Task::Done(b), Task::Abandon(b)]));
     if r.one_in(4) {
         tasks.extend((0..PROXIES).map(Task::Reset));
     }
-    let places = 0..state.places.len();
-    tasks.extend(places.clone().map(Task::Collect));
-    tasks.extend(places.map(Task::Mend));
+    tasks.extend((0..state.places.len()).map(Task::Collect));
+    tasks.extend(mend_all(state));
     tasks
 }
 
-/// A new view with what is up, and every bucket ready in it.
-fn next_view() -> impl Iterator<Item = Task> {
-    [Task::View].into_iter().chain(learn_all()).chain((0..BUCKETS).flat_map(|g| [Task::Fetch(g), Task::Ready(g)]))
+/// A new view with what is up, and some buckets ready in it.
+pub fn next_view(buckets: impl IntoIterator<Item = usize>) -> impl Iterator<Item = Task> {
+    let readies = buckets.into_iter().flat_map(|g| [Task::Fetch(g), Task::Ready(g)]);
+    [Task::View].into_iter().chain(learn_all()).chain(readies)
 }
 
 /// A new view with what is up; some bricks rise or join before, or all of them.
-fn rebuild(r: &mut Random, state: &State, all: bool) -> Vec<Task> {
+pub fn rebuild(r: &mut Random, state: &State, all: bool) -> Vec<Task> {
     let mut tasks = Vec::new();
     for place in 0..state.places.len() {
         if all || r.one_in(2) {
             tasks.push(if state.at(place).is_some() { Task::Rise(place) } else { Task::Join(place) });
         }
     }
-    tasks.push(Task::View);
-    tasks.extend(learn_all());
-    let buckets = (0..BUCKETS).filter(|_| all || !r.one_in(4));
-    tasks.extend(buckets.flat_map(|g| [Task::Fetch(g), Task::Ready(g)]));
-    tasks.extend((0..state.places.len()).map(Task::Mend));
+    tasks.extend(next_view((0..BUCKETS).filter(|_| all || !r.one_in(4))));
+    tasks.extend(mend_all(state));
     tasks
 }
 
@@ -159,75 +162,6 @@ fn late_maps(r: &mut Random, state: &State, blocks: &[Block]) -> Vec<Task> {
     }
     tasks.extend(blocks.iter().flat_map(|b| [Task::Fetch(b.bucket()), Task::Ready(b.bucket())]));
     tasks
-}
-
-fn one(r: &mut Random, blocks: &[Block]) -> Block {
-    pick(r, blocks).unwrap_or(Block(0))
-}
-
-/// A write that ends early, mostly between its map and its done; now and then with one saved copy alone, with which the map is to be refused.
-fn cut_off(r: &mut Random, state: &State, blocks: &[Block]) -> VecDeque<Task> {
-    let block = one(r, blocks);
-    let mut tasks = write(r, state, block);
-    if r.one_in(4) {
-        tasks.retain(|task| !matches!(task, Task::Copy(_) | Task::SaveTarget(_)));
-    }
-    let map = tasks.iter().position(|task| matches!(task, Task::Map(_))).unwrap_or(0);
-    let length = if r.one_in(5) { r.below(tasks.len() as u64) as usize } else { map + r.among(1, 4) as usize };
-    tasks.truncate(length);
-    tasks.into()
-}
-
-/// One list of all, each in its own order.
-fn merged(r: &mut Random, mut lists: Vec<VecDeque<Task>>) -> Vec<Task> {
-    let mut tasks = Vec::new();
-    while !lists.is_empty() {
-        let one = r.below(lists.len() as u64) as usize;
-        match lists[one].pop_front() {
-            Some(task) => tasks.push(task),
-            None => drop(lists.swap_remove(one)),
-        }
-    }
-    tasks
-}
-
-/// Whether a log has hardly room for the chunks of a few writes.
-fn is_nearly_full(state: &State) -> bool {
-    state.bricks.values().any(|b| b.log.len() + 6 > state.chunks())
-}
-
-/// Writes under way, relays of theirs and older ones; then a crash, now and then a view without the brick and a write in it; then the brick is back. In one
-/// half of the cases nothing is mended.
-fn crash_under_way(r: &mut Random, state: &State, blocks: &[Block]) -> Vec<Task> {
-    let (block, place) = (one(r, blocks), r.below(state.settings.places) as usize);
-    let mut writes: Vec<VecDeque<Task>> = (0..r.among(1, 3)).map(|_| cut_off(r, state, blocks)).collect();
-    writes.push((0..r.below(4)).map(|_| Task::DeliverAny).collect());
-    let mut tasks = merged(r, writes);
-    tasks.push(Task::Crash(place));
-    tasks.extend(read(blocks));
-    if r.one_in(3) {
-        tasks.extend(next_view());
-        tasks.extend(read(blocks));
-        tasks.extend(write(r, state, block));
-    }
-    tasks.push(Task::Rise(place));
-    tasks.extend(next_view());
-    if r.one_in(2) {
-        tasks.extend((0..state.places.len()).map(Task::Mend));
-    }
-    tasks.extend(read(blocks));
-    tasks
-}
-
-/// One crash with writes under way after the other; the logs are collected where they are nearly full.
-pub fn under_way(r: &mut Random, state: &State, blocks: &[Block]) -> Vec<Task> {
-    if !state.is_all_up_and_ready() {
-        rebuild(r, state, true)
-    } else if is_nearly_full(state) && !r.one_in(4) {
-        collect_all(r, state)
-    } else {
-        crash_under_way(r, state, blocks)
-    }
 }
 
 fn crash_or_lose(r: &mut Random, state: &State) -> Vec<Task> {

@@ -55,7 +55,7 @@ pub fn step(state: &mut State, call: &Call) -> Answer {
     step_with(COPIES, state, call)
 }
 
-/// Where a map asks for so many saved copies: with fewer than the rules have it is a rule that loses bytes.
+/// The same where a map asks for so many saved copies: with fewer than the rules ask for, bytes are lost.
 pub fn step_with(copies: usize, state: &mut State, call: &Call) -> Answer {
     let told = event(state, call).and_then(|e| dispatch(copies, state, e));
     told.unwrap_or_else(|Refusal(code)| Answer::refused(code))
