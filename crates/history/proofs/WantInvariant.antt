@@ -4,11 +4,14 @@ use mathlib.Core.List.{List, List·Memᴰ}
 use mathlib.Core.Bool.{Bool, true, false}
 use mathlib.Core.Logic.{_⊎_}
 use Prim.Native.Nat.{ℕ, _≤_, _<_}
+use Rattle.lists.specs.Tests.{all-below}
 use Rattle.lists.specs.Columns.{upd}
+use Rattle.lists.proofs.Tests.{and-r, all-at}
 use Rattle.rules.specs.Limits.{buckets}
 use Rattle.rules.specs.Entries.{Entry, key-for}
 use Rattle.rules.specs.Chunks.{Chunk, saved-in}
 use Rattle.rules.specs.State.{Bucket, Relay, State}
+use Rattle.rules.specs.Derived.{up-member}
 use Rattle.history.proofs.Copies.{ReliedOn, Copies}
 use Rattle.history.proofs.AgeingInvariant.{InBag}
 
@@ -52,6 +55,9 @@ Uses K s = InUse K (buckets (s .settings)) (s .bricks .present) (s .bag) (s .vie
 -- every place holds a member
 abbrev pub Full : ℕ → (ℕ → ℕ) → (ℕ → Bool) → Type 0
 Full places ids member = (p : ℕ) → p < places → member (ids p) ≡ true
+
+pub all-full : (s : State) → all-below (s .settings .places) (λ p. up-member s (s .ids p)) ≡ true → Full (s .settings .places) (s .ids) (s .bricks .member)
+all-full s y p l = and-r _ _ (all-at (s .settings .places) (λ p. up-member s (s .ids p)) y p l)
 
 pub record PairWant (places : ℕ) (ids : ℕ → ℕ) (member : ℕ → Bool) (last-primary last-backup : ℕ) (ready is-open : Bool) : Type 0 where
   -- since a view with no ready after it the bucket is not ready

@@ -4,7 +4,7 @@ use mathlib.Core.Bool.{Bool, not, cond}
 use Prim.Native.Nat.{ℕ}
 use lib.Dec.{ltb, leb, eqb}
 use lib.ListN.{length}
-use Rattle.lists.specs.Tests.{_and_, _or_, every, only}
+use Rattle.lists.specs.Tests.{_and_, every, only}
 use Rattle.rules.specs.Limits.{buckets}
 use Rattle.rules.specs.Numbers.{bucket-of, home-of}
 use Rattle.rules.specs.Entries.{Entry, key-for}

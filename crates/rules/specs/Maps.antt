@@ -1,7 +1,7 @@
 -- map, send, deliver, drop, savemap and done: the way of a mapping from an item to both copies of its pair. abandon, learn and reset: the proxy's own steps.
 use mathlib.Core.List.{List, [], _∷_, _++_}
 use mathlib.Core.Bool.{Bool, not, cond}
-use Prim.Native.Nat.{ℕ, zero, suc, _+_}
+use Prim.Native.Nat.{ℕ, zero, suc}
 use lib.Dec.{ltb, eqb}
 use lib.ListN.{length, getD}
 use Rattle.lists.specs.Tests.{_and_, _or_}

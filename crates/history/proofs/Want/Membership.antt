@@ -15,7 +15,7 @@ use Rattle.rules.specs.Entries.{Entry, key-for, has}
 use Rattle.rules.specs.Chunks.{Chunk}
 use Rattle.rules.specs.Event.{Event}
 use Rattle.rules.specs.State.{State, Bucket, with-copies}
-use Rattle.rules.specs.Derived.{up-member, saved-twice, primary-memory, nothing-pending}
+use Rattle.rules.specs.Derived.{saved-twice, primary-memory, nothing-pending}
 use Rattle.rules.specs.Membership.{crash-effect, lose-effect, join-effect}
 use Rattle.rules.specs.Whole.{whole}
 use Rattle.rules.specs.Step.{rule}
@@ -26,7 +26,7 @@ use Rattle.rules.proofs.Sound.{Sound}
 use Rattle.history.specs.Claim.{History}
 use Rattle.history.proofs.Facts.{present-born, brick-here, not-joined}
 use Rattle.history.proofs.AgeingInvariant.{AgeingInvariant}
-use Rattle.history.proofs.WantInvariant.{Kept, KeptBy, Uses, Full, PairWant, BucketWant, WantInvariant}
+use Rattle.history.proofs.WantInvariant.{Kept, KeptBy, Uses, Full, all-full, PairWant, BucketWant, WantInvariant}
 use Rattle.history.proofs.Want.Uses.{uses-map, crash-uses, lose-uses, join-uses}
 use Rattle.history.proofs.Want.Saved.{kept-by, twice-kept}
 use Rattle.history.proofs.Want.NothingPending.{Settled, Follows, wants-follow, settled, uses-mapped}
@@ -45,7 +45,7 @@ module _ (s : State) (h : History) (v : AgeingInvariant s h) (z : Sound s) (o : 
 
   full : Full (s .settings .places) (s .ids) (s .bricks .member)
   unfolding whole
-  full p l = and-r _ _ (all-at (s .settings .places) (λ p. up-member s (s .ids p)) (and-l _ _ (and-l _ _ was)) p l)
+  full = all-full s (and-l _ _ (and-l _ _ was))
 
   twice : (g : ℕ) → g < buckets (s .settings) → (e : Entry) → List·Memᴰ e (primary-memory (s .bucket g)) → saved-twice s (e .key) ≡ true
   unfolding whole

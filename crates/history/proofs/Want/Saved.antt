@@ -4,7 +4,6 @@ use mathlib.Core.List.{List}
 use mathlib.Core.Bool.{Bool, true}
 use mathlib.Core.Logic.{inl, inr}
 use Prim.Native.Nat.{ℕ, _<_}
-use Rattle.lists.specs.Tests.{_or_}
 use Rattle.lists.specs.Columns.{upd}
 use Rattle.lists.proofs.Tests.{by-eq, either, or-l, some-at}
 use Rattle.lists.proofs.Columns.{upd-all, unflag, still-flagged}

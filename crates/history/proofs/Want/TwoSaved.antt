@@ -29,7 +29,7 @@ use Rattle.history.specs.Claim.{History, IsCrash, IsLose}
 use Rattle.history.proofs.Sound.Format.{in-first}
 use Rattle.history.proofs.Facts.{brick-here}
 use Rattle.history.proofs.AgeingInvariant.{AgeingInvariant}
-use Rattle.history.proofs.WantInvariant.{KeptBy, KeptTwice, TwiceBy, Uses, Full, NoneLost, TwoSavedInvariant}
+use Rattle.history.proofs.WantInvariant.{KeptBy, KeptTwice, TwiceBy, Uses, Full, all-full, NoneLost, TwoSavedInvariant}
 use Rattle.history.proofs.Want.Uses.{uses-map, uses-kept, format-uses}
 use Rattle.history.proofs.Want.Saved.{kept-on, twice-more, put-saves, copy-kept, savelog-saves, crash-saves, mend-saves, collect-left, map-twice}
 use Rattle.history.proofs.Want.NothingPending.{Follows, uses-mapped, mapped-used}
@@ -51,15 +51,14 @@ member-keeps s n k f =
 
 -- ---- the bricks
 module _ (s : State) (z : Sound s) (n : NoneLost s) where
-  -- where every place holds a member, every brick is-present is one
+  -- where every place holds a member, every present brick is one
   placed : Full (s .settings .places) (s .ids) (s .bricks .member) → (i : ℕ) → s .bricks .present i ≡ true → s .bricks .member i ≡ true
   placed full i y = let t = z .bricks .somewhere i y in rw (t .2) at (full (t .0) (t .1))
 
   crash-bricks : (i : ℕ) → all-up-and-ready s ≡ true → NoneLost (rule s (Event.crash i) .after)
   unfolding rule crash-effect all-up-and-ready
   crash-bricks i was =
-      let full : Full (s .settings .places) (s .ids) (s .bricks .member)
-      = λ p l. and-r _ _ (all-at (s .settings .places) (λ p. up-member s (s .ids p)) (and-l _ _ was) p l) in
+      let full = all-full s (and-l _ _ was) in
       let crashed : (j : ℕ) → s .bricks .present j ≡ true → upd (s .bricks .member) (s .ids i) false j ≡ false → j ≡ s .ids i
       = λ j y out. by-eq j (s .ids i) (λ _ e. e) (λ _ d. clash out (still-flagged (s .bricks .member) (s .ids i) j d (placed full j y))) in
       record { no-empty = n .no-empty; is-present = n .is-present; one-out = λ a b ha hb oa ob. crashed a ha oa ∙ sym (crashed b hb ob) }
