@@ -18,7 +18,7 @@ use Rattle.history.proofs.AgeingInvariant.{InBag}
 -- ---- a key that one of some bricks has saved
 pub record Safe (among : ℕ → Bool) (log : ℕ → List Chunk) (k : ℕ) : Type 0 where
   pub who : ℕ
-  pub is-one : among who ≡ true
+  pub is-among : among who ≡ true
   pub saved : saved-in (log who) k ≡ true
 
 abbrev pub Kept : (ℕ → Bool) → (ℕ → List Chunk) → ℕ → Type 0

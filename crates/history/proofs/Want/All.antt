@@ -27,7 +27,7 @@ use Rattle.history.proofs.Sound.Format.{in-first}
 use Rattle.history.proofs.AgeingInvariant.{AgeingInvariant}
 use Rattle.history.proofs.WantInvariant.{Kept, KeptBy, WantOf, Wants, WantInvariant}
 use Rattle.history.proofs.Want.Uses.{uses-map, uses-kept, format-uses}
-use Rattle.history.proofs.Want.Saved.{kept-by, kept-on, unleft, put-saves, copy-kept, savelog-saves, mend-saves, collect-left, map-twice}
+use Rattle.history.proofs.Want.Saved.{kept-by, kept-on, kept-once, put-saves, copy-kept, savelog-saves, mend-saves, collect-left, map-twice}
 use Rattle.history.proofs.Want.NothingPending.{wants-follow, uses-mapped, mapped-used}
 use Rattle.history.proofs.Want.Relays.{map-wants, send-wants, deliver-wants, fewer-wants}
 use Rattle.history.proofs.Want.Membership.{crash-want, lose-want, join-want}
@@ -37,16 +37,16 @@ module _ (s : State) (h : History) (o : ℕ → Bool) (v : AgeingInvariant s h) 
   -- what a member has saved it has after the event
   on : (e : Event) → Yes s e → ((k : ℕ) → KeptBy s k → KeptBy (rule s e .after) k) → Wants (rule s e .after) (awaiting-by o (meaning e))
       → WantInvariant (rule s e .after) (awaiting-by o (meaning e))
-  on e y f u = record { uses = uses-map f (uses-kept (KeptBy s) s (w .uses) h v z e y (λ p b q. unleft (item s p b) (map-twice s e y p b q))); buckets = u }
+  on e y f u = record { uses = uses-map f (uses-kept (KeptBy s) s (w .uses) h v z e y (λ p b q. kept-once (item s p b) (map-twice s e y p b q))); buckets = u }
 
   collect-want : (i : ℕ) → Yes s (Event.collect i) → WantInvariant (rule s (Event.collect i) .after) o
   unfolding rule collect-effect
   collect-want i y =
-      let calms : (g : ℕ) → g < buckets (s .settings) → nothing-pending (s .bucket g) ≡ true = all-at _ _ (search) in
+      let nothing-pending-in : (g : ℕ) → g < buckets (s .settings) → nothing-pending (s .bucket g) ≡ true = all-at _ _ (search) in
       let follows = wants-follow s o (w .buckets) in
       record {
-        uses = uses-mapped s h v calms follows (KeptBy s) (w .uses) (KeptBy (collect-effect s (s .ids i)))
-            (λ g l b. collect-left s (s .bricks .member) (s .ids i) g l b (mapped-used s h v calms follows (KeptBy s) (w .uses) z (inl refl) g l b));
+        uses = uses-mapped s h v nothing-pending-in follows (KeptBy s) (w .uses) (KeptBy (collect-effect s (s .ids i)))
+            (λ g l b. collect-left s (s .bricks .member) (s .ids i) g l b (mapped-used s h v nothing-pending-in follows (KeptBy s) (w .uses) z (inl refl) g l b));
         buckets = w .buckets;
       }
 

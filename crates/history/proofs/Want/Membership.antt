@@ -33,15 +33,15 @@ use Rattle.history.proofs.Want.NothingPending.{Settled, Follows, wants-
 
 -- ---- a crash or loss that finds a whole store
 module _ (s : State) (h : History) (v : AgeingInvariant s h) (z : Sound s) (o : ℕ → Bool) (w : WantInvariant s o) (was : whole s ≡ true) where
-  calms : (g : ℕ) → g < buckets (s .settings) → nothing-pending (s .bucket g) ≡ true
+  nothing-pending-in : (g : ℕ) → g < buckets (s .settings) → nothing-pending (s .bucket g) ≡ true
   unfolding whole
-  calms = all-at _ _ (and-r _ _ (and-l _ _ was))
+  nothing-pending-in = all-at _ _ (and-r _ _ (and-l _ _ was))
 
   follows : (g : ℕ) → g < buckets (s .settings) → s .bucket g .ready ≡ true → Follows s g (s .bucket g)
   follows = wants-follow s o (w .buckets)
 
-  calmed : (g : ℕ) → g < buckets (s .settings) → Settled s g (s .bucket g)
-  calmed = settled s h v calms follows
+  settled-in : (g : ℕ) → g < buckets (s .settings) → Settled s g (s .bucket g)
+  settled-in = settled s h v nothing-pending-in follows
 
   full : Full (s .settings .places) (s .ids) (s .bricks .member)
   unfolding whole
@@ -71,7 +71,7 @@ module _ (s : State) (h : History) (v : AgeingInvariant s h) (z : Sound s) (o : 
 
     -- so is every key in use
     uses-elsewhere : (l : List Chunk) → Uses (Kept member′ (upd (s .bricks .log) x l)) s
-    uses-elsewhere l = uses-mapped s h v calms follows (KeptBy s) (w .uses) _ (kept-elsewhere l)
+    uses-elsewhere l = uses-mapped s h v nothing-pending-in follows (KeptBy s) (w .uses) _ (kept-elsewhere l)
 
     -- the last ready pair keeps a member, and place i holds none
     module _ (ids′ : ℕ → ℕ) (i : ℕ) (inside : i < s .settings .places) (gone : member′ (ids′ i) ≡ true → ⊥) (g : ℕ) (l : g < buckets (s .settings)) where
@@ -81,7 +81,7 @@ module _ (s : State) (h : History) (v : AgeingInvariant s h) (z : Sound s) (o : 
       pair-after-failure : PairWant (s .settings .places) ids′ member′ (own .last-primary) (own .last-backup) (own .ready) (o g)
       pair-after-failure =
           let u = w .buckets g l .pair in
-          let t = u .all (calmed g l .ready) full in
+          let t = u .all (settled-in g l .ready) full in
           record {
             tracked = u .tracked;
             one = by-eq (own .last-primary) x
@@ -96,7 +96,7 @@ module _ (s : State) (h : History) (v : AgeingInvariant s h) (z : Sound s) (o : 
           → BucketWant (s .settings .places) ids′ member′ (s .bag) (s .view) (o g) g (with-copies own memory′ disk′)
       bucket-after-failure memory′ disk′ shows = record {
         pair = pair-after-failure;
-        matches-backup = λ _ n r m t. calmed g l .live-kept r m t ∙ sym (shows (r .block) n);
+        matches-backup = λ _ n r m t. settled-in g l .live-kept r m t ∙ sym (shows (r .block) n);
       }
 
   pub crash-want : (i : ℕ) → Yes s (Event.crash i) → WantInvariant (rule s (Event.crash i) .after) o
@@ -109,7 +109,7 @@ module _ (s : State) (h : History) (v : AgeingInvariant s h) (z : Sound s) (o : 
         buckets = λ g l.
             let k = s .bucket g in
             bucket-after-failure x (s .ids) i (search ltb-true) gone g l _ _ (λ b _.
-            let agreed = agree-all k b (calmed g l .one-key b) in
+            let agreed = agree-all k b (settled-in g l .one-key b) in
             by-eq (k .backup) x (λ q e. rw (q, ← e) (agreed .2)) (λ q _. rw q (agreed .1)));
       }
 
@@ -121,7 +121,7 @@ module _ (s : State) (h : History) (v : AgeingInvariant s h) (z : Sound s) (o : 
         uses = lose-uses _ s (uses-elsewhere x _) i;
         buckets = λ g l.
             let k = s .bucket g in
-            let c = calmed g l in
+            let c = settled-in g l in
             bucket-after-failure x _ i (search ltb-true) (no-member x i) g l _ _ (λ b n.
             let primary = rw (← c .same .one) at (w .buckets g l .pair .all (c .ready) full .0) in
             let lost : k .primary ≡ x = by-eq (k .primary) x (λ _ e. e) (λ _ d. clash n (still-flagged (s .bricks .member) x _ d primary)) in

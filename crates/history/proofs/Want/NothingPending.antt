@@ -32,12 +32,12 @@ Follows s g k = (s .bricks .member (k .primary) ≡ true) ⊎ EachLive g (s .bag
 pub wants-follow : (s : State) (o : ℕ → Bool) → Wants s o → (g : ℕ) → g < buckets (s .settings) → s .bucket g .ready ≡ true → Follows s g (s .bucket g)
 wants-follow s o w g l y = by (s .bricks .member (s .bucket g .primary)) (λ m. inl m) (λ n. inr (w g l .matches-backup y n))
 
-module _ (s : State) (h : History) (v : AgeingInvariant s h) (calms : (g : ℕ) → g < buckets (s .settings) → nothing-pending (s .bucket g) ≡ true)
+module _ (s : State) (h : History) (v : AgeingInvariant s h) (nothing-pending-in : (g : ℕ) → g < buckets (s .settings) → nothing-pending (s .bucket g) ≡ true)
     (follows : (g : ℕ) → g < buckets (s .settings) → s .bucket g .ready ≡ true → Follows s g (s .bucket g)) where
   pub settled : (g : ℕ) → g < buckets (s .settings) → Settled s g (s .bucket g)
   settled g l =
       let k = s .bucket g in
-      let t = nothing-pending-agrees k (calms g l) in
+      let t = nothing-pending-agrees k (nothing-pending-in g l) in
       let u = v .buckets g l .flight in
       record {
         ready = t .0;

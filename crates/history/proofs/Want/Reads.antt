@@ -30,10 +30,10 @@ module _ (s : State) (z : Sound s) where
   unfolding holder
   kept-found k (inl e) n = absurd (n e)
   kept-found k (inr t) n =
-      let present = brick-here s z (t .who) (t .is-one) in
-      let is-id = in-ids (s .given) (s .bricks .member) (t .who) (z .bricks .first _ present) (present-born s z _ present) (t .is-one) in
+      let present = brick-here s z (t .who) (t .is-among) in
+      let is-id = in-ids (s .given) (s .bricks .member) (t .who) (z .bricks .first _ present) (present-born s z _ present) (t .is-among) in
       lt-ltb _ _ (first-holder-found (s .bricks) k (t .who) (members-from s (home-of k)) (λ j m. ids-in _ _ j (members-from-in s _ j m) .0) (in-members-from s _ (t .who) is-id)
-      (z .bricks .member-up _ (t .is-one)) (saved-held _ k (t .saved)))
+      (z .bricks .member-up _ (t .is-among)) (saved-held _ k (t .saved)))
 
   pub get-found : (h : History) → AgeingInvariant s h → Uses (KeptBy s) s → (p b : ℕ) → first-no (rule s (Event.get p b) .questions) ≡ 11 → ⊥
   unfolding rule

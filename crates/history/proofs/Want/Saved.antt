@@ -28,11 +28,11 @@ use Rattle.history.proofs.Mend.{mend-keeps}
 module _ {among among′ : ℕ → Bool} {log log′ : ℕ → List Chunk} (k : ℕ) where
   pub kept-by : ((i : ℕ) → among i ≡ true → saved-in (log i) k ≡ true → (among′ i ≡ true) × (saved-in (log′ i) k ≡ true)) → Kept among log k → Kept among′ log′ k
   kept-by h (inl e) = inl e
-  kept-by h (inr t) = let u = h (t .who) (t .is-one) (t .saved) in inr (record { who = t .who; is-one = u .0; saved = u .1 })
+  kept-by h (inr t) = let u = h (t .who) (t .is-among) (t .saved) in inr (record { who = t .who; is-among = u .0; saved = u .1 })
 
--- whichever one is left out
-pub unleft : {among : ℕ → Bool} {log : ℕ → List Chunk} (k : ℕ) → KeptTwice among log k → Kept among log k
-unleft {among} k t = kept-by k (λ i y n. (unflag among 0 i y .0, n)) (t 0)
+-- kept twice
+pub kept-once : {among : ℕ → Bool} {log : ℕ → List Chunk} (k : ℕ) → KeptTwice among log k → Kept among log k
+kept-once {among} k t = kept-by k (λ i y n. (unflag among 0 i y .0, n)) (t 0)
 
 pub twice-more : {among among′ : ℕ → Bool} {log : ℕ → List Chunk} (k : ℕ) → ((i : ℕ) → among i ≡ true → among′ i ≡ true)
     → KeptTwice among log k → KeptTwice among′ log k
@@ -40,36 +40,38 @@ twice-more {among} {among′} k f t x = kept-by k (λ i y n. let u = unflag amon
 
 -- ---- logs
 abbrev pub Saves : (ℕ → List Chunk) → (ℕ → List Chunk) → Type 0
-Saves log log′ = (i k : ℕ) → saved-in (log i) k ≡ true → saved-in (log′ i) k ≡ true
+Saves log log′ = (k i : ℕ) → saved-in (log i) k ≡ true → saved-in (log′ i) k ≡ true
 
 pub kept-on : {among : ℕ → Bool} {log log′ : ℕ → List Chunk} → Saves log log′ → (k : ℕ) → Kept among log k → Kept among log′ k
-kept-on f k = kept-by k (λ i y n. (y, f i k n))
+kept-on f k = kept-by k (λ i y n. (y, f k i n))
 
-log-saves : (log : ℕ → List Chunk) (x : ℕ) (l : List Chunk) → ((k : ℕ) → saved-in (log x) k ≡ true → saved-in l k ≡ true) → Saves log (upd log x l)
-log-saves log x l more i k = upd-all (λ j m. saved-in (log j) k ≡ true → saved-in m k ≡ true) log x l (λ _ y. y) (more k) i
+-- one log changed
+log-saves : (log : ℕ → List Chunk) (x : ℕ) (l : List Chunk) (k : ℕ) → (saved-in (log x) k ≡ true → saved-in l k ≡ true)
+    → (i : ℕ) → saved-in (log i) k ≡ true → saved-in (upd log x l i) k ≡ true
+log-saves log x l k = upd-all (λ j m. saved-in (log j) k ≡ true → saved-in m k ≡ true) log x l (λ _ y. y)
 
 module _ (s : State) where
   pub put-saves : (p i b : ℕ) (d : List ℕ) → Saves (s .bricks .log) (rule s (Event.put p i b d) .after .bricks .log)
   unfolding rule put-effect
-  put-saves p i b d = log-saves _ _ _ (saved-append _ _)
+  put-saves p i b d k = log-saves _ _ _ k (saved-append _ _ k)
 
   -- a copy adds to one log or changes nothing
   pub copy-kept : (P : Bricks → Type 0) (k : ℕ) → ((log : ℕ → List Chunk) → Saves (s .bricks .log) log → P (set-lists (s .bricks) log (s .bricks .buffer)))
       → P (rule s (Event.copy k) .after .bricks)
   unfolding rule copy-effect
-  copy-kept P k f = either P (nothing-to-copy s k) (λ _. f _ (λ i j y. y)) (λ _. f _ (log-saves _ _ _ (saved-append _ _)))
+  copy-kept P k f = either P (nothing-to-copy s k) (λ _. f _ (λ j i y. y)) (λ _. f _ (λ j. log-saves _ _ _ j (saved-append _ _ j)))
 
   pub savelog-saves : (i : ℕ) → Saves (s .bricks .log) (rule s (Event.savelog i) .after .bricks .log)
   unfolding rule savelog-effect save-all
-  savelog-saves i = log-saves _ _ _ (still-saved _ _)
+  savelog-saves i k = log-saves _ _ _ k (still-saved _ _ k)
 
   pub crash-saves : (i : ℕ) → Saves (s .bricks .log) (rule s (Event.crash i) .after .bricks .log)
   unfolding rule crash-effect only-saved
-  crash-saves i = log-saves _ _ _ (λ k. saved-only _ _ k (λ c _ y. y))
+  crash-saves i k = log-saves _ _ _ k (saved-only _ _ k (λ c _ y. y))
 
   pub mend-saves : (i : ℕ) → Saves (s .bricks .log) (rule s (Event.mend i) .after .bricks .log)
   unfolding rule mend-effect save-key
-  mend-saves i = log-saves _ _ _ (λ k. mend-keeps s (s .ids i) (λ l. saved-in l k ≡ true) (λ l j. still-saved _ l k) (λ l j _ _. saved-append l _ k))
+  mend-saves i k = log-saves _ _ _ k (mend-keeps s (s .ids i) (λ l. saved-in l k ≡ true) (λ l j. still-saved _ l k) (λ l j _ _. saved-append l _ k))
 
   -- collect leaves what the primaries name
   pub collect-left : (among : ℕ → Bool) (x g : ℕ) → g < buckets (s .settings) → (b : ℕ) → let k = key-for (primary-memory (s .bucket g)) b in
@@ -80,13 +82,13 @@ module _ (s : State) where
       let named : (k ≡ 0 → ⊥) → pair-names (s .bucket g) k ≡ true = λ n. or-l _ _ (or-l _ _ (or-l _ _ (key-for-names _ b n))) in
       by-eq k 0 (λ _ e _. inl e) (λ _ n.
       let left = saved-only _ (s .bricks .log x) k (λ c e _. rw e (some-at (buckets (s .settings)) _ g l (named n))) in
-      kept-by k (λ i y t. (y, upd-all (λ j m. saved-in (s .bricks .log j) k ≡ true → saved-in m k ≡ true) (s .bricks .log) x _ (λ _ q. q) left i t)))
+      kept-by k (λ i y t. (y, log-saves (s .bricks .log) x _ k left i t)))
 
   -- ---- a chunk saved at two members, as map asks
   pub twice-kept : (k : ℕ) → saved-twice s k ≡ true → KeptTwice (s .bricks .member) (s .bricks .log) k
   twice-kept k y x =
       let t = saved-elsewhere s k x y in
-      inr (record { who = t .0; is-one = still-flagged (s .bricks .member) x (t .0) (t .3) (ids-in _ _ _ (t .1) .2); saved = t .2 })
+      inr (record { who = t .0; is-among = still-flagged (s .bricks .member) x (t .0) (t .3) (ids-in _ _ _ (t .1) .2); saved = t .2 })
 
   pub map-twice : (e : Event) → Yes s e → (p b : ℕ) → e ≡ Event.map p b → KeptTwice (s .bricks .member) (s .bricks .log) (item s p b)
   map-twice e y p b q = asked (subst (λ (a : Event). Yes s a) q y)

@@ -39,13 +39,13 @@ pub member-keeps : (s : State) → NoneLost s → (k : ℕ) → TwiceBy s k → 
 member-keeps s n k f =
     elim (f 0) [
       | inl e ↦ inl e
-      | inr t ↦ by (s .bricks .member (t .who)) (λ y. inr (record { who = t .who; is-one = y; saved = t .saved })) (λ out.
+      | inr t ↦ by (s .bricks .member (t .who)) (λ y. inr (record { who = t .who; is-among = y; saved = t .saved })) (λ out.
           elim (f (t .who)) [
             | inl e ↦ inl e
             | inr u ↦
-                let other = unflag (s .bricks .present) (t .who) (u .who) (u .is-one) in
-                by (s .bricks .member (u .who)) (λ y. inr (record { who = u .who; is-one = y; saved = u .saved })) (λ out′.
-                absurd (other .1 (n .one-out (u .who) (t .who) (other .0) (unflag (s .bricks .present) 0 (t .who) (t .is-one) .0) out′ out)))
+                let other = unflag (s .bricks .present) (t .who) (u .who) (u .is-among) in
+                by (s .bricks .member (u .who)) (λ y. inr (record { who = u .who; is-among = y; saved = u .saved })) (λ out′.
+                absurd (other .1 (n .one-out (u .who) (t .who) (other .0) (unflag (s .bricks .present) 0 (t .who) (t .is-among) .0) out′ out)))
           ])
     ]
 
@@ -114,7 +114,7 @@ module _ (s : State) (h : History) (v : AgeingInvariant s h) (z : Sound s) (d : 
   collect-uses : (i : ℕ) → Yes s (Event.collect i) → Uses (TwiceBy (rule s (Event.collect i) .after)) s
   unfolding rule collect-effect
   collect-uses i y =
-      let calms : (g : ℕ) → g < buckets (s .settings) → nothing-pending (s .bucket g) ≡ true = all-at _ _ (search) in
+      let nothing-pending-in : (g : ℕ) → g < buckets (s .settings) → nothing-pending (s .bucket g) ≡ true = all-at _ _ (search) in
       let none-down : (p : ℕ) → p < s .settings .places → (is-empty s p or up-member s (s .ids p)) ≡ true = all-at _ _ (search) in
       let full : Full (s .settings .places) (s .ids) (s .bricks .member)
       = λ p l. elim (or-cases (is-empty s p) (up-member s (s .ids p)) (none-down p l)) [
@@ -123,8 +123,8 @@ module _ (s : State) (h : History) (v : AgeingInvariant s h) (z : Sound s) (d : 
       ] in
       let follows : (g : ℕ) → g < buckets (s .settings) → s .bucket g .ready ≡ true → Follows s g (s .bucket g)
       = λ g l _. let pair = z .buckets-ok g l .pair in inl (placed s z (d .bricks) full _ (d .bricks .is-present _ (pair .one-first) (pair .one-born))) in
-      uses-mapped s h v calms follows (TwiceBy s) (d .uses) (TwiceBy (collect-effect s (s .ids i)))
-      (λ g l b x. collect-left s (upd (s .bricks .present) x false) (s .ids i) g l b (mapped-used s h v calms follows (TwiceBy s) (d .uses) z (λ _. inl refl) g l b x))
+      uses-mapped s h v nothing-pending-in follows (TwiceBy s) (d .uses) (TwiceBy (collect-effect s (s .ids i)))
+      (λ g l b x. collect-left s (upd (s .bricks .present) x false) (s .ids i) g l b (mapped-used s h v nothing-pending-in follows (TwiceBy s) (d .uses) z (λ _. inl refl) g l b x))
 
   uses-on : (e : Event) → Yes s e → (IsLose e → ⊥) → (IsCrash e → all-up-and-ready s ≡ true) → Uses (TwiceBy (rule s e .after)) (rule s e .after)
   unfolding rule put-effect savelog-effect map-effect send-effect deliver-effect drop-effect savemap-effect item-goes learn-effect reset-effect crash-effect rise-effect view-effect fetch-effect ready-effect mend-effect collect-effect
