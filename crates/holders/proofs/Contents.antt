@@ -2,16 +2,18 @@
 use mathlib.Core.Path.{_≡_, sym, ap, subst, _∙_}
 use mathlib.Core.List.{List}
 use mathlib.Core.Bool.{true}
-use Prim.Native.Nat.{ℕ}
+use Prim.Native.Nat.{ℕ, _<_}
 use lib.ListN.{length}
 use borrow.Author.Tests.{eqb-true}
 use Rattle.lists.proofs.Tests.{and-l}
 use Rattle.words.specs.Words.{words}
 use Rattle.rules.specs.declared.settings.Settings.{Settings}
-use Rattle.rules.specs.Numbers.{is-data}
+use Rattle.rules.specs.Numbers.{is-data, home-of}
 use Rattle.rules.specs.Chunks.{Chunk, held, bytes-in}
+use Rattle.rules.specs.Derived.{members-from, holder}
 use Rattle.rules.specs.Sound.{keys-apart}
 use Rattle.rules.proofs.Chunks.{held-in}
+use Rattle.rules.proofs.Derived.{first-holder-held}
 use Rattle.log.specs.Log.{chunk-at}
 use Rattle.log.specs.Answers.{FoundAt}
 use Rattle.log.proofs.Rules.{found-bytes}
@@ -29,7 +31,13 @@ row-bytes c l bs h k row f y =
     let g : FoundAt l k row = subst (λ (x : List Chunk). FoundAt x k row) (h .same) f in
     ap (λ (x : List Chunk). chunk-at x row .bytes) (h .same) ∙ sym (found-bytes k l row y (g .in-use) (g .same))
 
--- those of the row where the brick with an id has it
+-- what a reader of a row asks for, of the row where the brick with an id has it
+pub row-lies : {c : Settings} {bs : List ℕ} {id k place row : ℕ} → StoreOf c bs → LiesAt c (decode (words bs)) id k place row
+    → StoreOf c bs × (place < c .places) × (0 < decode (words bs) .ids place)
+    × (row < length (decode (words bs) .bricks .log (decode (words bs) .ids place)))
+row-lies v at = (v, at .stands .inside, rw (at .stands .here) (at .stands .some), rw (at .stands .here) (at .found .in-use))
+
+-- the bytes of that row
 pub bytes-at-holder : (c : Settings) (bs : List ℕ) → StoreOf c bs → (id k place row : ℕ) → LiesAt c (decode (words bs)) id k place row
     → chunk-at (decode (words bs) .bricks .log (decode (words bs) .ids place)) row .bytes ≡ bytes-in (decode (words bs) .bricks .log id) k
 bytes-at-holder c bs v id k place row at =
@@ -38,7 +46,7 @@ bytes-at-holder c bs v id k place row at =
     ∙ sym (found-bytes k (s .bricks .log id) row (facts c bs v .logs id .apart) (at .found .in-use) (at .found .same))
 
 -- those of a chunk that is held are a block's
-pub held-size : (c : Settings) (bs : List ℕ) → StoreOf c bs → (id key : ℕ) → held (decode (words bs) .bricks .log id) key ≡ true
+held-size : (c : Settings) (bs : List ℕ) → StoreOf c bs → (id key : ℕ) → held (decode (words bs) .bricks .log id) key ≡ true
     → length (bytes-in (decode (words bs) .bricks .log id) key) ≡ c .size
 unfolding is-data
 held-size c bs so id key y =
@@ -46,3 +54,9 @@ held-size c bs so id key y =
     let found = held-in (s .bricks .log id) key y in
     let sized = eqb-true (length (found .0 .bytes)) (s .settings .size) (and-l _ _ (facts c bs so .logs id .each (found .0) (found .1) .bytes)) in
     ap length (found .3) ∙ sized ∙ ap (λ (d : Settings). d .size) (settings-are c bs so)
+
+pub holder-size : (c : Settings) (bs : List ℕ) → StoreOf c bs → (key : ℕ) → 0 < holder (decode (words bs)) key
+    → length (bytes-in (decode (words bs) .bricks .log (holder (decode (words bs)) key)) key) ≡ c .size
+holder-size c bs so key o =
+    let s = decode (words bs) in
+    held-size c bs so (holder s key) key (unfold holder in first-holder-held (s .bricks) key (members-from s (home-of key)) o)

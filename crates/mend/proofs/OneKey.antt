@@ -8,14 +8,12 @@ use lib.ListN.{length, length-append}
 use Rattle.lists.specs.Runs.{Below}
 use Rattle.words.specs.Words.{words}
 use Rattle.rules.specs.declared.settings.Settings.{Settings}
-use Rattle.rules.specs.Numbers.{home-of}
 use Rattle.rules.specs.Chunks.{Chunk, new-chunk, held, bytes-in, append, save-key}
 use Rattle.rules.specs.State.{State}
-use Rattle.rules.specs.Derived.{members-from, holder}
-use Rattle.rules.proofs.Derived.{first-holder-held}
+use Rattle.rules.specs.Derived.{holder}
 use Rattle.log.specs.Log.{chunk-at}
 use Rattle.layout.specs.Store.{decode}
-use Rattle.holders.proofs.Contents.{bytes-at-holder, held-size}
+use Rattle.holders.proofs.Contents.{bytes-at-holder, holder-size}
 use Rattle.mend.specs.Fit.{with-log-at, log-of, Mends, key-mended}
 use Rattle.mend.specs.Keys.{wants}
 use Rattle.mend.specs.Acts.{Lacking}
@@ -48,19 +46,11 @@ module _ (c : Settings) (bs : List ℕ) (p k : ℕ) (m : Mends c bs p k) where
     pub some-room : length log < c .chunks
     some-room = omega (arith, m .room, ap length grown ∙ length-append log (new-chunk k true bytes ∷ []))
 
-    pub row-lies : (from < c .places) × (0 < s .ids from) × (row < length (log-of from (words bs)))
-    row-lies =
-        let at = o .from in
-        let same = ap (λ (i : ℕ). length (s .bricks .log i)) (at .stands .here) in
-        (at .stands .inside, rw (at .stands .here) (at .stands .some), omega (arith, at .found .in-use))
-
     row-bytes : chunk-at (log-of from (words bs)) row .bytes ≡ bytes
     row-bytes = bytes-at-holder c bs (m .there .store) (holder s k) k from row (o .from)
 
     pub row-whole : length (chunk-at (log-of from (words bs)) row .bytes) ≡ c .size
-    row-whole =
-        ap length row-bytes
-        ∙ held-size c bs (m .there .store) (holder s k) k (unfold holder in first-holder-held (s .bricks) k (members-from s (home-of k)) (o .from .stands .some))
+    row-whole = ap length row-bytes ∙ holder-size c bs (m .there .store) k (o .from .stands .some)
 
     pub added : (d vs : List ℕ) → d ≡ chunk-at (log-of from (words bs)) row .bytes → vs ≡ with-log-at c p (append log (new-chunk k true d)) (words bs)
         → vs ≡ with-log-at c p (key-mended p k (words bs)) (words bs)

@@ -1,77 +1,86 @@
--- The bytes of a key: where they lie, and how many they are.
+-- What get's look-up finds: what it says of get's questions, and the block's bytes.
 use mathlib.Core.Path.{_≡_, refl, sym, ap, _∙_}
-use mathlib.Core.List.{List, []}
-use mathlib.Core.Bool.{true, false}
-use Prim.Native.Nat.{ℕ, _<_}
-use lib.Dec.{ltb}
+use mathlib.Core.List.{List}
+use mathlib.Core.Bool.{true}
+use Prim.Native.Nat.{ℕ}
+use native.Mathlib.Omega.{arith}
+use lib.Dec.{ltb, eqb}
 use lib.ListN.{length, length-replicate}
 use borrow.Author.Tests.{eq-eqb, ne-eqb, lt-ltb, ltb-true}
+use Rattle.lists.specs.Tests.{_and_, _or_}
 use Rattle.lists.proofs.Tests.{by-eq, or-l, or-r, or-no, or-second}
 use Rattle.words.specs.Words.{words}
 use Rattle.rules.specs.declared.settings.Settings.{Settings}
-use Rattle.rules.specs.Numbers.{home-of}
 use Rattle.rules.specs.Chunks.{bytes-in}
 use Rattle.rules.specs.State.{State}
-use Rattle.rules.specs.Derived.{members-from, holder}
-use Rattle.rules.specs.Reads.{zeros}
-use Rattle.rules.proofs.Derived.{first-holder-held}
+use Rattle.rules.specs.Derived.{holder}
+use Rattle.rules.specs.Question.{first-no}
+use Rattle.rules.specs.Reads.{mapped, get-asks, get-bytes, zeros}
+use Rattle.rules.proofs.Questions.{first-yes, first-stop, none-asked, goes-on, all-yes}
 use Rattle.log.specs.Log.{chunk-at}
-use Rattle.layout.specs.Contents.{Brick}
 use Rattle.layout.specs.Store.{decode}
 use Rattle.lent.specs.Stores.{StoreOf}
-use Rattle.lent.proofs.Places.{zero-blank}
 use Rattle.lent.proofs.Stores.{settings-are}
+use Rattle.mappings.specs.Asks.{served-asks}
 use Rattle.holders.specs.Members.{LiesAt}
-use Rattle.holders.proofs.Contents.{bytes-at-holder, held-size}
-use Rattle.reads.specs.Get.{is-found, key-bytes}
+use Rattle.holders.proofs.Contents.{bytes-at-holder, holder-size}
+use Rattle.reads.specs.declared.Lookup.the-variants.{Refused, Unmapped}
+use Rattle.reads.specs.Get.{Located, LooksUp}
 
--- ---- whether it is found
-module _ (s : State) (k : ℕ) where
-  pub found-zero : k ≡ 0 → is-found s k ≡ true
-  found-zero z = or-l _ _ (eq-eqb k 0 z)
+-- ---- question 11, after the others are answered yes: no mapping, or an up member holds the chunk
+module _ (c : Settings) (s : State) (p b : ℕ) {n : ℕ} (e : n ≡ first-no (served-asks s p b)) (y : n ≡ 0) where
+  all-asked : (eqb (mapped s b) 0 or ltb 0 (holder s (mapped s b))) ≡ true → first-no (get-asks s p b) ≡ 0
+  unfolding _and_
+  all-asked found = sym (goes-on (served-asks s p b) _ refl e y (sym (first-yes 11 _ found ∙ none-asked)))
 
-  pub found-held : 0 < holder s k → is-found s k ≡ true
-  found-held h = or-r _ _ (lt-ltb 0 (holder s k) h)
+  module _ {k : ℕ} (m : k ≡ mapped s b) where
+    pub no-mapping : k ≡ 0 → LooksUp c s p b Unmapped
+    no-mapping z = (all-asked (or-l _ _ (eq-eqb (mapped s b) 0 (sym m ∙ z))), sym m ∙ z)
 
-  pub found-none : (k ≡ 0 → ⊥) → holder s k ≡ 0 → is-found s k ≡ false
-  found-none z h = or-no _ _ (ne-eqb k 0 z) ∙ ap (λ (i : ℕ). ltb 0 i) h
+    module _ (some : k ≡ 0 → ⊥) where
+      pub located : (place row : ℕ) → LiesAt c s (holder s k) k place row → Located c s p b k place row
+      located place row at = record {
+        accepted = all-asked (or-r _ _ (lt-ltb 0 (holder s (mapped s b)) (rw m at (at .stands .some))));
+        named = m;
+        some = some;
+        lies = at;
+      }
 
--- ---- the bytes of a key
-module _ (c : Settings) (bs : List ℕ) (v : StoreOf c bs) (k : ℕ) where
+      pub lost : holder s k ≡ 0 → LooksUp c s p b (Refused 11)
+      unfolding _and_
+      lost none = (
+        goes-on (served-asks s p b) _ refl e y
+            (sym (first-stop 11 _ (or-no _ _ (ne-eqb (mapped s b) 0 (λ z. some (m ∙ z))) ∙ ap (λ (i : ℕ). ltb 0 i) (ap (holder s) (sym m) ∙ none)))),
+        λ z. omega arith,
+      )
+
+-- ---- the block's bytes
+mapped-bytes : (s : State) (b : ℕ) → (mapped s b ≡ 0 → ⊥) → bytes-in (s .bricks .log (holder s (mapped s b))) (mapped s b) ≡ get-bytes s b
+unfolding get-bytes
+mapped-bytes s b z = rw (ne-eqb (mapped s b) 0 z)
+
+module _ (c : Settings) (bs : List ℕ) (v : StoreOf c bs) (p b : ℕ) where
   abbrev s : State
   s = decode (words bs)
 
-  pub zero-bytes : k ≡ 0 → zeros (c .size) ≡ key-bytes (decode (words bs)) k
-  unfolding key-bytes
-  zero-bytes z = rw (eq-eqb k 0 z) (ap (λ (x : Settings). zeros (x .size)) (sym (settings-are c bs v)))
+  pub unmapped-bytes : mapped (decode (words bs)) b ≡ 0 → zeros (c .size) ≡ get-bytes (decode (words bs)) b
+  unfolding get-bytes
+  unmapped-bytes z = rw (eq-eqb (mapped s b) 0 z) (ap (λ (x : Settings). zeros (x .size)) (sym (settings-are c bs v)))
 
-  module _ (z : k ≡ 0 → ⊥) where
-    some-key : bytes-in (decode (words bs) .bricks .log (holder (decode (words bs)) k)) k ≡ key-bytes (decode (words bs)) k
-    unfolding key-bytes
-    some-key = rw (ne-eqb k 0 z)
-
-    pub held-bytes : (id : ℕ) → id ≡ holder (decode (words bs)) k → bytes-in (decode (words bs) .bricks .log id) k ≡ key-bytes (decode (words bs)) k
-    held-bytes id e = ap (λ (i : ℕ). bytes-in (decode (words bs) .bricks .log i) k) e ∙ some-key
-
-    -- the row in which the chunk lies has them
-    pub lying-bytes : (place row : ℕ) → LiesAt c (decode (words bs)) (holder (decode (words bs)) k) k place row
-        → chunk-at (decode (words bs) .bricks .log (decode (words bs) .ids place)) row .bytes ≡ key-bytes (decode (words bs)) k
-    lying-bytes place row at =
-        let h = holder (decode (words bs)) k in
-        bytes-at-holder c bs v h k place row at ∙ held-bytes h refl
-
-    pub no-bytes : holder (decode (words bs)) k ≡ 0 → [] ≡ key-bytes (decode (words bs)) k
-    unfolding bytes-in
-    no-bytes e = ap (λ (b : Brick). bytes-in (b .log) k) (sym (zero-blank c bs v (holder (decode (words bs)) k) e)) ∙ some-key
+  -- the row in which the chunk lies has them
+  pub located-bytes : {k place row : ℕ} → Located c (decode (words bs)) p b k place row
+      → chunk-at (decode (words bs) .bricks .log (decode (words bs) .ids place)) row .bytes ≡ get-bytes (decode (words bs)) b
+  located-bytes {k} {place} {row} l =
+      bytes-at-holder c bs v (holder s k) k place row (l .lies)
+      ∙ ap (λ (x : ℕ). bytes-in (s .bricks .log (holder s x)) x) (l .named)
+      ∙ mapped-bytes s b (λ z. l .some (l .named ∙ z))
 
   -- as many as a block has
-  pub bytes-size : is-found (decode (words bs)) k ≡ true → length (key-bytes (decode (words bs)) k) ≡ c .size
-  unfolding zeros
-  bytes-size y =
-      by-eq k 0 (λ _ z. ap length (sym (zero-bytes z)) ∙ length-replicate (c .size) 0)
-      (λ n z. ap length (sym (some-key z)) ∙ whole (ltb-true 0 (holder (decode (words bs)) k) (or-second _ _ y n)))
+  pub bytes-size : first-no (get-asks (decode (words bs)) p b) ≡ 0 → length (get-bytes (decode (words bs)) b) ≡ c .size
+  unfolding zeros _and_
+  bytes-size e =
+      by-eq (mapped s b) 0 (λ _ z. ap length (sym (unmapped-bytes z)) ∙ length-replicate (c .size) 0)
+      (λ n z. ap length (sym (mapped-bytes s b z)) ∙ holder-size c bs v (mapped s b) (ltb-true 0 (holder s (mapped s b)) (or-second _ _ found n)))
     where
-      whole : 0 < holder (decode (words bs)) k → length (bytes-in (decode (words bs) .bricks .log (holder (decode (words bs)) k)) k) ≡ c .size
-      whole o =
-          held-size c bs v (holder (decode (words bs)) k) k
-          (unfold holder in first-holder-held (decode (words bs) .bricks) k (members-from (decode (words bs)) (home-of k)) o)
+      found : (eqb (mapped s b) 0 or ltb 0 (holder s (mapped s b))) ≡ true
+      found = all-yes (get-asks s p b) refl e .1 .1 .1 .1 .1 .1 .1 .1 .0

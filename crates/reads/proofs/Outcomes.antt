@@ -15,7 +15,6 @@ use Rattle.rules.specs.State.{State}
 use Rattle.rules.specs.Question.{first-no}
 use Rattle.rules.specs.Reads.{mapped, get-asks, get-bytes}
 use Rattle.rules.specs.Step.{rule, step}
-use Rattle.rules.proofs.Questions.{all-yes}
 use Rattle.rules.proofs.Step.{code-is}
 use Rattle.layout.specs.Store.{decode}
 use Rattle.lent.specs.declared.Answer.{Answer}
@@ -23,7 +22,7 @@ use Rattle.lent.specs.declared.Answer.the-variants.{Yes, No}
 use Rattle.lent.specs.Performs.{answer}
 use Rattle.lent.specs.Stores.{StoreOf}
 use Rattle.lent.proofs.Stores.{settings-are}
-use Rattle.reads.specs.Get.{is-found, key-bytes, Gets, Fills, GetsInto}
+use Rattle.reads.specs.Get.{Gets, Fills, GetsInto}
 use Rattle.reads.proofs.Contents.{bytes-size}
 
 -- the size that the code has read
@@ -37,20 +36,9 @@ module _ (s : State) (p b : ℕ) where
   refused zero e k = absurd (k refl)
   refused (suc n) e k = record { number = rw (sym e) refl; found = rw (sym e) refl; same = rw (sym e) refl }
 
-  pub accepted : (n : ℕ) → n ≡ first-no (get-asks s p b) → n ≡ 0 → (k : ℕ) → k ≡ mapped s b → (bytes : List ℕ) → bytes ≡ key-bytes s k → Gets s p b n k bytes
-  unfolding step rule key-bytes get-bytes
-  accepted n h z k m bytes q =
-      let e : first-no (get-asks s p b) ≡ 0 = sym h ∙ z in
-      record { number = rw e z; found = rw e m; same = rw e (q ∙ rw m refl) }
-
-  -- an accepted get has found what is mapped
-  found-yes : first-no (get-asks s p b) ≡ 0 → is-found s (mapped s b) ≡ true
-  unfolding _and_
-  found-yes e = all-yes (get-asks s p b) refl e .1 .1 .1 .1 .1 .1 .1 .1 .0
-
-  said-bytes : first-no (get-asks s p b) ≡ 0 → step s (Event.get p b) .said .bytes ≡ key-bytes s (mapped s b)
-  unfolding step rule key-bytes get-bytes
-  said-bytes e = rw e refl
+  pub accepted : first-no (get-asks s p b) ≡ 0 → {k : ℕ} → k ≡ mapped s b → {bytes : List ℕ} → bytes ≡ get-bytes s b → Gets s p b 0 k bytes
+  unfolding step rule
+  accepted e m q = record { number = rw e refl; found = rw e m; same = rw e q }
 
   -- ---- the area that it fills
   pub fills-refused : (n : ℕ) {k : ℕ} {bytes : List ℕ} → Gets s p b n k bytes → (n ≡ 0 → ⊥) → (area : List ℕ) → Fills s (Event.get p b) area (No n) area
@@ -82,4 +70,4 @@ unfolding rule
 said-size c bs v p b z =
     let s = decode (words bs) in
     let e : first-no (get-asks s p b) ≡ 0 = sym (code-is s (Event.get p b)) ∙ z in
-    ap length (said-bytes s p b e) ∙ bytes-size c bs v (mapped s b) (found-yes s p b e)
+    ap length (sym (accepted s p b e refl refl .same)) ∙ bytes-size c bs v p b e

@@ -1,30 +1,38 @@
--- get: the bytes of a key; what the code promises, for a caller that takes a part, and for one in C that lends an area.
+-- get: what the code promises of its look-up, for a caller that takes a part, and for one in C that lends an area.
 use mathlib.Core.Path.{_≡_}
 use mathlib.Core.List.{List}
-use mathlib.Core.Bool.{Bool, cond}
+use mathlib.Core.Bool.{cond}
 use Prim.Native.Nat.{ℕ}
-use lib.Dec.{ltb, eqb}
+use lib.Dec.{eqb}
 use lib.ListN.{length}
-use Rattle.lists.specs.Tests.{_and_, _or_}
-use Rattle.rules.specs.Chunks.{bytes-in}
+use Rattle.lists.specs.Tests.{_and_}
+use Rattle.rules.specs.declared.settings.Settings.{Settings}
 use Rattle.rules.specs.Event.{Event}
 use Rattle.rules.specs.Call.{is-zero-block}
 use Rattle.rules.specs.State.{State}
 use Rattle.rules.specs.Derived.{holder}
-use Rattle.rules.specs.Reads.{zeros}
+use Rattle.rules.specs.Question.{first-no}
+use Rattle.rules.specs.Reads.{mapped, get-asks}
 use Rattle.rules.specs.Step.{step}
 use Rattle.lent.specs.declared.Answer.{Answer}
 use Rattle.lent.specs.Performs.{answer-of}
+use Rattle.holders.specs.Members.{LiesAt}
+use Rattle.reads.specs.declared.Lookup.{Lookup}
+use Rattle.reads.specs.declared.Lookup.the-variants.{Refused, Unmapped, Chunk}
 
--- 11: no mapping, or an up member holds the chunk
-abbrev pub is-found : State → ℕ → Bool
-is-found s key = eqb key 0 or ltb 0 (holder s key)
+-- ---- the look-up: an accepted get with a mapping, and where the chunk of the mapped key lies
+pub record Located (settings : Settings) (s : State) (proxy block key place row : ℕ) : Type 0 where
+  pub accepted : first-no (get-asks s proxy block) ≡ 0
+  pub named : key ≡ mapped s block
+  pub some : key ≡ 0 → ⊥
+  pub lies : LiesAt settings s (holder s key) key place row
 
--- the bytes of a key; of key 0, a block of zeros
-unfoldable pub key-bytes : State → ℕ → List ℕ
-key-bytes s key = cond (eqb key 0) (zeros (s .settings .size)) (bytes-in (s .bricks .log (holder s key)) key)
+abbrev pub LooksUp : Settings → State → ℕ → ℕ → Lookup → Type 0
+LooksUp settings s proxy block (Refused code) = (code ≡ first-no (get-asks s proxy block)) × (code ≡ 0 → ⊥)
+LooksUp settings s proxy block (Unmapped) = (first-no (get-asks s proxy block) ≡ 0) × (mapped s block ≡ 0)
+LooksUp settings s proxy block (Chunk key place row) = Located settings s proxy block (key .0) place row
 
--- number, key and bytes of the outcome, of which the store is no part
+-- ---- number, key and bytes of the outcome, of which the store is no part
 pub record Gets (s : State) (proxy block code key : ℕ) (bytes : List ℕ) : Type 0 where
   pub number : code ≡ step s (Event.get proxy block) .code
   pub found : key ≡ step s (Event.get proxy block) .said .key

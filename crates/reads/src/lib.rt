@@ -1,16 +1,14 @@
 // get on a lent store: the key of a block and its bytes, which are a part of the store, or of a block of zeros that the caller lends.
 ghost use mathlib.Core.Path.{_≡_};
-ghost use mathlib.Core.Bool.{cond};
-ghost use Prim.Native.Nat.{_%_, _<_};
+ghost use Prim.Native.Nat.{_%_};
 ghost use lib.ListN.{length};
 ghost use Rattle.words.specs.Words.{words};
 ghost use Rattle.rules.specs.Call.{is-zero-block};
 ghost use Rattle.rules.specs.Event.{Event};
-ghost use Rattle.rules.specs.Question.{first-no};
-ghost use Rattle.rules.specs.Reads.{get-asks, zeros};
+ghost use Rattle.rules.specs.Reads.{zeros};
 ghost use Rattle.layout.specs.Store.{decode};
 ghost use Rattle.lent.specs.Stores.{StoreOf};
-ghost use Rattle.reads.specs.Get.{is-found, key-bytes, Gets, Fills, GetsInto};
+ghost use Rattle.reads.specs.Get.{LooksUp, Gets, Fills, GetsInto};
 use holders::Location;
 use layout::sizes;
 use lent::Answer;
@@ -20,58 +18,31 @@ use rules::numbers::BlockNumber;
 use rules::numbers::ChunkKey;
 use rules::settings::Settings;
 
-// ---- the questions
+// ---- the look-up
 
-// Is there no mapping, or an up member that holds the chunk?
-fn is_found(store: &[u8], settings: Settings, key: ChunkKey) -> bool
-    requires { ⌜ StoreOf settings (now store) ⌝ }
-    ensures { λ r. ⌜ r ≡ is-found (decode (words (now (store .entry)))) (key .0) ⌝ }
-{
-    if key.0 == 0 {
-        return true;
-    }
-    match holders::holder(store, settings, key) {
-        Location::At(_, _) => true,
-        Location::Nowhere => false,
-    }
+// What get finds: the number of the question that is answered no; no mapping; or the mapped key, with the place and the row of a log where its chunk lies.
+enum Lookup {
+    Refused(u64),
+    Unmapped,
+    Chunk(ChunkKey, usize, usize),
 }
 
-// The number of the first one that is answered no, or 0.
-fn asks(store: &[u8], settings: Settings, proxy: u64, block: u64, guess: usize) -> u64
+fn look_up(store: &[u8], settings: Settings, proxy: u64, block: u64) -> Lookup
     requires { ⌜ StoreOf settings (now store) ⌝ }
-    ensures { λ r. ⌜ r ≡ first-no (get-asks (decode (words (now (store .entry)))) proxy block) ⌝ }
+    ensures { λ r. ⌜ LooksUp settings (decode (words (now (store .entry)))) proxy block r ⌝ }
 {
+    let guess = block::index_of(store, settings, BlockNumber(block));
     let no = asks::served_asks(store, settings, proxy, block, guess);
     if no != 0 {
-        return no;
+        return Lookup::Refused(no);
     }
-    if is_found(
-        store,
-        settings,
-        block::mapped(store, settings, BlockNumber(block), guess),
-    ) {
-        return 0;
-    }
-    11
-}
-
-// ---- the bytes
-
-// Those of a key: a part of the store, or of the block of zeros that is lent.
-fn key_bytes<'a>(store: &'a [u8], blank: &'a [u8], settings: Settings, key: ChunkKey) -> &'a [u8]
-    requires { ⌜ StoreOf settings (now store) × (now blank ≡ zeros (settings .size)) ⌝ }
-    ensures { λ r. ⌜ now r ≡ key-bytes (decode (words (now (store .entry)))) (key .0) ⌝ }
-{
+    let key = block::mapped(store, settings, BlockNumber(block), guess);
     if key.0 == 0 {
-        return blank;
+        return Lookup::Unmapped;
     }
     match holders::holder(store, settings, key) {
-        Location::At(place, row) => {
-            return holders::chunk(store, settings, place, row);
-        }
-        Location::Nowhere => {
-            return &blank[0..0];
-        }
+        Location::At(place, row) => Lookup::Chunk(key, place, row),
+        Location::Nowhere => Lookup::Refused(11),
     }
 }
 
@@ -90,39 +61,34 @@ pub fn get<'a>(
     requires { ⌜ StoreOf settings (now store) × (now blank ≡ zeros (settings .size)) ⌝ }
     ensures { λ r. ⌜ Gets (decode (words (now (store .entry)))) proxy block (now (number .exit)) (now (key .exit)) (now r) ⌝ }
 {
-    let guess = block::index_of(store, settings, BlockNumber(block));
-    let no = asks(store, settings, proxy, block, guess);
-    *number = no;
-    if no != 0 {
-        *key = 0;
-        return &blank[0..0];
+    match look_up(store, settings, proxy, block) {
+        Lookup::Refused(no) => {
+            *number = no;
+            *key = 0;
+            return &blank[0..0];
+        }
+        Lookup::Unmapped => {
+            *number = 0;
+            *key = 0;
+            return blank;
+        }
+        Lookup::Chunk(found, place, row) => {
+            *number = 0;
+            *key = found.0;
+            return holders::chunk(store, settings, place, row);
+        }
     }
-    let found = block::mapped(store, settings, BlockNumber(block), guess);
-    *key = found.0;
-    return key_bytes(store, blank, settings, found);
 }
 
 // ---- get into an area of a block's size
 
-// The bytes of a key fill the area; a chunk that no up member holds leaves it as it was. Is there no mapping, or a holder?
-fn fill_key(store: &[u8], settings: Settings, key: ChunkKey, area: &mut [u8]) -> bool
-    requires { ⌜ StoreOf settings (now store) × (length (now area) ≡ settings .size) ⌝ }
-    ensures { λ r. ⌜ (r ≡ is-found (decode (words (now (store .entry)))) (key .0))
-        × (now (area .exit) ≡ cond r (key-bytes (decode (words (now (store .entry)))) (key .0)) (now (area .entry))) ⌝ }
+// The area becomes zeros; it is whole words.
+pub fn clear(area: &mut [u8])
+    requires { ⌜ length (now area) % 8 ≡ 0 ⌝ }
+    ensures { λ _. ⌜ now (area .exit) ≡ zeros (length (now (area .entry))) ⌝ }
 {
-    if key.0 == 0 {
-        moves::fill(area, 0, settings.size / sizes::WORD_BYTES, 0);
-        return true;
-    }
-    match holders::holder(store, settings, key) {
-        Location::At(place, row) => {
-            moves::copy_bytes(area, holders::chunk(store, settings, place, row));
-            return true;
-        }
-        Location::Nowhere => {
-            return false;
-        }
-    }
+    let words = area.len() / sizes::WORD_BYTES;
+    moves::fill(area, 0, words, 0)
 }
 
 // What get answers, its bytes in the area; a refusal leaves that as it was.
@@ -136,16 +102,19 @@ pub fn fill_block(
     requires { ⌜ StoreOf settings (now store) × (length (now area) ≡ settings .size) ⌝ }
     ensures { λ r. ⌜ Fills (decode (words (now (store .entry)))) (Event.get proxy block) (now (area .entry)) r (now (area .exit)) ⌝ }
 {
-    let guess = block::index_of(store, settings, BlockNumber(block));
-    let no = asks::served_asks(store, settings, proxy, block, guess);
-    if no != 0 {
-        return Answer::No(no);
+    match look_up(store, settings, proxy, block) {
+        Lookup::Refused(no) => {
+            return Answer::No(no);
+        }
+        Lookup::Unmapped => {
+            clear(area);
+            return Answer::Yes(0);
+        }
+        Lookup::Chunk(key, place, row) => {
+            moves::copy_bytes(area, holders::chunk(store, settings, place, row));
+            return Answer::Yes(key.0);
+        }
     }
-    let key = block::mapped(store, settings, BlockNumber(block), guess);
-    if fill_key(store, settings, key, area) {
-        return Answer::Yes(key.0);
-    }
-    Answer::No(11)
 }
 
 // ---- for a caller in C

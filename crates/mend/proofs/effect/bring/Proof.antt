@@ -3,8 +3,9 @@ use mathlib.Core.Bool.{true}
 use native.Mathlib.Omega.{arith}
 use lib.ListN.{length}
 use Rattle.rules.specs.Chunks.{new-chunk, append}
+use Rattle.holders.proofs.Contents.{row-lies}
 use Rattle.mend.proofs.OnStore.{lent-place, lent-room, place-back}
-use Rattle.mend.proofs.OneKey.{some-room, row-lies, row-whole, added}
+use Rattle.mend.proofs.OneKey.{some-room, row-whole, added}
 use borrow.Author.Needs.{needs}
 use Rattle.mend.proofs.effect.bring.Statement.{statement}
 use Rattle.mend.proofs.effect.bring.Tie as tie
@@ -12,8 +13,7 @@ use Rattle.mend.proofs.effect.bring.Tie as tie
 chunk-requires : tie.Need-chunk-requires
 chunk-requires c κs =
     let s = c .before .before .before .before in
-    let r = row-lies _ _ _ _ (s .pre .0 .0) _ _ (s .pre .1) in
-    (s .pre .0 .0 .there .store, r .0, r .1, r .2)
+    row-lies (s .pre .0 .0 .there .store) (s .pre .1 .from)
 
 copy-bytes-requires : tie.Need-copy-bytes-requires
 copy-bytes-requires c κs =
