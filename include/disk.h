@@ -67,6 +67,12 @@ enum {
 /* A bag has at most so many relays. */
 #define DISK_MOST_RELAYS 64
 
+/* disk_read takes at most so many blocks. */
+#define DISK_MOST_BLOCKS 64
+
+/* The bytes of an answer of disk_read before the block's: the code in one, the key in eight. */
+#define DISK_HEAD_BYTES 9
+
 /* What a step answers: its code, and a key. */
 typedef struct {
     uint64_t code;
@@ -175,7 +181,7 @@ uint64_t disk_check(const uint8_t *store, size_t store_length);
  * A block is written by a proxy that has learned the view: put; copy of the key that it answers; savelog at both places that now hold the chunk, since map
  * asks for it saved at two members; map; send; deliver; savemap at the places of the bucket's primary and backup; done.
  *
- * Each call checks the whole store first, as disk_check does: for many events, disk_run checks it once. */
+ * Each call checks the whole store first, as disk_check does: for many events disk_run checks it once, for many gets of a proxy disk_read. */
 disk_step_answer disk_step(uint8_t *store, size_t store_length, uint64_t kind, uint64_t a, uint64_t b, uint64_t c, const uint8_t *data, size_t data_length,
                            const uint8_t *zero, size_t zero_length, uint8_t *answer, size_t answer_length);
 
@@ -200,6 +206,40 @@ static inline disk_step_answer disk_get(uint8_t *store, size_t store_length, uin
 {
     uint8_t none = 0;
     return disk_step(store, store_length, DISK_GET, proxy, block, 0, &none, 0, zero, zero_length, answer, answer_length);
+}
+
+/* Many blocks of one proxy: each is answered as disk_get would answer it, in the given order, refused ones included; a block named twice is answered twice.
+ * The store is checked once, for all of them, and no zero block is lent. block_count is the number of block numbers, which lie where C may place a uint64_t;
+ * answers_length is in bytes.
+ *
+ * An answer has 9 + S bytes: the code in one, the key in eight, high byte first, and the block's S bytes; of a refused block the key is 0 and the bytes are
+ * zeros. Answer i begins at answers[i * (9 + S)]; disk_answer_code, disk_answer_key and disk_answer_bytes read one. Bytes past the last answer do not change.
+ *
+ *  0: every block has its answer. A proxy out of range refuses each block with 3, not the call; a list of no blocks has no answers.
+ *  2: the bytes are no sound store, as disk_check says.
+ *  3: there are more than 64 block numbers, or answers_length is less than block_count * (9 + S). */
+uint64_t disk_read(const uint8_t *store, size_t store_length, uint64_t proxy, const uint64_t *blocks, size_t block_count, uint8_t *answers,
+                   size_t answers_length);
+
+/* The code of answer i of disk_read, in a store of blocks of `size` bytes. */
+static inline uint64_t disk_answer_code(const uint8_t *answers, size_t size, size_t i)
+{
+    return answers[i * (DISK_HEAD_BYTES + size)];
+}
+
+/* Its key. */
+static inline uint64_t disk_answer_key(const uint8_t *answers, size_t size, size_t i)
+{
+    const uint8_t *head = answers + i * (DISK_HEAD_BYTES + size);
+    uint64_t key = 0;
+    for (size_t byte = 1; byte < DISK_HEAD_BYTES; byte++) key = key << 8 | head[byte];
+    return key;
+}
+
+/* Its `size` bytes. */
+static inline const uint8_t *disk_answer_bytes(const uint8_t *answers, size_t size, size_t i)
+{
+    return answers + i * (DISK_HEAD_BYTES + size) + DISK_HEAD_BYTES;
 }
 
 /* A list of events on a store: each in turn, on the store as the last one left it, with the code and the key that disk_step would answer. The store is

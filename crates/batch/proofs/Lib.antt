@@ -1,4 +1,3 @@
 pub mod Blocks
 pub mod Turns
 pub mod Theorem
-pub mod Claim

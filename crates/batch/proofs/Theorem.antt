@@ -23,13 +23,13 @@ use Rattle.layout.specs.Store.{decode-bytes, sound-bytes}
 use Rattle.lent.specs.Stores.{StoreOf}
 use Rattle.lent.proofs.Stores as stores
 use Rattle.history.specs.Claim.{Answered}
-use Rattle.calls.specs.Outcome.{Outcome, outcome}
+use Rattle.calls.specs.Outcome.{Outcome, outcome, outcomes, store-after}
 use Rattle.calls.specs.Claim.{answered-calls}
 use Rattle.calls.proofs.Performed.{store-sound}
 use Rattle.reads.proofs.Outcomes.{size-is}
 use Rattle.calls.proofs.Calls.{kept-of}
 use Rattle.batch.specs.Batch.{block-at, with-block, Batch, Lent, begins, kind-of, call-at, turn, turns, count, is-batch, Ran, batch-outcome}
-use Rattle.batch.specs.Claim.{outcomes, store-after, code-and-key, calls-from, calls-of, blocks-from, fills-into, OneByOne, BatchTheorem, seen, answered-from}
+use Rattle.batch.specs.Claim.{code-and-key, calls-from, calls-of, blocks-from, fills-into, OneByOne, BatchTheorem, seen, answered-from}
 use Rattle.batch.proofs.Blocks.{block-with, block-same, apart, with-length, with-apart, with-same}
 use Rattle.batch.proofs.Turns.{turn-keeps, ran-unsound, ran-none, ran-all}
 use Rattle.step.proofs.Areas.{area-left, area-length}

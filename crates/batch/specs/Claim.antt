@@ -1,31 +1,17 @@
--- What a batch leaves is what its calls leave one by one; and demand 3 of lists of requests, each a call or a batch.
+-- What a batch leaves is what its calls leave one by one; and what its events were answered.
 use mathlib.Core.Path.{_≡_}
-use mathlib.Core.List.{List, [], _∷_, _++_, map}
-use mathlib.Core.Bool.{Bool, true, false, cond}
+use mathlib.Core.List.{List, [], _∷_, map}
+use mathlib.Core.Bool.{Bool, false, cond}
 use Prim.Native.Nat.{ℕ, zero, suc, _+_, _*_, _≤_, _<_}
 use lib.Dec.{ltb, eqb}
 use lib.ListN.{getD}
 use Rattle.lists.specs.Tests.{_and_, any-below}
 use Rattle.lists.specs.Runs.{run, enc-all, Below}
-use Rattle.rules.specs.declared.settings.Settings.{Settings}
-use Rattle.rules.specs.Event.{Event}
 use Rattle.rules.specs.Call.{Call, get-kind, event-called}
-use Rattle.rules.specs.Step.{only-key}
 use Rattle.layout.specs.Store.{decode-bytes}
-use Rattle.history.specs.Claim.{Answered, Claimed}
-use Rattle.store.specs.Calls.{may-format, Formatted}
-use Rattle.calls.specs.Outcome.{Outcome, outcome}
-use Rattle.calls.specs.Claim.{answered-calls, NeverTwo}
-use Rattle.batch.specs.Batch.{answer-words, block-at, Batch, Lent, lent, begins, kind-of, call-at, turn, turns, count, Ran, batch-outcome}
-
--- ---- single calls, each on the store as the last left it: their outcomes, and the store at the end
-unfoldable pub outcomes : List ℕ → List Call → List Outcome
-outcomes bs [] = []
-outcomes bs (call ∷ calls) = outcome bs call ∷ outcomes (outcome bs call .store) calls
-
-unfoldable pub store-after : List ℕ → List Call → List ℕ
-store-after bs [] = bs
-store-after bs (call ∷ calls) = store-after (outcome bs call .store) calls
+use Rattle.history.specs.Claim.{Answered}
+use Rattle.calls.specs.Outcome.{Outcome, outcomes, store-after}
+use Rattle.batch.specs.Batch.{answer-words, block-at, Batch, Lent, begins, kind-of, call-at, turn, turns, count, batch-outcome}
 
 -- the two words of an answer
 abbrev pub code-and-key : Outcome → List ℕ
@@ -65,7 +51,7 @@ abbrev pub BatchTheorem : Type 0
 BatchTheorem = (batch : Batch) (l : Lent) → Below 256 (l .store) → batch-outcome batch l .code ≡ 0
     → OneByOne (decode-bytes (l .store) .settings .size) batch l (batch-outcome batch l .left)
 
--- ---- demand 3 of requests
+-- ---- what its events were answered
 -- the bytes that the block of event i has at the end; where a later get has filled over them, those that it had after the event
 abbrev pub seen : ℕ → Batch → Lent → ℕ → Lent → List ℕ
 seen size batch left i after =
@@ -83,32 +69,3 @@ answered-from size batch left i (suc k) l =
       found = decode-bytes (l .store);
     }
     ∷ answered-from size batch left (suc i) k (turn size batch i l)
-
--- that the store is not sound
-abbrev pub answered-unsound : List ℕ → Answered
-answered-unsound bs = record { event = Event.unknown; code = 2; said = only-key 0; found = decode-bytes bs }
-
--- what a batch was answered, by what it left: one for each event; a batch that is refused with 3 was answered nothing of any block
-unfoldable pub answered-batch : ℕ → Batch → Lent → Ran → List Answered
-answered-batch size batch l r = cond (eqb (r .code) 0) (answered-from size batch (r .left) 0 (count batch) l) (cond (eqb (r .code) 2) (answered-unsound (l .store) ∷ []) [])
-
-pub data Request : Type 0 where
-  single : Call → Request
-  -- a batch, with the area and the answers that it lends
-  several : Batch → List ℕ → List ℕ → Request
-
--- a list of requests, each on the store as the last left it
-unfoldable pub answered-requests : ℕ → List ℕ → List Request → List Answered
-answered-requests size bs [] = []
-answered-requests size bs (Request.single call ∷ requests) = answered-calls size bs (call ∷ []) ++ answered-requests size (outcome bs call .store) requests
-answered-requests size bs (Request.several batch area answers ∷ requests) =
-    let r = batch-outcome batch (lent bs area answers) in
-    answered-batch size batch (lent bs area answers) r ++ answered-requests size (r .left .store) requests
-
--- format any lent bytes with any settings that question 1 passes; then take any list of calls and batches, of all kinds of events, any order, refused ones
--- included, each with any numbers, any bytes and areas of any lengths
-abbrev pub BatchesClaim : Type 0
-BatchesClaim = (c : Settings) (lent : List ℕ) → Below 256 lent → may-format c lent ≡ true →
-    (code : ℕ) (store : List ℕ) → Formatted c lent code store → (requests : List Request) →
-    let ts = answered-requests (c .size) store requests in
-    Claimed (c .size) ts × NeverTwo ts

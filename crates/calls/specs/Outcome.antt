@@ -1,5 +1,5 @@
 -- The outcome of a call on lent bytes: question 2, then the rules' step on the state that the bytes stand for, rendered over them.
-use mathlib.Core.List.{List}
+use mathlib.Core.List.{List, [], _∷_}
 use mathlib.Core.Bool.{cond}
 use Prim.Native.Nat.{ℕ}
 use lib.Dec.{eqb}
@@ -37,6 +37,15 @@ event-on bs call = event-called (decode-bytes bs .settings .size) call
 
 unfoldable pub outcome : List ℕ → Call → Outcome
 outcome bs call = cond (sound-bytes bs) (performed bs call (step (decode-bytes bs) (event-on bs call))) (unsound bs call)
+
+-- ---- single calls, each on the store as the last left it: their outcomes, and the store at the end
+unfoldable pub outcomes : List ℕ → List Call → List Outcome
+outcomes bs [] = []
+outcomes bs (call ∷ calls) = outcome bs call ∷ outcomes (outcome bs call .store) calls
+
+unfoldable pub store-after : List ℕ → List Call → List ℕ
+store-after bs [] = bs
+store-after bs (call ∷ calls) = store-after (outcome bs call .store) calls
 
 -- ---- the number and the key of the code's answer, beside the bytes that it leaves
 unfoldable pub outcome-of : Answer → List ℕ → List ℕ → Outcome

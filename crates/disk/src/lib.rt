@@ -9,6 +9,7 @@ ghost use Rattle.print.specs.Answers.{printed, line-after, line-answer};
 ghost use Rattle.store.specs.Calls.{settings, length-answer, Formatted, check-answer};
 ghost use Rattle.calls.specs.Outcome.{call-with, outcome};
 ghost use Rattle.alike.specs.Alike.{alike-answer, alike-number};
+ghost use Rattle.read_many.specs.Read.{read, read-outcome};
 ghost use Rattle.batch.specs.Batch.{batch-with, lent, ran, batch-outcome};
 ghost use Rattle.relay_list.specs.Shown.{Shows};
 ghost use Rattle.disk.specs.Answers.{step-outcome};
@@ -75,6 +76,14 @@ pub extern "C" fn disk_step(
         Answer::Yes(key) => StepAnswer { code: 0, key },
         Answer::No(code) => StepAnswer { code, key: 0 },
     }
+}
+
+// Many blocks of one proxy.
+#[no_mangle]
+pub extern "C" fn disk_read(store: &[u8], proxy: u64, blocks: &[u64], answers: &mut [u8]) -> u64
+    ensures { λ r. ⌜ read r (now (answers .exit)) ≡ read-outcome (now (store .entry)) proxy (now (blocks .entry)) (now (answers .entry)) ⌝ }
+{
+    read_many::read(store, proxy, blocks, answers)
 }
 
 // A list of events on a lent store.

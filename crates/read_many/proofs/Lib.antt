@@ -1,0 +1,4 @@
+pub mod Head
+pub mod Gets
+pub mod Answers
+pub mod Theorem

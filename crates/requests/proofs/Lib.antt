@@ -1,0 +1,4 @@
+pub mod Made
+pub mod Batches
+pub mod BlockReads
+pub mod Claim
