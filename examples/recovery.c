@@ -1,5 +1,6 @@
 /* Two blocks are written, the brick that they were written to crashes and comes back, and the blocks are read again. Each event is shown with its answer.
- * A single event is a call of its own: disk_do. Events that are known together go into one call, disk_do_all, which checks the store once for all of them. */
+ * A single event is a call of its own: disk_do. Events that are known together go into one call, disk_do_all, which checks the store once for all of them;
+ * so does disk_read for blocks that are read together. */
 #include "disk.h"
 
 #include <inttypes.h>
@@ -10,9 +11,8 @@
 enum { PLACES = 3, SIZE = 8, ENTRIES = 2, CHUNKS = 4, BUCKETS = 16 };
 enum { PROXY = 0, ONE = 5, TWO = 6, LONGEST_LIST = 2 + 2 * BUCKETS + PLACES + 1 };
 
-/* The data of blocks ONE and TWO, and the area for what is read of them. */
+/* The data of blocks ONE and TWO. */
 static const uint8_t drawings[2 * SIZE] = {'d', 'r', 'a', 'w', 'i', 'n', 'g', '1', 'd', 'r', 'a', 'w', 'i', 'n', 'g', '2'};
-static uint8_t shown[2 * SIZE];
 static disk_step_answer answers[LONGEST_LIST];
 static uint8_t *store;
 static size_t length;
@@ -30,24 +30,32 @@ static void run(uint64_t kind, uint64_t a)
     show((disk_event){kind, a, 0, 0, 0}, disk_do(store, length, kind, a, 0, 0).code);
 }
 
+/* None of the lists has a get, so the area for what is read has no bytes. */
 static void run_all(const disk_event *events, size_t count)
 {
-    if (disk_do_all(store, length, events, count, drawings, sizeof drawings, shown, sizeof shown, answers) == DISK_UNSOUND)
+    uint8_t none = 0;
+    if (disk_do_all(store, length, events, count, drawings, sizeof drawings, &none, 0, answers) == DISK_UNSOUND)
         exit(1);
     for (size_t i = 0; i < count; i++)
         show(events[i], answers[i].code);
 }
 
-/* Whether both blocks show their drawings. */
+/* Reads both blocks, each shown as its get; whether they are the drawings. */
 static int read_blocks(void)
 {
-    const disk_event gets[] = {{DISK_GET, PROXY, ONE, 0, 0}, {DISK_GET, PROXY, TWO, 0, SIZE}};
-    memset(shown, 0, sizeof shown);
-    run_all(gets, 2);
-    for (size_t i = 0; i < 2; i++)
-        if (answers[i].code == DISK_OK)
-            printf("    key %" PRIu64 ", data \"%.*s\"\n", answers[i].key, SIZE, (const char *)shown + gets[i].at);
-    return memcmp(shown, drawings, sizeof shown) == 0;
+    const uint64_t blocks[] = {ONE, TWO};
+    uint8_t told[2 * (DISK_HEAD_BYTES + SIZE)];
+    int right = 1;
+    if (disk_read(store, length, PROXY, blocks, 2, told, sizeof told) != DISK_OK)
+        exit(1);
+    for (size_t i = 0; i < 2; i++) {
+        const uint8_t *bytes = disk_answer_bytes(told, SIZE, i);
+        show((disk_event){DISK_GET, PROXY, blocks[i], 0, 0}, disk_answer_code(told, SIZE, i));
+        if (disk_answer_code(told, SIZE, i) == DISK_OK)
+            printf("    key %" PRIu64 ", data \"%.*s\"\n", disk_answer_key(told, SIZE, i), SIZE, (const char *)bytes);
+        right = right && memcmp(bytes, drawings + i * SIZE, SIZE) == 0;
+    }
+    return right;
 }
 
 /* The chunks are saved at two bricks, as map asks; then their keys go to the bucket's primary and backup, and once these have saved them the writes are

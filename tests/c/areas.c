@@ -27,6 +27,12 @@ void in_every_position(void (*test)(position))
         test(positions[i]);
 }
 
+position without_gap(position where)
+{
+    where.gap = 0;
+    return where;
+}
+
 static size_t page(void)
 {
     return (size_t)sysconf(_SC_PAGESIZE);

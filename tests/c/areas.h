@@ -33,6 +33,9 @@ typedef struct {
 /* Runs a test once in every position. */
 void in_every_position(void (*test)(position));
 
+/* The same edge, where words and records of words may lie. */
+position without_gap(position position);
+
 /* An area of random bytes; on the heap of unset ones. */
 area lend(position position, size_t length);
 

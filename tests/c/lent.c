@@ -1,6 +1,7 @@
 #include "lent.h"
 
 #include "list.h"
+#include "reads.h"
 
 #include <inttypes.h>
 #include <stdio.h>
@@ -117,8 +118,10 @@ static void walk_one(lent *lent, const row *row)
     fill_data(lent->data.bytes, lent->data.length, row->key);
     seal(&lent->data);
     expect_told(row, step(lent, row->kind, row->a, row->b, row->c));
-    if (row->kind == DISK_GET && row->code == DISK_OK)
-        EXPECT(is_data(lent->answer.bytes, lent->answer.length, row->key));
+    if (row->kind != DISK_GET)
+        return;
+    EXPECT(row->code != DISK_OK || is_data(lent->answer.bytes, lent->answer.length, row->key));
+    read_rows(&lent->store, lent->settings, row, 1, length_of_answers(lent->settings, 1));
 }
 
 void walk(lent *lent, const row *rows, size_t count)
@@ -134,4 +137,15 @@ void accept(lent *lent, uint64_t kind, uint64_t a, uint64_t b)
 {
     row row = {kind, a, b, 0, DISK_OK, NO_KEY};
     walk(lent, &row, 1);
+}
+
+void write_block(lent *lent, uint64_t block, uint64_t key)
+{
+    const row rows[] = {
+        {DISK_PUT, 0, 0, block, DISK_OK, key},    {DISK_COPY, key, 0, 0, DISK_OK, NO_KEY},  {DISK_SAVELOG, 0, 0, 0, DISK_OK, NO_KEY},
+        {DISK_SAVELOG, 1, 0, 0, DISK_OK, NO_KEY}, {DISK_MAP, 0, block, 0, DISK_OK, NO_KEY}, {DISK_SEND, block, 0, 0, DISK_OK, NO_KEY},
+        {DISK_DELIVER, 0, 0, 0, DISK_OK, 1},      {DISK_SAVEMAP, 0, 0, 0, DISK_OK, NO_KEY}, {DISK_SAVEMAP, 1, 0, 0, DISK_OK, NO_KEY},
+        {DISK_DONE, 0, block, 0, DISK_OK, NO_KEY},
+    };
+    WALK(lent, rows);
 }

@@ -56,10 +56,14 @@ bool is_data(const uint8_t *bytes, size_t length, uint64_t key);
 void expect_told(const row *row, disk_step_answer told);
 
 /* One event after the other, each told what its row says. A put brings the data that belong to the key it is told, and an accepted get must show those.
- * The same events in one run, on the twin, are told the same and leave the same bytes. */
+ * A read of a get's block answers the same. The same events in one run, on the twin, are told the same and leave the same bytes. */
 void walk(lent *lent, const row *rows, size_t count);
 
 /* One event that must be accepted with key 0. */
 void accept(lent *lent, uint64_t kind, uint64_t a, uint64_t b);
+
+/* The whole write of a block by proxy 0, from its put, which is told the key, to its done; its bucket's primary is at place 0, the next brick and the
+ * backup at place 1. */
+void write_block(lent *lent, uint64_t block, uint64_t key);
 
 #endif

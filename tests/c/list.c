@@ -2,12 +2,6 @@
 
 #include <string.h>
 
-static position without_gap(position where)
-{
-    where.gap = 0;
-    return where;
-}
-
 list new_list(position position, size_t count, size_t data_length, size_t area_length)
 {
     list list = {

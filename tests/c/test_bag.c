@@ -19,18 +19,11 @@ static lent mapped(position position)
     return lent;
 }
 
-/* Records lie at an edge of their pages, or on the heap, where C may place them. */
-static position aligned(position position)
-{
-    position.gap = position.gap / 8 * 8;
-    return position;
-}
-
 /* The bag has the relays of block 5 with the given order numbers; areas of every length up to a few more. */
 static void expect_bag(lent *lent, position position, const uint64_t *orders, size_t count)
 {
     for (size_t length = 0; length <= count + 2; length++) {
-        area records = lend(aligned(position), length * sizeof(disk_relay));
+        area records = lend(without_gap(position), length * sizeof(disk_relay));
         disk_relay *relays = (disk_relay *)(void *)records.bytes;
         memset(records.bytes, 0x3c, records.length);
         seal(&lent->store);

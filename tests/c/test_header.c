@@ -27,6 +27,7 @@ _Static_assert(offsetof(disk_relay, view) == 0 && offsetof(disk_relay, bucket) =
                "in this order");
 _Static_assert(sizeof(disk_bag_answer) == 16, "two words");
 _Static_assert(offsetof(disk_bag_answer, code) == 0 && offsetof(disk_bag_answer, count) == 8, "in this order");
+_Static_assert(DISK_MOST_BLOCKS == 64 && DISK_HEAD_BYTES == 1 + 8, "of a read");
 
 /* The word at the head of a kind's line is the kind's name in the header. */
 static void kinds_have_their_words(void)
@@ -82,10 +83,23 @@ static void inline_calls(position position)
     end(&lent);
 }
 
+/* The parts of two answers of a read, no two bytes of which are the same. */
+static void parts_of_answers(void)
+{
+    enum { SIZE = 8, LENGTH = 1 + 8 + SIZE };
+    uint8_t answers[2 * LENGTH];
+    for (size_t i = 0; i < sizeof answers; i++)
+        answers[i] = (uint8_t)(0xf0 + i);
+    EXPECT(disk_answer_code(answers, SIZE, 0) == 0xf0 && disk_answer_code(answers, SIZE, 1) == 0x01);
+    EXPECT(disk_answer_key(answers, SIZE, 0) == 0xf1f2f3f4f5f6f7f8 && disk_answer_key(answers, SIZE, 1) == 0x0203040506070809);
+    EXPECT(disk_answer_bytes(answers, SIZE, 0) == answers + 9 && disk_answer_bytes(answers, SIZE, 1) == answers + LENGTH + 9);
+}
+
 int main(void)
 {
     kinds_have_their_words();
     every_number_has_a_text();
+    parts_of_answers();
     in_every_position(inline_calls);
     return 0;
 }

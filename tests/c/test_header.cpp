@@ -35,6 +35,11 @@ static void store_calls()
     expect(disk_run(store.data(), store.size(), events, 5, data, 0, answer, sizeof answer, told, 2) == DISK_OK && told[0].code == DISK_OK, "run");
     expect(disk_do_all(store.data(), store.size(), events, 2, data, sizeof data, answer, 0, told) == DISK_OK, "do all");
     expect(told[0].code == DISK_BAD_INPUT && told[1].key == ((uint64_t)1 << 56) + 1, "do all");
+    const uint64_t blocks[2] = {5, 1ull << 49};
+    uint8_t answers[2 * (DISK_HEAD_BYTES + 8)];
+    expect(disk_read(store.data(), store.size(), 0, blocks, 2, answers, sizeof answers) == DISK_OK, "read");
+    expect(disk_answer_code(answers, 8, 0) == DISK_OK && disk_answer_code(answers, 8, 1) == DISK_WRONG_PROXY, "answer code");
+    expect(disk_answer_key(answers, 8, 0) == 0 && std::memcmp(disk_answer_bytes(answers, 8, 0), zero, sizeof zero) == 0, "answer key and bytes");
     disk_relay relays[DISK_MOST_RELAYS];
     const disk_bag_answer bag = disk_bag(store.data(), store.size(), relays, DISK_MOST_RELAYS);
     expect(bag.code == DISK_OK && bag.count == 0, "bag");

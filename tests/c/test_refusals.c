@@ -135,6 +135,8 @@ static const struct {
     {nothing, {DISK_DROP, 0, 0, 0, DISK_BAD_INPUT, NO_KEY}},
     {crash_0, {DISK_SAVEMAP, 0, 0, 0, DISK_NO_MEMBER, NO_KEY}},
     {put_5, {DISK_DONE, 0, 5, 0, DISK_OTHER_KEY, NO_KEY}},
+    {nothing, {DISK_GET, 4, 5, 0, DISK_BAD_INPUT, NO_KEY}},
+    {nothing, {DISK_GET, 0, BLOCKS, 0, DISK_BAD_INPUT, NO_KEY}},
     {nothing, {DISK_GET, 1, 5, 0, DISK_WRONG_PROXY, NO_KEY}},
     {crash_0, {DISK_GET, 0, 5, 0, DISK_VIEW_UNKNOWN, NO_KEY}},
     {learn_and_crash_0, {DISK_GET, 0, 5, 0, DISK_NO_MEMBER, NO_KEY}},

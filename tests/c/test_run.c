@@ -87,15 +87,10 @@ static void blocks_at_the_ends(position position, settings settings)
 /* Two gets whose blocks share bytes: the later one's stay, and the rest of the earlier one's. */
 static void blocks_that_overlap(position position)
 {
-    static const row write[] = {
-        {DISK_LEARN, 0, 0, 0, DISK_OK, NO_KEY},   {DISK_PUT, 0, 0, 5, DISK_OK, KEY(1, 0)},   {DISK_COPY, KEY(1, 0), 0, 0, DISK_OK, NO_KEY},
-        {DISK_SAVELOG, 0, 0, 0, DISK_OK, NO_KEY}, {DISK_SAVELOG, 1, 0, 0, DISK_OK, NO_KEY},  {DISK_MAP, 0, 5, 0, DISK_OK, NO_KEY},
-        {DISK_SEND, 5, 0, 0, DISK_OK, NO_KEY},    {DISK_DELIVER, 0, 0, 0, DISK_OK, 1},       {DISK_SAVEMAP, 0, 0, 0, DISK_OK, NO_KEY},
-        {DISK_SAVEMAP, 1, 0, 0, DISK_OK, NO_KEY}, {DISK_DONE, 0, 5, 0, DISK_OK, NO_KEY},
-    };
     size_t size = least.size;
     lent lent = formatted(position, least);
-    WALK(&lent, write);
+    accept(&lent, DISK_LEARN, 0, 0);
+    write_block(&lent, 5, KEY(1, 0));
     list list = new_list(position, 2, 0, size + 3);
     uint8_t expected[16];
     set_event(&list, 0, (disk_event){DISK_GET, 0, 5, 0, 0});

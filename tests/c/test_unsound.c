@@ -1,5 +1,6 @@
 /* Bytes that are no sound store: every call on them answers 2, and no byte changes. */
 #include "list.h"
+#include "reads.h"
 
 #include <stdlib.h>
 #include <string.h>
@@ -18,6 +19,18 @@ static void run_unsound(area *store)
     end_list(&list);
 }
 
+/* Reads with too short, enough and more room, of no block and of too many. */
+static void read_unsound(const area *store)
+{
+    static const size_t counts[] = {0, 1, DISK_MOST_BLOCKS + 1};
+    for (size_t i = 0; i < COUNT(counts); i++) {
+        size_t enough = length_of_answers(least, counts[i]);
+        read_refused(store, counts[i], 0, DISK_UNSOUND);
+        read_refused(store, counts[i], enough, DISK_UNSOUND);
+        read_refused(store, counts[i], enough + 1, DISK_UNSOUND);
+    }
+}
+
 /* Every kind, and numbers that are none, on bytes that are no sound store. */
 static void expect_unsound(lent *lent, area *store)
 {
@@ -33,6 +46,7 @@ static void expect_unsound(lent *lent, area *store)
         EXPECT(told.code == DISK_UNSOUND && told.key == NO_KEY);
     }
     run_unsound(store);
+    read_unsound(store);
     EXPECT(same_since(store, old) && same_since(&lent->answer, old_answer));
 }
 

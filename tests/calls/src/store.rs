@@ -33,6 +33,31 @@ pub fn answers_in(words: &[u64]) -> Vec<Answer> {
     words.chunks(2).map(|two| Answer { code: two[0], key: two[1] }).collect()
 }
 
+/// The bytes of an answer of a read of many before the block's: the code in one, the key in eight.
+pub const HEAD: usize = 9;
+
+/// What a read of many answers for one block; of a refused one zeros.
+#[derive(Clone, Debug, PartialEq, Eq)]
+pub struct BlockAnswer {
+    pub code: u64,
+    pub key: u64,
+    pub bytes: Vec<u8>,
+}
+
+impl BlockAnswer {
+    /// The key lies high byte first.
+    fn of(answer: &[u8]) -> Self {
+        let (head, bytes) = answer.split_at(HEAD);
+        let key = head[1..].iter().fold(0, |key, &byte| key * 256 + byte as u64);
+        BlockAnswer { code: head[0] as u64, key, bytes: bytes.to_vec() }
+    }
+}
+
+/// The answers in the bytes that a read of many leaves, in a store of blocks of so many bytes.
+pub fn block_answers(answers: &[u8], size: usize, count: usize) -> Vec<BlockAnswer> {
+    answers.chunks_exact(HEAD + size).take(count).map(BlockAnswer::of).collect()
+}
+
 /// What the call for the bag answers.
 #[repr(C)]
 #[derive(Clone, Copy, Debug, PartialEq, Eq)]
@@ -75,6 +100,7 @@ mod calls {
             answers: *mut u64,
             answer_words: usize,
         ) -> u64;
+        pub fn disk_read(store: *const u8, length: usize, proxy: u64, blocks: *const u64, count: usize, answers: *mut u8, answers_length: usize) -> u64;
         pub fn disk_bag(store: *const u8, length: usize, relays: *mut Relay, count: usize) -> BagAnswer;
         pub fn disk_alike(store: *const u8, length: usize, other: *const u8, other_length: usize) -> u64;
     }
@@ -127,6 +153,11 @@ pub fn run(store: &mut [u8], events: &[u64], data: &[u8], area: &mut [u8], answe
             answers.len(),
         )
     }
+}
+
+/// Many blocks of a proxy.
+pub fn read(store: &[u8], proxy: u64, blocks: &[u64], answers: &mut [u8]) -> u64 {
+    unsafe { calls::disk_read(store.as_ptr(), store.len(), proxy, blocks.as_ptr(), blocks.len(), answers.as_mut_ptr(), answers.len()) }
 }
 
 pub fn bag(store: &[u8], relays: &mut [Relay]) -> BagAnswer {

@@ -7,6 +7,8 @@ fn same_answer(bytes: &[u8]) -> u64 {
     let old = bytes.to_vec();
     let code = call_tests::store::check(bytes);
     assert_eq!(code, model::check(bytes));
+    // a read of no blocks asks nothing else
+    assert_eq!(call_tests::store::read(bytes, 0, &[], &mut []), code);
     assert!(bytes == old);
     code
 }

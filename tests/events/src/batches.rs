@@ -4,10 +4,9 @@ use crate::counts::Counts;
 use crate::damage::Damage;
 use crate::generate::{Generator, Profile};
 use crate::lists::start;
-use crate::model::kind;
+use crate::model::{kind, State};
 use crate::runs::{replay, text, Act, Lent, Runs, Tally};
 use crate::shrink::shrink;
-use crate::trial::Start;
 use call_tests::random::Random;
 use call_tests::store::ListEvent;
 
@@ -17,13 +16,6 @@ pub struct Sum {
     pub lists: u64,
     pub tally: Tally,
     pub counts: Counts,
-}
-
-fn size(start: &Start) -> usize {
-    match start {
-        Start::Format(settings, _) => settings.size as usize,
-        Start::Edited(bytes) => call_tests::store::model::Settings::of(bytes).size as usize,
-    }
 }
 
 /// Room for some blocks, of any length; now and then for none.
@@ -44,19 +36,30 @@ fn at(r: &mut Random, size: u64, length: u64) -> u64 {
     }
 }
 
+/// Where a list begins, and how many acts follow.
+pub fn lent(r: &mut Random) -> (Lent, u64) {
+    let (start, length) = start(r);
+    let size = start.size();
+    (Lent { start, data: some_bytes(r, size), area: some_bytes(r, size) }, length)
+}
+
+/// The next event of a list.
+pub fn event(r: &mut Random, generator: &mut Generator, state: &State, lent: &Lent) -> ListEvent {
+    let call = generator.call(r, state);
+    let length = if call.kind == kind::PUT { lent.data.len() } else { lent.area.len() };
+    let at = at(r, state.size() as u64, length as u64);
+    ListEvent { kind: call.kind, a: call.a, b: call.b, c: call.c, at }
+}
+
 /// What happens next, where a batch has so many events on the average.
-fn act(r: &mut Random, generator: &mut Generator, runs: &Runs, lent: &Lent, average: u64) -> Act {
-    let state = &runs.single.state;
+pub fn act(r: &mut Random, generator: &mut Generator, state: &State, lent: &Lent, average: u64) -> Act {
     if r.one_in(60) {
         return Act::Probe(Damage::random(r, state));
     }
     if r.one_in(average + 1) {
         return Act::Run;
     }
-    let call = generator.call(r, state);
-    let length = if call.kind == kind::PUT { lent.data.len() } else { lent.area.len() };
-    let at = at(r, state.size() as u64, length as u64);
-    Act::Event(ListEvent { kind: call.kind, a: call.a, b: call.b, c: call.c, at })
+    Act::Event(event(r, generator, state, lent))
 }
 
 /// Why a list fails, and that list made short.
@@ -69,16 +72,14 @@ fn explain(seed: u64, lent: &Lent, acts: Vec<Act>) -> String {
 /// One list of its own seed.
 fn list(seed: u64, sum: &mut Sum) -> Result<(), String> {
     let r = &mut Random::new(seed);
-    let (start, length) = start(r);
-    let size = size(&start);
-    let lent = Lent { start, data: some_bytes(r, size), area: some_bytes(r, size) };
+    let (lent, length) = lent(r);
     let profile = Profile::random(r);
     let mut generator = Generator::new(r, profile);
     let average = one_of(r, &[1, 3, 10, 30, 100]);
     let mut runs = Runs::new(&lent).map_err(|_| explain(seed, &lent, Vec::new()))?;
     let mut acts = Vec::new();
     for i in 0..=length {
-        acts.push(if i < length { act(r, &mut generator, &runs, &lent, average) } else { Act::Run });
+        acts.push(if i < length { act(r, &mut generator, &runs.single.state, &lent, average) } else { Act::Run });
         runs.take(&acts[acts.len() - 1], &mut sum.tally).map_err(|_| explain(seed, &lent, std::mem::take(&mut acts)))?;
     }
     sum.lists += 1;

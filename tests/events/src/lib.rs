@@ -13,6 +13,8 @@ pub mod layout;
 pub mod lines;
 pub mod lists;
 pub mod model;
+pub mod reads;
+pub mod requests;
 pub mod runs;
 pub mod shrink;
 pub mod situations;

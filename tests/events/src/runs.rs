@@ -106,6 +106,30 @@ impl Runs {
         }
     }
 
+    /// The store as batches and calls have left it.
+    pub fn store(&self) -> &[u8] {
+        &self.store
+    }
+
+    /// The batch ends, if it has events.
+    pub fn end(&mut self, tally: &mut Tally) -> Result<(), String> {
+        if self.events.is_empty() {
+            return Ok(());
+        }
+        self.run(tally)
+    }
+
+    /// An event by a call of its own, after the batch that ends with it.
+    pub fn call(&mut self, e: &ListEvent, tally: &mut Tally) -> Result<(), String> {
+        self.end(tally)?;
+        self.event(e)?;
+        self.events.clear();
+        let answer = proved_step(&mut self.store, &call(e, self.single.state.size(), &self.data, &self.area))?;
+        same("call", vec![fill(&mut self.area, e, answer)], std::mem::take(&mut self.told))?;
+        same_bytes(&self.store, self.single.proved())?;
+        same("area", &self.area, &self.single_area)
+    }
+
     /// One by one: its turn in a batch comes later.
     fn event(&mut self, e: &ListEvent) -> Result<(), String> {
         let call = call(e, self.single.state.size(), &self.data, &self.single_area);
@@ -194,14 +218,19 @@ pub fn replay(lent: &Lent, acts: &[Act]) -> Result<(), String> {
 
 /// As lines of text; what text cannot say stands in brackets.
 pub fn text(lent: &Lent, acts: &[Act]) -> String {
-    let mut text = show(&lent.start, &[]);
-    let size = Trial::new(&lent.start).map_or(0, |trial| trial.state.size());
-    for act in acts {
-        text += &match act {
-            Act::Event(e) => format!("[at {}, data {}, area {}] {}", e.at, lent.data.len(), lent.area.len(), line(&call(e, size, &lent.data, &lent.area))),
-            Act::Run => "[run]\n".to_string(),
-            Act::Probe(damage) => format!("[run on a copy with {damage:?}]\n"),
-        };
+    let lines: String = acts.iter().map(|act| act_text(lent, act)).collect();
+    show(&lent.start, &[]) + &lines
+}
+
+pub fn act_text(lent: &Lent, act: &Act) -> String {
+    match act {
+        Act::Event(e) => event_text(lent, e),
+        Act::Run => "[run]\n".to_string(),
+        Act::Probe(damage) => format!("[run on a copy with {damage:?}]\n"),
     }
-    text
+}
+
+pub fn event_text(lent: &Lent, e: &ListEvent) -> String {
+    let call = call(e, lent.start.size(), &lent.data, &lent.area);
+    format!("[at {}, data {}, area {}] {}", e.at, lent.data.len(), lent.area.len(), line(&call))
 }

@@ -20,6 +20,16 @@ pub enum Start {
     Edited(Vec<u8>),
 }
 
+impl Start {
+    /// The bytes of a block.
+    pub fn size(&self) -> usize {
+        match self {
+            Start::Format(settings, _) => settings.size as usize,
+            Start::Edited(bytes) => Settings::of(bytes).size as usize,
+        }
+    }
+}
+
 #[derive(Clone, Debug)]
 pub enum Act {
     Step(Call),
@@ -134,7 +144,9 @@ impl Trial {
         damage.apply(&mut proved);
         let mut expected = proved.clone();
         let damaged = decode(&expected);
-        same("check of a damaged store", store::check(&proved), if damaged.is_some() { 0 } else { 2 })?;
+        let code = if damaged.is_some() { 0 } else { 2 };
+        same("check of a damaged store", store::check(&proved), code)?;
+        same("read of no blocks of a damaged store", store::read(&proved, call.a, &[], &mut []), code)?;
         same("bag of a damaged store", proved_bag(&proved), damaged.as_ref().map(bag))?;
         let alike = damaged.as_ref().map_or(2, |state| !state.is_alike(&self.state) as u64);
         same("alike", store::alike(&self.proved, &proved), alike)?;

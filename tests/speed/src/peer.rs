@@ -1,4 +1,5 @@
-//! The 22 events directly on a store's bytes, written from the rules and docs/LAYOUT.md alone: the opponent of the proved step, and of lists of events.
+//! The 22 events directly on a store's bytes, written from the rules and docs/LAYOUT.md alone: the opponent of the proved step, of lists of events, and of
+//! reads of many blocks.
 mod asks;
 mod log;
 mod maps;
@@ -64,6 +65,12 @@ pub fn run(store: &mut [u8], events: &[u64], data: &[u8], area: &mut [u8], answe
         *answer = answer_of(event(&mut store, &Event { code: 0, kind, a, b, c }, data, area));
     }
     0
+}
+
+/// As disk_read.
+#[inline(never)]
+pub fn read(store: &mut [u8], proxy: u64, blocks: &[u64], answers: &mut [u8]) -> u64 {
+    Store::sound(store).map_or(2, |store| reads::read(&store, proxy, blocks, answers))
 }
 
 /// The bytes of a block; none where their numbers are too high for any area.

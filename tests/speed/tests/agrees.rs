@@ -5,6 +5,7 @@ use call_tests::random::Random;
 use call_tests::store::model::{self, Settings};
 use call_tests::store::random::{small_settings, sound_store};
 use call_tests::store::run;
+use lists::many::Seen;
 use lists::Both;
 use speed::peer;
 
@@ -58,6 +59,25 @@ fn wild_lists() {
     assert!(codes[1] == 0 && codes[2] == 0);
     assert!((3..=15).all(|c| codes[c] > 0 || c == 8 || c == 14), "{codes:?}");
     assert!((1..=22).all(|k| kinds[k] > 0), "{kinds:?}");
+}
+
+/// Many blocks in one call, between events on formatted stores and on random sound ones.
+#[test]
+fn reads_of_many_blocks() {
+    let mut r = Random::new(38);
+    let mut seen = Seen::default();
+    while seen.calls.iter().sum::<u64>() < events() / 10 {
+        let s = roomy_settings(&mut r);
+        let percent = r.below(101);
+        let mut both = if r.one_in(4) { Both::new(s, sound_store(&mut r, s, percent)) } else { Both::formatted(&mut r, s) };
+        for _ in 0..50 {
+            both.some_events(&mut r);
+            both.read_many(&mut r, &mut seen);
+        }
+    }
+    assert!([0, 2, 3].iter().all(|&code: &usize| seen.calls[code] > events() / 1000), "{:?}", seen.calls);
+    assert!([0, 3, 4, 5, 6, 7, 8, 11].iter().all(|&code: &usize| seen.blocks[code] > events() / 10_000), "{:?}", seen.blocks);
+    assert!(seen.shown > events() / 100, "{}", seen.shown);
 }
 
 /// No list from format fills the backup alone: its copy is written by hand.

@@ -159,6 +159,45 @@ pub fn sound_store(r: &mut Random, s: Settings, percent: u64) -> Vec<u8> {
     m.store
 }
 
+/// A sound store of which much can be read: most proxies know the view, and most buckets are ready, with a pair that is there.
+pub fn readable_store(r: &mut Random, s: Settings, percent: u64) -> Vec<u8> {
+    let mut store = sound_store(r, s, percent);
+    let view = get(&store, AT_VIEW);
+    (0..PROXIES).filter(|_| !r.one_in(5)).for_each(|p| put(&mut store, AT_PROXIES + p * PROXY, view));
+    let bricks: Vec<usize> = (0..s.places as usize).map(|p| AT_PLACES + p * s.place()).filter(|&at| get(&store, at) != 0).collect();
+    if bricks.len() < 2 {
+        return store;
+    }
+    for g in 0..BUCKETS {
+        if r.one_in(8) {
+            continue;
+        }
+        let one = r.below(bricks.len() as u64) as usize;
+        let other = (one + 1 + r.below(bricks.len() as u64 - 1) as usize) % bricks.len();
+        settle(r, &mut store, s, g, [bricks[one], bricks[other]]);
+    }
+    store
+}
+
+/// The bucket has this pair, and the primary's entries in all four copies, now and then not in the backup's. Most of their keys are of the primary's log.
+fn settle(r: &mut Random, store: &mut [u8], s: Settings, g: usize, pair: [usize; 2]) {
+    let [primary, backup] = pair.map(|at| get(store, at));
+    [(0, primary), (1, backup), (4, !r.one_in(8) as u64)].iter().for_each(|&(word, v)| put(store, AT_BUCKETS + g * BUCKET + word, v));
+    let copies = pair.map(|at| at + AT_COPIES + 2 * g * s.copy());
+    let log = pair[0] + s.at_log();
+    for row in 0..get(store, log).min(get(store, copies[0])) as usize {
+        if !r.one_in(4) {
+            put(store, copies[0] + 2 + 2 * row, get(store, log + 1 + 2 * row));
+        }
+    }
+    let words = 8 * copies[0]..8 * (copies[0] + 1 + 2 * get(store, copies[0]) as usize);
+    store.copy_within(words.clone(), 8 * (copies[0] + s.copy()));
+    if !r.one_in(4) {
+        store.copy_within(words.clone(), 8 * copies[1]);
+        store.copy_within(words, 8 * (copies[1] + s.copy()));
+    }
+}
+
 /// A store in use: so many blocks, spread over the buckets, written at their primary, copied to the backup and saved, all four copies the same.
 pub fn mapped_store(s: Settings, blocks: u64) -> Vec<u8> {
     let mut store = vec![0; s.bytes()];

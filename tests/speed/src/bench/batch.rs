@@ -1,7 +1,7 @@
 //! Lists of events beside copies of the same bytes; and what an event takes without the check.
 use super::event::Undo;
 use super::fixture::Store;
-use super::lists::{byte_of, gets, read_batches, write_batches, write_together, Batch, BLOCKS};
+use super::lists::{byte_of, read_batches, read_together, write_batches, write_together, Batch, BLOCKS};
 use super::samples::{medians, time};
 use super::RUNS;
 use call_tests::store::{words_of, ListEvent};
@@ -19,7 +19,7 @@ fn copy_twice(batch: &Batch, size: usize, store: &mut [u8], data: &[u8], _: &mut
 }
 
 /// From a cell to the area: what get does.
-fn copy_once(batch: &Batch, size: usize, store: &mut [u8], _: &[u8], area: &mut [u8]) {
+pub fn copy_once(batch: &Batch, size: usize, store: &mut [u8], _: &[u8], area: &mut [u8]) {
     for (&at, &[cell, _]) in batch.at.iter().zip(&batch.cells) {
         area[at..][..size].copy_from_slice(&store[cell..][..size]);
     }
@@ -32,7 +32,7 @@ pub enum Cells {
     Evicted,
 }
 
-fn evict(batches: &[Batch], size: usize, store: &[u8]) {
+pub fn evict(batches: &[Batch], size: usize, store: &[u8]) {
     for cell in batches.iter().flat_map(|batch| batch.cells.as_flattened()) {
         store[*cell..][..size].chunks(64).for_each(|line| unsafe { _mm_clflush(line.as_ptr()) });
     }
@@ -78,7 +78,7 @@ pub fn reads(store: &Store, n: usize, rounds: usize, cells: Cells) -> [f64; 3] {
 /// Nanoseconds of each kind of a write, and of get, without the check: what a list of 32 events takes more than an empty one, for each. Proved, peer.
 pub fn alone(store: &Store, rounds: usize) -> Vec<(&'static str, [f64; 2])> {
     let mut groups = write_together(&mut store.clone(), 0..BLOCKS).0;
-    groups.push(("get", gets(store, 0..BLOCKS)));
+    groups.push(("get", read_together(store, 0..BLOCKS, |i| byte_of(store, i)).events));
     let mut before = store.clone();
     let mut rows = Vec::new();
     for (name, events) in groups {

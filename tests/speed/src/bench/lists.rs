@@ -68,15 +68,15 @@ pub fn write_batches(store: &Store, n: usize) -> (Vec<Batch>, Store) {
     (batches, after)
 }
 
-pub fn gets(store: &Store, blocks: Range<usize>) -> Vec<ListEvent> {
-    blocks.map(|i| listed(event(10, 0, block(i as u64), 0), byte_of(store, i))).collect()
+/// The gets of some blocks; where each block goes.
+pub fn read_together(store: &Store, blocks: Range<usize>, at: impl Fn(usize) -> usize) -> Batch {
+    Batch {
+        events: blocks.clone().map(|i| listed(event(10, 0, block(i as u64), 0), at(i))).collect(),
+        at: blocks.clone().map(at).collect(),
+        cells: blocks.map(|i| [store.cell_of(block(i as u64)); 2]).collect(),
+    }
 }
 
 pub fn read_batches(store: &Store, n: usize) -> Vec<Batch> {
-    let batch = |from: usize| Batch {
-        events: gets(store, from..from + n),
-        at: (from..from + n).map(|i| byte_of(store, i)).collect(),
-        cells: (from..from + n).map(|i| [store.cell_of(block(i as u64)); 2]).collect(),
-    };
-    (0..BLOCKS).step_by(n).map(batch).collect()
+    (0..BLOCKS).step_by(n).map(|from| read_together(store, from..from + n, |i| byte_of(store, i))).collect()
 }

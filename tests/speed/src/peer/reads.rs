@@ -1,11 +1,16 @@
-//! get.
+//! get, and many gets in one call.
 use super::asks::{ask, owner, primary_key, ready, served, settled};
 use super::members::holder;
 use super::store::Store;
-use super::Told;
+use super::{answer_of, Told};
 use call_tests::store::model::{BLOCKS, PROXIES};
 
-pub fn get(store: &mut Store, proxy_field: u64, block: u64, answer: &mut [u8]) -> Told {
+const MOST_BLOCKS: usize = 64;
+
+/// The bytes of an answer before the block's: the code in one, the key in eight.
+const HEAD: usize = 9;
+
+pub fn get(store: &Store, proxy_field: u64, block: u64, answer: &mut [u8]) -> Told {
     ask(proxy_field < PROXIES as u64 && block < BLOCKS, 3)?;
     ask(answer.len() == 8 * store.shape.cell, 3)?;
     let proxy = owner(proxy_field, block)?;
@@ -21,6 +26,25 @@ pub fn get(store: &mut Store, proxy_field: u64, block: u64, answer: &mut [u8]) -
     let cell = store.cell(brick, row);
     answer.copy_from_slice(store.words[cell..cell + store.shape.cell].as_flattened());
     Ok(key)
+}
+
+/// 0, with an answer for each block; 3 for too many blocks or too few bytes.
+pub fn read(store: &Store, proxy: u64, blocks: &[u64], answers: &mut [u8]) -> u64 {
+    let length = HEAD + 8 * store.shape.cell;
+    if blocks.len() > MOST_BLOCKS || answers.len() < blocks.len() * length {
+        return 3;
+    }
+    for (&block, answer) in blocks.iter().zip(answers.chunks_exact_mut(length)) {
+        let (head, bytes) = answer.split_at_mut(HEAD);
+        let told = get(store, proxy, block, bytes);
+        if told.is_err() {
+            bytes.fill(0);
+        }
+        let [code, key] = answer_of(told);
+        head[0] = code as u8;
+        head[1..].copy_from_slice(&key.to_be_bytes());
+    }
+    0
 }
 
 /// A block of zeros. Without a way out before the end, so that the compiler takes many bytes at a time.

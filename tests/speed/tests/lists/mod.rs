@@ -1,5 +1,6 @@
 //! Random lists of events on two stores, one stepped by the proved calls and one by the peer.
 mod again;
+pub mod many;
 
 use again::Kept;
 use call_tests::random::Random;
