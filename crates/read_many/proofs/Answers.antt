@@ -46,12 +46,12 @@ get-answers size store proxy blocks = enc-all (get-answer size store proxy) bloc
 pub record Written (size : ℕ) (store : List ℕ) (proxy : ℕ) (blocks old now : List ℕ) (i at : ℕ) : Type 0 where
   pub within : i ≤ length blocks
   pub same : length now ≡ length old
-  pub place : at ≡ i * answer-bytes size
+  pub begins : at ≡ i * answer-bytes size
   pub holds : now ≡ get-answers size store proxy (take i blocks) ++ drop at old
 
 pub written-none : (size : ℕ) (store : List ℕ) (proxy : ℕ) (blocks old : List ℕ) → Written size store proxy blocks old old 0 0
 unfolding enc-all
-written-none size store proxy blocks old = record { within = omega arith; same = refl; place = omega arith; holds = refl }
+written-none size store proxy blocks old = record { within = omega arith; same = refl; begins = omega arith; holds = refl }
 
 answers-more : (size : ℕ) (store : List ℕ) (proxy : ℕ) (blocks : List ℕ) (i : ℕ) → i < length blocks
     → get-answers size store proxy (take (i + 1) blocks) ≡ get-answers size store proxy (take i blocks) ++ get-answer size store proxy (getD blocks i 0)
@@ -73,12 +73,12 @@ module _ (c : Settings) (bs : List ℕ) (v : StoreOf c bs) (p : ℕ) where
     front-length : length (get-answers (c .size) bs p (take i blocks)) ≡ at
     front-length =
         length-enc-all (get-answer (c .size) bs p) (answer-bytes (c .size)) (sized-take (get-answer (c .size) bs p) (answer-bytes (c .size)) i (answers-sized blocks))
-        ∙ ap (λ (n : ℕ). n * answer-bytes (c .size)) (length-take-le i blocks (w .within)) ∙ sym (w .place)
+        ∙ ap (λ (n : ℕ). n * answer-bytes (c .size)) (length-take-le i blocks (w .within)) ∙ sym (w .begins)
 
     module _ (h : i < length blocks) (k : length blocks * answer-bytes (c .size) ≤ length old) where
       -- there is room for the next
       pub next-fits : at + answer-bytes (c .size) ≤ length now
-      next-fits = omega (arith, fits-in (answer-bytes (c .size)) h, w .place, w .same)
+      next-fits = omega (arith, fits-in (answer-bytes (c .size)) h, w .begins, w .same)
 
       pub written-more : (part new : List ℕ) → part ≡ get-answer (c .size) bs p (getD blocks i 0)
           → new ≡ take at now ++ (part ++ drop (at + answer-bytes (c .size) - at) (drop at now)) → length new ≡ length now
@@ -93,7 +93,7 @@ module _ (c : Settings) (bs : List ℕ) (v : StoreOf c bs) (p : ℕ) where
           record {
             within = omega arith;
             same = l ∙ w .same;
-            place = rw (add-one, suc-mul, ← (w .place)) refl;
+            begins = rw (add-one, suc-mul, ← (w .begins)) refl;
             holds = q ∙ rw (width, before, after, e, answers-more (c .size) bs p blocks i h, append-assoc) refl;
           }
 
@@ -101,7 +101,7 @@ module _ (c : Settings) (bs : List ℕ) (v : StoreOf c bs) (p : ℕ) where
     unfolding answers-to
     written-all h =
         let all : i ≡ length blocks = omega (arith, w .within) in
-        w .holds ∙ rw (take-all i blocks h, w .place, all) refl
+        w .holds ∙ rw (take-all i blocks h, w .begins, all) refl
 
 -- ---- the call
 module _ (store : List ℕ) (proxy : ℕ) (blocks answers : List ℕ) where

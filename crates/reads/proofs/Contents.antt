@@ -41,7 +41,7 @@ module _ (c : Settings) (s : State) (p b : ℕ) {n : ℕ} (e : n ≡ first-no (s
       pub located : (place row : ℕ) → LiesAt c s (holder s k) k place row → Located c s p b k place row
       located place row at = record {
         accepted = all-asked (or-r _ _ (lt-ltb 0 (holder s (mapped s b)) (rw m at (at .stands .some))));
-        named = m;
+        key-mapped = m;
         some = some;
         lies = at;
       }
@@ -72,8 +72,8 @@ module _ (c : Settings) (bs : List ℕ) (v : StoreOf c bs) (p b : ℕ) where
       → chunk-at (decode (words bs) .bricks .log (decode (words bs) .ids place)) row .bytes ≡ get-bytes (decode (words bs)) b
   located-bytes {k} {place} {row} l =
       bytes-at-holder c bs v (holder s k) k place row (l .lies)
-      ∙ ap (λ (x : ℕ). bytes-in (s .bricks .log (holder s x)) x) (l .named)
-      ∙ mapped-bytes s b (λ z. l .some (l .named ∙ z))
+      ∙ ap (λ (x : ℕ). bytes-in (s .bricks .log (holder s x)) x) (l .key-mapped)
+      ∙ mapped-bytes s b (λ z. l .some (l .key-mapped ∙ z))
 
   -- as many as a block has
   pub bytes-size : first-no (get-asks (decode (words bs)) p b) ≡ 0 → length (get-bytes (decode (words bs)) b) ≡ c .size

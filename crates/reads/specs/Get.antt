@@ -23,7 +23,7 @@ use Rattle.reads.specs.declared.Lookup.the-variants.{Refused, Unmapped, 
 -- ---- the look-up: an accepted get with a mapping, and where the chunk of the mapped key lies
 pub record Located (settings : Settings) (s : State) (proxy block key place row : ℕ) : Type 0 where
   pub accepted : first-no (get-asks s proxy block) ≡ 0
-  pub named : key ≡ mapped s block
+  pub key-mapped : key ≡ mapped s block
   pub some : key ≡ 0 → ⊥
   pub lies : LiesAt settings s (holder s key) key place row
 

@@ -27,6 +27,7 @@ enum Lookup {
     Chunk(ChunkKey, usize, usize),
 }
 
+// get's questions in their order; the last one, 11, is answered by the search for the holder.
 fn look_up(store: &[u8], settings: Settings, proxy: u64, block: u64) -> Lookup
     requires { ⌜ StoreOf settings (now store) ⌝ }
     ensures { λ r. ⌜ LooksUp settings (decode (words (now (store .entry)))) proxy block r ⌝ }

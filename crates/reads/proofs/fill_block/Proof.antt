@@ -80,7 +80,7 @@ returns-3 c =
     let b : tie.Start = search in
     let s = decode (words (b .args .store .now)) in
     let at = lies k in
-    fills-accepted s (b .args .proxy) (b .args .block) (accepted s (b .args .proxy) (b .args .block) (at .accepted) (at .named) refl) refl
+    fills-accepted s (b .args .proxy) (b .args .block) (accepted s (b .args .proxy) (b .args .block) (at .accepted) (at .key-mapped) refl) refl
     (b .args .area .now) _ (copied .copy-bytes .ensures ∙ same-bytes after-chunk)
 
 pub fill-block-spec : {M : Type 1} → statement M
