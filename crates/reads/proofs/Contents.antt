@@ -14,7 +14,7 @@ use Rattle.rules.specs.declared.settings.Settings.{Settings}
 use Rattle.rules.specs.Chunks.{bytes-in}
 use Rattle.rules.specs.State.{State}
 use Rattle.rules.specs.Derived.{holder}
-use Rattle.rules.specs.Question.{first-no}
+use Rattle.rules.specs.Question.{first-no, AllYes}
 use Rattle.rules.specs.Reads.{mapped, get-asks, get-bytes, zeros}
 use Rattle.rules.proofs.Questions.{first-yes, first-stop, none-asked, goes-on, all-yes}
 use Rattle.log.specs.Log.{chunk-at}
@@ -83,4 +83,4 @@ module _ (c : Settings) (bs : List ℕ) (v : StoreOf c bs) (p b : ℕ) where
       (λ n z. ap length (sym (mapped-bytes s b z)) ∙ holder-size c bs v (mapped s b) (ltb-true 0 (holder s (mapped s b)) (or-second _ _ found n)))
     where
       found : (eqb (mapped s b) 0 or ltb 0 (holder s (mapped s b))) ≡ true
-      found = all-yes (get-asks s p b) refl e .1 .1 .1 .1 .1 .1 .1 .1 .0
+      found = let yes : AllYes (get-asks s p b) = all-yes (get-asks s p b) refl e in search
