@@ -41,10 +41,10 @@ shared-slice-read-set-answer : tie.Need-shared-slice-read-set-answer Inv-loop μ
 shared-slice-read-set-answer c = search needs
 
 sub-set-answer : tie.Need-sub-set-answer Inv-loop μ-loop
-sub-set-answer c = omega arith
+sub-set-answer c = let in-loop : tie.In-loop Inv-loop μ-loop = search in let fits = room in-loop in omega arith
 
 part-set-answer-start : tie.Need-part-set-answer-start Inv-loop μ-loop
-part-set-answer-start c = search needs
+part-set-answer-start c = let in-loop : tie.In-loop Inv-loop μ-loop = search in let fits = room in-loop in search needs
 
 part-set-answer-end : tie.Need-part-set-answer-end Inv-loop μ-loop
 part-set-answer-end c = let in-loop : tie.In-loop Inv-loop μ-loop = search in let fits = room in-loop in omega arith
