@@ -1,5 +1,11 @@
 // What the benchmarks measure and the library does not export.
+ghost use mathlib.Core.Path.{_≡_};
+ghost use lib.Bits.{bitXor};
+ghost use Rattle.rules.specs.Numbers.{proxy-of, bucket-of};
+ghost use Rattle.rules.specs.Limits.{buckets};
 ghost use Rattle.bench.specs.Moved.{Moved};
+use rules::numbers::BlockNumber;
+use rules::settings::Settings;
 
 // Moves words within the lent bytes: 0. Answers 1, with nothing changed, where a run of the two is not within them.
 #[no_mangle]
@@ -18,4 +24,25 @@ pub extern "C" fn bench_move(s: &mut [u8], from: usize, to: usize, n: usize) -> 
     }
     moves::move_words(s, from, to, n);
     0
+}
+
+// A block's bucket and proxy, joined into one number.
+#[no_mangle]
+pub extern "C" fn bench_numbers(
+    places: usize,
+    size: usize,
+    entries: usize,
+    chunks: usize,
+    block: u64,
+) -> u64
+    ensures { λ r. ⌜ r ≡ bitXor (bucket-of (buckets record { places = places; size = size; entries = entries; chunks = chunks }) block) (proxy-of block) ⌝ }
+{
+    let settings = Settings {
+        places,
+        size,
+        entries,
+        chunks,
+    };
+    let number = BlockNumber(block);
+    number.bucket(settings) ^ number.proxy()
 }

@@ -4,9 +4,10 @@ use mathlib.Core.List.{List, [], _∷_, _++_, List·Memᴰ, List·Memᴰ·head, 
 use mathlib.Core.List.{append-nil, List·Memᴰ·eq-of-singleton, Memᴰ·append-left, Memᴰ·append-right}
 use mathlib.Core.Bool.{Bool, true, not, cond}
 use mathlib.Core.Logic.{_⊎_, inl, inr}
-use Prim.Native.Nat.{ℕ, zero, suc, _/_, _≤_, _<_}
+use Prim.Native.Nat.{ℕ, zero, suc, _-_, _/_, _%_, _^_, _≤_, _<_}
 use native.Mathlib.Nat.{mod-lt}
 use native.Mathlib.Omega.{arith}
+use lib.Bits.{bitAnd, and-mask}
 use lib.Dec.{ltb, leb}
 use lib.ListN.{length, length-append}
 use borrow.Author.Tests.{eqb-true, eq-eqb, le-leb, leb-true}
@@ -28,6 +29,11 @@ use Rattle.rules.proofs.Entries.{has-entry, no-entry}
 pub bucket-below : (c : Settings) (b : ℕ) → bucket-of (buckets c) b < buckets c
 unfolding bucket-of
 bucket-below c b = mod-lt (b / 1024) (some-buckets c)
+
+-- a bucket by its block's bits: of those from 10 up as many as the mask has, whatever power of 2 the number of buckets is
+pub bucket-bits : (count block : ℕ) → (k : ℕ) × (count ≡ 2 ^ k) → bitAnd (block / 2 ^ 10) (count - 1) ≡ bucket-of count block
+unfolding bucket-of
+bucket-bits count block (k, e) = subst (λ n. bitAnd (block / 2 ^ 10) (n - 1) ≡ block / 2 ^ 10 % n) (sym e) (and-mask (block / 2 ^ 10) k)
 
 pub home-key : (x n : ℕ) → n < sequences → home-of (key-of x n) ≡ x
 home-key x n h = omega arith

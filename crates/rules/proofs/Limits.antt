@@ -1,7 +1,7 @@
 -- Settings in their limits, as facts.
-use mathlib.Core.Path.{_≡_}
+use mathlib.Core.Path.{_≡_, refl}
 use mathlib.Core.Bool.{true}
-use Prim.Native.Nat.{ℕ, _%_, _≤_, _<_}
+use Prim.Native.Nat.{ℕ, _%_, _^_, _≤_, _<_}
 use native.Mathlib.Omega.{arith}
 use lib.Dec.{eqb}
 use borrow.Author.Tests.{leb-true, eqb-true}
@@ -75,3 +75,7 @@ some-buckets c = omega arith
 pub few-buckets : (c : Settings) → buckets c ≤ max-buckets
 unfolding buckets
 few-buckets c = omega arith
+
+pub power-of-two : (c : Settings) → (k : ℕ) × (buckets c ≡ 2 ^ k)
+unfolding buckets
+power-of-two c = (4, refl)

@@ -3,11 +3,14 @@
 // a virtual disk's blocks
 pub const BLOCKS: u64 = 0x8_0000_0000_0000;
 
-// blocks of one proxy
-pub const PROXY_BLOCKS: u64 = 0x2_0000_0000_0000;
+// bits of a block number below its proxy
+pub const PROXY_BITS: u64 = 49;
+
+// bits of a block number below its bucket
+pub const RUN_BITS: u64 = 10;
 
 // blocks that lie together in one bucket
-pub const RUN_BLOCKS: u64 = 1024;
+pub const RUN_BLOCKS: u64 = 1 << RUN_BITS;
 
 // sequence numbers of one brick
 pub const SEQUENCES: u64 = 0x100_0000_0000_0000;

@@ -23,13 +23,13 @@ impl BlockNumber {
     pub fn proxy(self) -> u64
         ensures { λ r. ⌜ r ≡ proxy-of (self .0) ⌝ }
     {
-        self.0 / constants::PROXY_BLOCKS
+        self.0 >> constants::PROXY_BITS
     }
 
     pub fn bucket(self, settings: Settings) -> u64
         ensures { λ r. ⌜ r ≡ bucket-of (buckets settings) (self .0) ⌝ }
     {
-        self.0 / constants::RUN_BLOCKS % settings.buckets() as u64
+        (self.0 >> constants::RUN_BITS) & (settings.buckets() as u64 - 1)
     }
 }
 

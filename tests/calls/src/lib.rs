@@ -2,6 +2,7 @@
 pub mod lent;
 pub mod lists;
 pub mod moves;
+pub mod numbers;
 pub mod random;
 pub mod store;
 pub mod text;

@@ -1,12 +1,14 @@
 //! Side by side with the independent implementation, in one run: check at 0, 10 and 100 % use, of a store with blocks mapped, and by the number of
 //! chunks; format;
-//! and a move of words side by side with memmove.
+//! a move of words side by side with memmove; and buckets and proxies of blocks side by side with divisions.
 use call_tests::moves::{memmove, move_words};
+use call_tests::numbers::{divided, divided_by, numbers};
 use call_tests::store::model::{self, Settings};
 use call_tests::random::Random;
 use call_tests::time::{compare, heading};
 use call_tests::store::random::{mapped_store, sound_store};
 use std::cell::RefCell;
+use std::hint::black_box;
 
 fn main() {
     let mut r = Random::new(21);
@@ -44,4 +46,14 @@ fn main() {
             compare(&name, || move_words(&mut bytes.borrow_mut(), from, to, n), || memmove(&mut bytes.borrow_mut(), from, to, n));
         }
     }
+    let (s, buckets) = black_box((Settings::new(4, 512, 256, 1024), model::BUCKETS as u64));
+    let blocks: Vec<u64> = (0..1000).map(|_| r.below(1 << 51)).collect();
+    let name = "bucket and proxy of 1,000 blocks; divided";
+    compare(name, || chain(&blocks, |b| numbers(s, b)), || chain(&blocks, divided));
+    compare(&format!("{name} at run time"), || chain(&blocks, |b| numbers(s, b)), || chain(&blocks, |b| divided_by(buckets, b)));
+}
+
+/// One call for each block, which waits for the one before: its block hangs on that one's answer.
+fn chain(blocks: &[u64], of: impl Fn(u64) -> u64) -> u64 {
+    blocks.iter().fold(0, |last, block| of(block ^ last))
 }
