@@ -1,12 +1,12 @@
-// The limits that no setting changes. `specs/Limits` and `specs/Numbers` have each by the same name.
+// The limits that no setting changes. `specs/Limits` and `specs/Numbers` have each by the same name, those in bits as powers of 2.
 
 // a virtual disk's blocks
 pub const BLOCKS: u64 = 0x8_0000_0000_0000;
 
-// bits of a block number below its proxy
+// bits of a block number below its proxy's: 2^49 blocks of one proxy
 pub const PROXY_BITS: u64 = 49;
 
-// bits of a block number below its bucket
+// bits of a block number below its bucket's
 pub const RUN_BITS: u64 = 10;
 
 // blocks that lie together in one bucket
@@ -23,6 +23,7 @@ pub const MAX_VIEW_OR_ORDER: u64 = 0xffff_ffff;
 
 pub const MAX_ID: u64 = 255;
 
+// a power of 2: a block's bucket is some bits of its number
 pub const BUCKETS: usize = 16;
 
 // there is room for so many

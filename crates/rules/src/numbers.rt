@@ -19,6 +19,7 @@ pub struct ChunkKey(pub u64);
 #[repr(C)]
 pub struct ViewNumber(pub u64);
 
+// The rules divide by powers of 2; the code takes bits, of any 64-bit number.
 impl BlockNumber {
     pub fn proxy(self) -> u64
         ensures { λ r. ⌜ r ≡ proxy-of (self .0) ⌝ }
