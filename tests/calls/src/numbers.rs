@@ -1,24 +1,27 @@
-//! A block's bucket and proxy, joined into one number, behind a safe function, and the same by division.
-use crate::store::model::{bucket_of, proxy_of, Settings};
+//! A block's bucket and proxy, joined into one number: proved, and by division. All are called alike, with the settings and the block.
+use crate::store::model::{bucket_of, proxy_of, BUCKETS};
 
-mod calls {
-    extern "C" {
-        pub fn bench_numbers(places: usize, size: usize, entries: usize, chunks: usize, block: u64) -> u64;
-    }
+pub type Numbers = unsafe extern "C" fn(usize, usize, usize, usize, u64) -> u64;
+
+extern "C" {
+    pub fn bench_numbers(places: usize, size: usize, entries: usize, chunks: usize, block: u64) -> u64;
 }
 
-pub fn numbers(s: Settings, block: u64) -> u64 {
-    unsafe { calls::bench_numbers(s.places as usize, s.size as usize, s.entries as usize, s.chunks as usize, block) }
-}
-
-/// By divisors that the compiler knows. A call, as the proved one is.
-#[inline(never)]
-pub fn divided(block: u64) -> u64 {
+/// By divisors that the compiler knows.
+pub extern "C" fn divided(_: usize, _: usize, _: usize, _: usize, block: u64) -> u64 {
     bucket_of(block) ^ proxy_of(block)
 }
 
-/// By a number of buckets that the compiler does not know.
-#[inline(never)]
-pub fn divided_by(buckets: u64, block: u64) -> u64 {
-    block / 1024 % buckets ^ proxy_of(block)
+/// By a number of buckets that the compiler does not know. It is handed over as the entries.
+pub extern "C" fn divided_at_run_time(_: usize, _: usize, buckets: usize, _: usize, block: u64) -> u64 {
+    block / 1024 % buckets as u64 ^ proxy_of(block)
+}
+
+pub fn numbers(of: Numbers, block: u64) -> u64 {
+    unsafe { of(4, 512, BUCKETS, 1024, block) }
+}
+
+/// One call for each block, which waits for the one before: its block hangs on that one's answer.
+pub fn chain(of: Numbers, blocks: &[u64]) -> u64 {
+    blocks.iter().fold(0, |last, block| numbers(of, block ^ last))
 }

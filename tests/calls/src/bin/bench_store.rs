@@ -2,7 +2,7 @@
 //! chunks; format;
 //! a move of words side by side with memmove; and buckets and proxies of blocks side by side with divisions.
 use call_tests::moves::{memmove, move_words};
-use call_tests::numbers::{divided, divided_by, numbers};
+use call_tests::numbers::{bench_numbers, chain, divided, divided_at_run_time, Numbers};
 use call_tests::store::model::{self, Settings};
 use call_tests::random::Random;
 use call_tests::time::{compare, heading};
@@ -46,14 +46,9 @@ fn main() {
             compare(&name, || move_words(&mut bytes.borrow_mut(), from, to, n), || memmove(&mut bytes.borrow_mut(), from, to, n));
         }
     }
-    let (s, buckets) = black_box((Settings::new(4, 512, 256, 1024), model::BUCKETS as u64));
     let blocks: Vec<u64> = (0..1000).map(|_| r.below(1 << 51)).collect();
-    let name = "bucket and proxy of 1,000 blocks; divided";
-    compare(name, || chain(&blocks, |b| numbers(s, b)), || chain(&blocks, divided));
-    compare(&format!("{name} at run time"), || chain(&blocks, |b| numbers(s, b)), || chain(&blocks, |b| divided_by(buckets, b)));
-}
-
-/// One call for each block, which waits for the one before: its block hangs on that one's answer.
-fn chain(blocks: &[u64], of: impl Fn(u64) -> u64) -> u64 {
-    blocks.iter().fold(0, |last, block| of(block ^ last))
+    for (name, peer) in [("divided", divided as Numbers), ("divided at run time", divided_at_run_time)] {
+        let [ours, theirs] = black_box([bench_numbers, peer]);
+        compare(&format!("numbers of 1,000 blocks; {name}"), || chain(ours, &blocks), || chain(theirs, &blocks));
+    }
 }
