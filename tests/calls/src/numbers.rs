@@ -22,6 +22,7 @@ pub fn numbers(of: Numbers, block: u64) -> u64 {
 }
 
 /// One call for each block, which waits for the one before: its block hangs on that one's answer.
+#[inline(never)]
 pub fn chain(of: Numbers, blocks: &[u64]) -> u64 {
     blocks.iter().fold(0, |last, block| numbers(of, block ^ last))
 }
