@@ -4,11 +4,11 @@ use mathlib.Core.List.{List, []}
 use Prim.Native.Nat.{ℕ, zero, suc, _+_, _≤_, _<_}
 use native.Mathlib.Omega.{arith}
 use lib.Dec.{eqb}
-use lib.ListN.{List·getD-eq-default}
+use lib.ListN.{length, List·getD-eq-default}
 use borrow.Author.Tests.{eqb-true}
 use Rattle.lists.specs.Tests.{_and_, all-below}
 use Rattle.lists.proofs.Tests.{by-eq, by-lt, all-at}
-use Rattle.rules.specs.Event.{Event, kinds, no-kind, kind-at, event-of, fields-brought, event-from, event-fields}
+use Rattle.rules.specs.Event.{Event, kinds, no-kind, kind-at, kind-count, event-of, fields-brought, event-from, event-fields}
 
 -- ---- what holds of each number of a range holds of all of it
 abbrev Each : (ℕ → Type 0) → ℕ → ℕ → Type 0
@@ -19,6 +19,11 @@ in-range : (P : ℕ → Type 0) (n low : ℕ) → Each P low n → (k : ℕ) →
 in-range P zero low t k a b = absurd (omega arith)
 in-range P (suc n) low t k a b =
     by-eq k low (λ _ e. subst P (sym e) (t .0)) (λ _ u. in-range P n (suc low) (t .1) k (omega arith) (omega arith))
+
+-- the number of kinds is that of the table's rows
+pub kinds-count : length kinds ≡ kind-count
+unfolding kinds
+kinds-count = refl
 
 unfoldable pub kinds-open : ℕ
 unfolding event-of fields-brought kind-at kinds event-fields
@@ -41,19 +46,19 @@ module _ (a b c : ℕ) (bytes : List ℕ) where
   unfolding kinds-open
   kind-none k e = rw e
 
-  pub kind-past : (k : ℕ) → 22 < k → event-from k a b c bytes ≡ Event.unknown
+  pub kind-past : (k : ℕ) → kind-count < k → event-from k a b c bytes ≡ Event.unknown
   unfolding event-of fields-brought kind-at kinds
   kind-past zero h = absurd (omega arith)
   kind-past (suc i) h = let e = List·getD-eq-default kinds no-kind {n = i} (omega arith) in rw e
 
   -- ---- an event has the number that it was made with, or 0 where that is of no kind
-  kind-made : (k : ℕ) → k < 23 → event-fields (event-from k a b c bytes) .kind ≡ k
+  kind-made : (k : ℕ) → k < suc kind-count → event-fields (event-from k a b c bytes) .kind ≡ k
   unfolding kinds-open all-below _and_
-  kind-made k h = eqb-true _ _ (all-at 23 (λ k. eqb (event-fields (event-from k a b c bytes) .kind) k) refl k h)
+  kind-made k h = eqb-true _ _ (all-at (suc kind-count) (λ k. eqb (event-fields (event-from k a b c bytes) .kind) k) refl k h)
 
   pub made-kind : (k : ℕ) (e : Event) → event-from k a b c bytes ≡ e → 0 < event-fields e .kind → k ≡ event-fields e .kind
   made-kind k e q l =
-      by-lt k 23 (λ _ h. sym (kind-made k h) ∙ ap (λ (x : Event). event-fields x .kind) q)
+      by-lt k (suc kind-count) (λ _ h. sym (kind-made k h) ∙ ap (λ (x : Event). event-fields x .kind) q)
       (λ _ h. absurd (no-number (sym q ∙ kind-past k (omega arith))))
     where
       no-number : e ≡ Event.unknown → ⊥

@@ -31,9 +31,12 @@ pub none-asked : first-no [] ≡ 0
 unfolding first-no
 none-asked = refl
 
--- ---- the questions of events have the numbers 3 to 15, so where none is answered no, all are answered yes
+-- ---- the questions of events have numbers from 3 on that fit a byte, so where none is answered no, all are answered yes
+abbrev pub max-code : ℕ
+max-code = 255
+
 abbrev pub is-number : ℕ → Bool
-is-number code = leb 3 code and leb code 15
+is-number code = leb 3 code and leb code max-code
 
 abbrev pub numbered : List Question → Bool
 numbered [] = true

@@ -13,9 +13,9 @@ use Rattle.rules.specs.Event.{Event}
 use Rattle.rules.specs.State.{State}
 use Rattle.rules.specs.Question.{Question, first-no, AllYes}
 use Rattle.rules.specs.Step.{Outcome, only-key, rule, finish, step}
-use Rattle.rules.proofs.Questions.{first-yes, first-stop, none-asked, numbered, all-yes}
+use Rattle.rules.proofs.Questions.{first-yes, first-stop, none-asked, max-code, numbered, all-yes}
 
--- an event's questions have the numbers 3 to 15
+-- an event's questions have numbers of questions
 pub rule-numbered : (s : State) (e : Event) → numbered (rule s e .questions) ≡ true
 unfolding rule _and_
 rule-numbered s (Event.put p i b d) = refl
@@ -67,14 +67,14 @@ code-is s e = go (first-no (rule s e .questions))
 
 -- ---- the code is 0 or the number of a question
 abbrev pub Numbered : ℕ → Type 0
-Numbered c = (c ≡ 0) ⊎ ((3 ≤ c) × (c ≤ 15))
+Numbered c = (c ≡ 0) ⊎ ((3 ≤ c) × (c ≤ max-code))
 
 first-numbered : (qs : List Question) → numbered qs ≡ true → Numbered (first-no qs)
 unfolding first-no
 first-numbered [] t = inl refl
 first-numbered (q ∷ qs) t =
     either Numbered (q .yes) (λ _. first-numbered qs (and-r _ _ t))
-    (λ _. let n = and-l _ _ t in inr (leb-true 3 (q .code) (and-l _ _ n), leb-true (q .code) 15 (and-r _ _ n)))
+    (λ _. let n = and-l _ _ t in inr (leb-true 3 (q .code) (and-l _ _ n), leb-true (q .code) max-code (and-r _ _ n)))
 
 pub step-numbers : (s : State) (e : Event) → Numbered (step s e .code)
 step-numbers s e = subst Numbered (sym (code-is s e)) (first-numbered _ (rule-numbered s e))

@@ -77,10 +77,11 @@ agree bucket block =
 unfoldable pub pending : Bucket → ℕ → Bool
 pending bucket block = bucket .ready and not (agree bucket block)
 
--- a bucket that is ready with nothing pending: a block that none of the four names is not
+-- no block of these entries is pending
 unfoldable pub none-pending : Bucket → List Entry → Bool
 none-pending bucket entries = every (λ e. not (pending bucket (e .block))) entries
 
+-- the bucket is ready, and no block of it is pending: one that none of the four names is not
 unfoldable pub nothing-pending : Bucket → Bool
 nothing-pending bucket =
     bucket .ready and none-pending bucket (primary-memory bucket) and none-pending bucket (primary-disk bucket)

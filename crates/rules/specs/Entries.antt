@@ -47,7 +47,7 @@ remove entries block = only (λ e. not (eqb block (e .block))) entries
 unfoldable pub takes : ℕ → List Entry → ℕ → Bool
 takes most entries block = has entries block or ltb (length entries) most
 
--- of a buffer, the entries of a bucket, and the others
+-- is an entry of the bucket?
 unfoldable pub is-of-bucket : ℕ → ℕ → Entry → Bool
 is-of-bucket count number entry = eqb (bucket-of count (entry .block)) number
 

@@ -1,4 +1,4 @@
--- The 22 kinds of event, in 01's order, and their one table.
+-- The kinds of event, in 01's order, and their one table.
 use mathlib.Core.List.{List, [], _∷_}
 use mathlib.Core.Bool.{Bool, true, false, cond}
 use Prim.Native.Char.{code}
@@ -68,7 +68,7 @@ two-numbers w f = record { word = ascii w; numbers = 2; payload = false; make = 
 abbrev three-and-data : String → (ℕ → ℕ → ℕ → List ℕ → Event) → Kind
 three-and-data w f = record { word = ascii w; numbers = 3; payload = true; make = f }
 
--- the kind is a number 1 to 22, in this order
+-- the kind is a number 1 to 22, in this order: as many as the table has rows (kinds-count)
 abbrev pub kind-count : ℕ
 kind-count = 22
 

@@ -19,7 +19,7 @@ use Rattle.rules.specs.Whole.{whole}
 use Rattle.rules.specs.Alike.{alike}
 
 pub data Asked : Type 0 where
-  -- the code of a format
+  -- whether the settings are in their limits, as format's code: 0 or 1
   settings-code : Settings → Asked
   -- the bucket of a block
   bucket : Settings → ℕ → Asked

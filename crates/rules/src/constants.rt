@@ -1,4 +1,5 @@
-// The limits that no setting changes. `specs/Limits` and `specs/Numbers` have each by the same name, those in bits as powers of 2.
+// The limits that no setting changes. `specs/Limits` and `specs/Numbers` have each by the same name but BLOCKS, there block-count; those in bits are powers
+// of 2 there.
 
 // a virtual disk's blocks
 pub const BLOCKS: u64 = 0x8_0000_0000_0000;

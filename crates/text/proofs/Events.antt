@@ -15,7 +15,7 @@ use Rattle.decimal.proofs.Laws.{then-some}
 use Rattle.rules.specs.Event.{Event, put, copy, savelog, map, send, deliver, drop, savemap, done, get, abandon, learn, reset, crash, lose, rise, join, view}
 use Rattle.rules.specs.Event.{fetch, ready, mend, collect, unknown, kind-count, Kind, kinds, no-kind, kind-at, EventFields, event-of, event-fields}
 use Rattle.text.specs.Lines.{make-fields, line-of, read-fields, is-event, is-well-formed, event-line, read-event, has-line}
-use Rattle.text.proofs.Laws.{kinds-count}
+use Rattle.rules.proofs.Event.{kinds-count}
 use Rattle.text.proofs.RoundTrip.{WellFormed, well-formed, fields-of-line, line-of-fields, fields-well-formed}
 
 -- ---- an event is made again of its fields

@@ -14,6 +14,7 @@ use Rattle.lists.proofs.Tests.{by, by-lt, and-l, and-r, all-at, same-numbers-eq
 use Rattle.area.specs.Area.{onto}
 use Rattle.area.proofs.Each.{Above, each-of}
 use Rattle.rules.specs.Event.{kind-count, ascii, Kind, kinds, no-kind, kind-at}
+use Rattle.rules.proofs.Event.{kinds-count}
 use Rattle.text.specs.Kinds.{kind-from, kind-of-word}
 use Rattle.text.specs.Table.{shape-of, kind-number}
 use Rattle.text.specs.declared.Shape.{Shape}
@@ -91,10 +92,6 @@ past from k (suc n) h p = let r = past from k n h (p .0) in let ne = p .1 in ome
 -- a kind above `from` that is none of the next n is the one after them
 pub last-kind : (from k n : ℕ) → suc from ≤ k → k ≤ suc (from + n) → Passed (λ j. from + j) k n → k ≡ suc (from + n)
 last-kind from k n h g p = let r = past from k n h p in omega arith
-
-pub kinds-count : length kinds ≡ kind-count
-unfolding kinds
-kinds-count = refl
 
 -- ---- the kind of a word
 
