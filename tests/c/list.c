@@ -58,8 +58,7 @@ void run_refused(area *store, list *list, size_t event_words, size_t answer_word
     EXPECT(same_since(store, old_store) && same_since(&list->area, old_area) && same_since(&list->answers, old_answers));
 }
 
-/* The rows' events; the block of row i is the i-th of the data and of the area. */
-static list list_of(position position, size_t size, const row *rows, size_t count)
+list list_of(position position, size_t size, const row *rows, size_t count)
 {
     list list = new_list(position, count, count * size, count * size);
     unseal(&list.data);

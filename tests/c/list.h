@@ -13,6 +13,9 @@ typedef struct {
 list new_list(position position, size_t count, size_t data_length, size_t area_length);
 void end_list(list *list);
 
+/* The rows' events; the block of row i is the i-th of the data and of the area, and holds the data that belong to the row's key. */
+list list_of(position position, size_t size, const row *rows, size_t count);
+
 void set_event(list *list, size_t index, disk_event event);
 disk_step_answer answer(const list *list, size_t index);
 

@@ -19,7 +19,7 @@ use Rattle.rules.proofs.Chunks.{held-append, held-save, length-save}
 use Rattle.entries.specs.Entries.{entry-at}
 use Rattle.named.specs.Tables.{named}
 use Rattle.named.proofs.Names.{or-none, or-both, names-more}
-use Rattle.mend.specs.Keys.{key-at, mended-to, before, wants, lacks, adds, added-in, added}
+use Rattle.mend.specs.Keys.{key-at, mended-to, before, wants, lacks, adds, added-in, added, counted}
 
 -- ---- a key that becomes saved
 saved-held : (l : List Chunk) (k q : ℕ) → held (save-key l k) q ≡ held l q
@@ -144,7 +144,7 @@ module _ (s : State) where
   unfolding before names any any-below
   before-bucket g k = rw take-length (or-none _)
 
-abbrev one : Bool → ℕ
+abbrev pub one : Bool → ℕ
 one b = cond b 1 0
 
 -- more indices, a higher count
@@ -198,11 +198,11 @@ module _ (s : State) (id : ℕ) where
       omega arith
 
   pub buckets-length : (n : ℕ) → length (mend-buckets s id n) ≡ added s id n + length (s .bricks .log id)
-  buckets-length zero = unfold mend-buckets added in omega arith
+  buckets-length zero = unfold mend-buckets counted in omega arith
   buckets-length (suc g) =
       let e = ap length (sym (mended-end g)) ∙ mended-length g (length (named s g)) (le-refl _) in
       let r = buckets-length g in
-      let a : added s id (suc g) ≡ added-in s id g (length (named s g)) + added s id g = unfold added in refl in
+      let a : added s id (suc g) ≡ added-in s id g (length (named s g)) + added s id g = unfold counted in refl in
       omega arith
 
   -- it only grows

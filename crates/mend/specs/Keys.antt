@@ -36,10 +36,39 @@ lacks s id key = wants s id key and not (held (s .bricks .log id) key)
 unfoldable pub adds : State → ℕ → ℕ → ℕ → Bool
 adds s id g i = lacks s id (key-at s g i) and not (before s g i (key-at s g i))
 
+-- so many entries of the first n buckets meet a test
+unfoldable pub counted : State → (ℕ → ℕ → Bool) → ℕ → ℕ
+counted s test zero = 0
+counted s test (suc g) = count-below (length (named s g)) (test g) + counted s test g
+
 -- so many are added by the first i entries of a bucket, and by the first n buckets
 abbrev pub added-in : State → ℕ → ℕ → ℕ → ℕ
 added-in s id g i = count-below i (adds s id g)
 
-unfoldable pub added : State → ℕ → ℕ → ℕ
-added s id zero = 0
-added s id (suc g) = added-in s id g (length (named s g)) + added s id g
+abbrev pub added : State → ℕ → ℕ → ℕ
+added s id n = counted s (adds s id) n
+
+-- ---- part by part: each part has so many rows of every log
+abbrev pub part-rows : ℕ
+part-rows = 4096
+
+-- does the chunk lie in a row below this one?
+unfoldable pub lies-below : State → ℕ → ℕ → Bool
+lies-below s row key = held (take row (s .bricks .log (holder s key))) key
+
+-- in the part from row `base` on, or beyond it?
+unfoldable pub in-part : State → ℕ → ℕ → Bool
+in-part s base key = not (lies-below s base key) and lies-below s (base + part-rows) key
+
+unfoldable pub beyond-part : State → ℕ → ℕ → Bool
+beyond-part s base key = not (lies-below s (base + part-rows) key)
+
+-- an entry adds a chunk in a row below this one; it adds one of the part; it names a lacking one beyond the part
+unfoldable pub adds-below : State → ℕ → ℕ → ℕ → ℕ → Bool
+adds-below s id row g i = adds s id g i and lies-below s row (key-at s g i)
+
+unfoldable pub adds-inside : State → ℕ → ℕ → ℕ → ℕ → Bool
+adds-inside s id base g i = adds s id g i and in-part s base (key-at s g i)
+
+unfoldable pub lacks-beyond : State → ℕ → ℕ → ℕ → ℕ → Bool
+lacks-beyond s id base g i = lacks s id (key-at s g i) and beyond-part s base (key-at s g i)

@@ -1,4 +1,5 @@
-use mathlib.Core.Path.{_≡_, sym}
+use mathlib.Core.Path.{_≡_, sym, _∙_}
+use Prim.Native.Nat.{_+_, _-_}
 use native.Mathlib.Omega.{arith}
 use lib.ListN.{length}
 use Rattle.words.specs.Words.{words}
@@ -6,7 +7,8 @@ use Rattle.layout.specs.Store.{decode}
 use Rattle.lent.proofs.Stores.{settings-are}
 use Rattle.mend.specs.Fit.{log-of}
 use Rattle.mend.proofs.OnStore.{stands}
-use Rattle.mend.proofs.Counting.{named-small, added-small, log-count, room-is, room-enough}
+use Rattle.mend.proofs.Counting.{log-count, room-is, room-enough}
+use borrow.Author.Needs.{needs}
 use Rattle.mend.proofs.room.has_room.Statement.{statement}
 use Rattle.mend.proofs.room.has_room.Tie as tie
 
@@ -19,27 +21,20 @@ log-requires c κs =
 read-requires : tie.Need-read-requires
 read-requires c κs = omega (arith, c .log .ensures .log .size)
 
-named-count-requires : tie.Need-named-count-requires
-named-count-requires c κs = c .before .before .before .before .pre .known
-
--- as many chunks as the count says
+-- as many chunks as the count says, and what room they leave
 count : (c : tie.After-read) → let a = c .before .before .before .before .args in c .read .result ≡ length (log-of (a .place) (words (a .store .now)))
 count c =
     log-count (c .before .before .before .before .args .settings) _ _ (c .before .log .ensures) _ (c .read .ensures)
 
-add-if1 : tie.Need-add-if1
-add-if1 c =
-    let s = c .before .before .before .before .before in
-    let a = s .args in
-    let l = c .before in
-    omega (
-      arith,
-      l .read .ensures,
-      l .before .log .ensures .log .few,
-      s .pre .there .store .limits .chunks-to,
-      c .named-count .ensures,
-      named-small (a .settings) (a .store .now) (a .tables .now) (s .pre .known),
-    )
+left : (c : tie.After-read)
+    → let a = c .before .before .before .before .args in c .read .result + (a .settings .chunks - c .read .result) ≡ a .settings .chunks
+left c = omega (arith, c .read .ensures, c .before .log .ensures .log .few)
+
+sub-room : tie.Need-sub-room
+sub-room c = let r = c .before in omega (arith, r .read .ensures, r .before .log .ensures .log .few)
+
+named-count-requires : tie.Need-named-count-requires
+named-count-requires c κs = search needs
 
 returns : tie.Need-returns
 returns c =
@@ -47,33 +42,20 @@ returns c =
     let s = r .before .before .before .before in
     let a = s .args in
     let t = decode (words (a .store .now)) in
-    sym (room-enough (a .settings) t (t .ids (a .place)) _ (settings-are (a .settings) (a .store .now) (s .pre .there .store)) (count r) _
-    (c .before .before .named-count .ensures) (c .if1 .taken))
+    sym (room-enough (a .settings) t (t .ids (a .place)) _ _ (settings-are (a .settings) (a .store .now) (s .pre .there .store)) (count r) (left r)
+    (omega (arith, c .before .named-count .ensures, c .if1 .taken)))
 
-added-requires : tie.Need-added-requires
-added-requires c κs = c .before .before .before .before .before .before .before .pre
-
-add-result : tie.Need-add-result
-add-result c =
-    let l = c .before .before .before .before in
-    let s = l .before .before .before .before in
-    let a = s .args in
-    omega (
-      arith,
-      l .read .ensures,
-      l .before .log .ensures .log .few,
-      s .pre .there .store .limits .chunks-to,
-      c .added .ensures,
-      added-small (a .settings) (a .store .now) (a .place) (a .tables .now) (s .pre),
-    )
+at-most-requires : tie.Need-at-most-requires
+at-most-requires c κs = search needs
 
 returns-2 : tie.Need-returns-2
 returns-2 c =
-    let r = c .before .before .before .before .before in
+    let r = c .before .before .before .before in
     let s = r .before .before .before .before in
     let a = s .args in
     let t = decode (words (a .store .now)) in
-    room-is (a .settings) t (t .ids (a .place)) _ (settings-are (a .settings) (a .store .now) (s .pre .there .store)) (count r) _ (c .before .added .ensures)
+    c .at-most .ensures
+    ∙ room-is (a .settings) t (t .ids (a .place)) _ _ (settings-are (a .settings) (a .store .now) (s .pre .there .store)) (count r) (left r)
 
 pub has-room-spec : {M : Type 1} → statement M
 has-room-spec =
@@ -81,9 +63,8 @@ has-room-spec =
     (tie.spec
     log-requires
     read-requires
+    sub-room
     named-count-requires
-    add-if1
     returns
-    added-requires
-    add-result
+    at-most-requires
     returns-2)

@@ -7,10 +7,10 @@ use Rattle.layout.specs.Store.{decode}
 use Rattle.mend.specs.Fit.{log-of}
 use Rattle.mend.specs.Keys.{wants}
 use Rattle.mend.specs.Acts.{Lacking}
-use Rattle.mend.proofs.Flagged.{meets-none, meets-held, row-flagged, meets-it}
+use Rattle.mend.proofs.Flagged.{meets-none, meets-held, place-flagged, meets-it}
 use borrow.Author.Needs.{needs}
-use Rattle.mend.proofs.room.adds.Statement.{statement}
-use Rattle.mend.proofs.room.adds.Tie as tie
+use Rattle.mend.proofs.room.count_key.Statement.{statement}
+use Rattle.mend.proofs.room.count_key.Tie as tie
 
 for-key-requires : tie.Need-for-key-requires
 for-key-requires c κs = search needs
@@ -32,11 +32,11 @@ lacking : (c : tie.After-from)
 lacking c =
     rw (c .from .given .1) at (c .before .before .for-key .ensures)
 
-raise-requires : tie.Need-raise-requires
-raise-requires c κs =
+count-row-requires : tie.Need-count-row-requires
+count-row-requires c κs =
     let f = c .before .before in
     let s = f .before .before .before .before .before in
-    row-flagged (s .args .settings) (s .args .store .now) (s .pre .0 .store) _ _ _ _ (lacking f) (s .args .flags .now) (s .pre .1)
+    (s .pre .1, place-flagged (s .args .settings) (s .args .store .now) (s .pre .0 .store) _ (s .args .base) _ _ _ (lacking f))
 
 returns : tie.Need-returns
 returns c =
@@ -44,7 +44,7 @@ returns c =
     let a = s .args in
     let t = decode (words (a .store .now)) in
     let n : wants t (t .ids (a .place)) (a .key .0) ≡ false = rw (c .enum-told .given .1) at (c .before .before .for-key .ensures) in
-    meets-none (a .settings) (a .store .now) (s .pre .0 .store) _ (a .key .0) (a .flags .now) n
+    meets-none (a .settings) (a .store .now) (s .pre .0 .store) _ (a .base) (a .key .0) (a .flags .now) n
 
 returns-2 : tie.Need-returns-2
 returns-2 c =
@@ -53,7 +53,7 @@ returns-2 c =
     let t = decode (words (a .store .now)) in
     let y : (wants t (t .ids (a .place)) (a .key .0) ≡ true) × (held (log-of (a .place) (words (a .store .now))) (a .key .0) ≡ true) =
     rw (c .enum-told2 .given .1) at (c .before .before .for-key .ensures) in
-    meets-held (a .settings) (a .store .now) (s .pre .0 .store) _ (a .key .0) (a .flags .now) (y .1)
+    meets-held (a .settings) (a .store .now) (s .pre .0 .store) _ (a .base) (a .key .0) (a .flags .now) (y .1)
 
 same-length : tie.Need-same-length
 same-length c = search needs
@@ -64,19 +64,18 @@ returns-3 c =
     let k = f .before .before .before in
     let s = f .before .before .before .before .before in
     let a = s .args in
-    let raise = c .before .before .raise in
-    meets-it (a .settings) (a .store .now) (s .pre .0 .store) _ (a .key .0) _ _ (lacking f) (a .flags .now) _ _
-    (below-of 256 (a .flags .now) (λ i. k .slice-known .given i .fits)) (raise .ensures .0) (raise .ensures .1)
+    meets-it (a .settings) (a .store .now) (s .pre .0 .store) _ (a .base) (a .key .0) _ _ (lacking f) (a .flags .now) _ _ _
+    (c .before .before .count-row .ensures) (below-of 256 (a .flags .now) (λ i. k .slice-known .given i .fits))
 
-pub adds-spec : {M : Type 1} → statement M
-adds-spec =
+pub count-key-spec : {M : Type 1} → statement M
+count-key-spec =
     tie.close
     (tie.spec
     for-key-requires
     enum-told
     enum-told-2
     enum-known-from
-    raise-requires
+    count-row-requires
     returns
     returns-2
     same-length
