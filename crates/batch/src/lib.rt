@@ -16,9 +16,6 @@ const EVENT_WORDS: usize = 5;
 
 const ANSWER_WORDS: usize = 2;
 
-// the kind whose block lies in the area
-const GET: u64 = 10;
-
 // Are there so many bytes from a byte on?
 fn reaches(length: usize, at: usize, size: usize) -> bool
     ensures { λ r. ⌜ r ≡ leb (at + size) length ⌝ }
@@ -58,7 +55,7 @@ fn step_at(
         (now (store .entry)) (now (area .entry)) r (now (store .exit)) (now (area .exit)) ⌝ }
 {
     let size = settings.size;
-    if kind == GET {
+    if kind == step::GET {
         if reaches(area.len(), at, size) {
             let end = at + size;
             return reads::fill_block(store, settings, a, b, &mut area[at..end]);

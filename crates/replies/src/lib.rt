@@ -1,12 +1,8 @@
 // The answer to a line, on a lent store.
 ghost use mathlib.Core.Path.{_≡_};
-ghost use mathlib.Core.Bool.{cond};
 ghost use Prim.Native.Nat.{_≤_};
-ghost use lib.Dec.{eqb};
 ghost use lib.ListN.{length};
-ghost use Rattle.lists.specs.Tests.{_and_};
-ghost use Rattle.rules.specs.Call.{get-kind};
-ghost use Rattle.rules.specs.Event.{event-from};
+ghost use Rattle.rules.specs.Event.{Event, event-from};
 ghost use Rattle.rules.specs.Limits.{max-size};
 ghost use Rattle.rules.specs.Reads.{zeros};
 ghost use Rattle.rules.specs.Step.{step};
@@ -21,29 +17,42 @@ use rules::settings::Settings;
 // An answer has at most so many bytes.
 pub const LONGEST: usize = answers::MOST_WITHOUT_DATA + 2 * Settings::MAX_SIZE;
 
-// the kind whose answer has data
-const GET: u64 = 10;
-
 fn zero_block() -> [u8; Settings::MAX_SIZE]
     ensures { λ r. ⌜ r ≡ zeros max-size ⌝ }
 {
     [0u8; Settings::MAX_SIZE]
 }
 
-// How many bytes an answer shows.
-fn shown_length(kind: u64, code: u64, size: usize) -> usize
-    ensures { λ r. ⌜ (r ≡ cond (eqb kind get-kind and eqb code 0) size 0) × (r ≤ size) ⌝ }
+// The answer to a get, printed from the bytes where they lie: a part of the store, or of a block of zeros.
+fn answer_get(
+    store: &[u8],
+    settings: Settings,
+    proxy: u64,
+    block: u64,
+    number: u64,
+    area: &mut [u8],
+) -> usize
+    requires { ⌜ StoreOf settings (now store) × (longest-answer ≤ length (now area)) ⌝ }
+    ensures { λ r. ⌜ Replies number (step (decode-bytes (now (store .entry))) (Event.get proxy block)) (now (area .entry)) r (now (area .exit))
+        (now (store .entry)) (now (store .entry)) ⌝ }
 {
-    if kind != GET {
-        return 0;
-    }
-    if code != 0 {
-        return 0;
-    }
-    size
+    let size = settings.size;
+    let blank = zero_block();
+    let mut code = 0;
+    let mut key = 0;
+    let bytes = reads::get(
+        store,
+        &blank[..size],
+        settings,
+        proxy,
+        block,
+        &mut code,
+        &mut key,
+    );
+    answers::write_answer(number, code, key, bytes, area)
 }
 
-// The event of a kind is carried out, and its answer stands at the front of the area; the answer's length.
+// The event of a kind is carried out, and its answer stands at the front of the area; the answer's length. Only a get looks at areas and shows bytes.
 fn answer_event(
     store: &mut [u8],
     settings: Settings,
@@ -59,9 +68,9 @@ fn answer_event(
     ensures { λ r. ⌜ Replies number (step (decode-bytes (now (store .entry))) (event-from kind a b c (now («data» .entry)))) (now (area .entry)) r
         (now (area .exit)) (now (store .entry)) (now (store .exit)) ⌝ }
 {
-    let blank = zero_block();
-    let mut shown = zero_block();
-    let size = settings.size;
+    if kind == step::GET {
+        return answer_get(store, settings, a, b, number, area);
+    }
     let answer = step::perform(
         store,
         settings,
@@ -70,18 +79,12 @@ fn answer_event(
         b,
         c,
         data,
-        &blank[..size],
-        &mut shown[..size],
+        &data[0..0],
+        &mut area[0..0],
     );
     match answer {
-        Answer::Yes(key) => {
-            let n = shown_length(kind, 0, size);
-            answers::write_answer(number, 0, key, &shown[..n], area)
-        }
-        Answer::No(code) => {
-            let n = shown_length(kind, code, size);
-            answers::write_answer(number, code, 0, &shown[..n], area)
-        }
+        Answer::Yes(key) => answers::write_answer(number, 0, key, &data[0..0], area),
+        Answer::No(code) => answers::write_answer(number, code, 0, &data[0..0], area),
     }
 }
 

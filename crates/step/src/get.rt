@@ -1,4 +1,5 @@
-// get for a caller in Rattle: its bytes are a part of the lent store, or of the lent zero block, not a copy.
+// get for a caller in Rattle: its bytes are a part of the lent store, or of the lent zero block, not a copy. It serves any lent bytes; who knows that the
+// store is sound, as the trace does, takes the part from `reads::get`.
 ghost use Rattle.step.specs.Get.{GetsPart};
 
 // Number and key come out beside the bytes; on a refusal the key is 0 and the part is empty.

@@ -12,6 +12,9 @@ use rules::settings::Settings;
 
 pub mod get;
 
+// get's kind: no other looks at the zero block and the area, or answers bytes
+pub const GET: u64 = 10;
+
 // put, copy, savelog
 fn write(
     store: &mut [u8],
@@ -113,7 +116,7 @@ pub fn perform(
         1..=3 => write(store, settings, kind, a, b, c, data),
         4..=8 => map(store, settings, kind, a, b),
         9 => maps::done::done(store, settings, a, b),
-        10 => reads::get_into(store, blank, area, settings, a, b),
+        GET => reads::get_into(store, blank, area, settings, a, b),
         11 => proxies::abandon(store, settings, a, b),
         12..=13 => follow(store, settings, kind, a),
         14..=17 => change_brick(store, settings, kind, a),
