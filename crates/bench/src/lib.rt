@@ -1,6 +1,6 @@
 // What the benchmarks measure and the library does not export.
 ghost use mathlib.Core.Path.{_≡_};
-ghost use lib.Bits.{bitXor};
+ghost use Prim.Native.Nat.{_+_, _*_, _^_};
 ghost use Rattle.rules.specs.Numbers.{proxy-of, bucket-of};
 ghost use Rattle.rules.specs.Limits.{buckets};
 ghost use Rattle.bench.specs.Moved.{Moved};
@@ -26,7 +26,7 @@ pub extern "C" fn bench_move(s: &mut [u8], from: usize, to: usize, n: usize) -> 
     0
 }
 
-// A block's bucket and proxy, joined into one number.
+// A block's proxy and bucket, joined into one number, each in a half of its bits.
 #[no_mangle]
 pub extern "C" fn bench_numbers(
     places: usize,
@@ -35,7 +35,7 @@ pub extern "C" fn bench_numbers(
     chunks: usize,
     block: u64,
 ) -> u64
-    ensures { λ r. ⌜ r ≡ bitXor (bucket-of (buckets record { places = places; size = size; entries = entries; chunks = chunks }) block) (proxy-of block) ⌝ }
+    ensures { λ r. ⌜ r ≡ proxy-of block * 2 ^ 32 + bucket-of (buckets record { places = places; size = size; entries = entries; chunks = chunks }) block ⌝ }
 {
     let settings = Settings {
         places,
@@ -44,5 +44,5 @@ pub extern "C" fn bench_numbers(
         chunks,
     };
     let number = BlockNumber(block);
-    number.bucket(settings) ^ number.proxy()
+    (number.proxy() << 32) + number.bucket(settings)
 }
