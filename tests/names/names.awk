@@ -2,7 +2,7 @@
 #
 # A name stands between two backticks on one line. What is looked up, by its form:
 #   crates/log/src/lib.rt         a path from the project's root; a star stands for any characters but a slash
-#   rules/show_pending            a must-fail edit: crates/rules/must-fail/show_pending.edit
+#   rules/show_pending            a mistake: a line 'mistake: show_pending in ..' of an edit in crates/rules/must-fail
 #   Views.source                  a definition in crates/rules/specs/Views.antt; Views.A.b asks for both there
 #   history.proofs.Claim.claim    a definition in crates/history/proofs/Claim.antt; a folder is one more name before the file's
 #   writes::put::put              code: crates/writes/src/put.rt, or lib.rt or main.rt where there is no such file
@@ -15,7 +15,7 @@
 
 BEGIN {
     # words that are not the project's: commands, the kit's, C's
-    split("rt sh io extern memcpy memmove memset NULL", words, " ")
+    split("rt sh cd io extern memcpy memmove memset NULL", words, " ")
     for (i in words) foreign[words[i]] = 1
     checked = missing = 0
 }
@@ -68,9 +68,11 @@ function define(path, name) {
 }
 
 function collect(path,   line, in_enum) {
-    if (path !~ /\.(antt|rt|rs|c|cpp|h)$/) return
+    if (path !~ /\.(antt|rt|rs|c|cpp|h|edit)$/ && path !~ /^tests\/.*\/run$/) return
     while ((getline line < path) > 0) {
-        if (path ~ /\.antt$/) collect_antt(path, line)
+        if (path ~ /\.edit$/) collect_edit(path, line)
+        else if (path ~ /run$/) collect_script(path, line)
+        else if (path ~ /\.antt$/) collect_antt(path, line)
         else if (path ~ /\.(rt|rs)$/) {
             collect_code(path, line)
             if (line ~ /^(pub )?enum /) in_enum = 1
@@ -80,6 +82,20 @@ function collect(path,   line, in_enum) {
         else collect_c(path, line)
     }
     close(path)
+}
+
+# a mistake of a must-fail edit: its crate and its name
+function collect_edit(path, line,   at) {
+    split(path, at, "/")
+    if (sub(/^mistake: /, "", line)) { sub(/ .*/, "", line); mistakes[at[2] "/" line] = 1 }
+}
+
+# a variable that a script reads
+function collect_script(path, line) {
+    while (match(line, /DISK_[A-Z]+/)) {
+        define(path, substr(line, RSTART, RLENGTH))
+        line = substr(line, RSTART + RLENGTH)
+    }
 }
 
 # a definition, a field or a constructor: its name, then its type
@@ -94,7 +110,7 @@ function collect_antt(path, line) {
 function collect_code(path, line,   rest) {
     if (line ~ /^ *\/\//) return
     rest = line
-    while (match(rest, /"DISK_[A-Z_]+"/)) {
+    while (match(rest, /"(DISK_[A-Z_]+|TRACE)"/)) {
         define(path, substr(rest, RSTART + 1, RLENGTH - 2))
         rest = substr(rest, RSTART + RLENGTH)
     }
@@ -248,7 +264,7 @@ function known(word) {
 function edit(word,   at, n) {
     n = split(word, at, "/")
     if (n != 2 || !(at[1] in crate)) return "no path from the root, and no edit of a crate"
-    return ("crates/" at[1] "/must-fail/" at[2] ".edit") in exists ? "" : "no such must-fail edit"
+    return word in mistakes ? "" : "no such mistake of a must-fail edit"
 }
 
 function test(word,   at, file) {
