@@ -12,26 +12,40 @@ const settings least = {3, 8, 2, 4};
 const settings most_places = {8, 64, 8, 16};
 const settings largest_blocks = {3, 8192, 2, 4};
 
+/* For each bucket a copy in memory and one on disk. */
+static size_t copies_words(settings settings)
+{
+    return BUCKETS * 2 * TABLE_WORDS(settings.entries, ENTRY_WORDS);
+}
+
+/* Rows of key and saved, positions, cells. */
+static size_t log_words(settings settings)
+{
+    return TABLE_WORDS(settings.chunks, 2) + settings.chunks + settings.chunks * settings.size / WORD_BYTES;
+}
+
+size_t place_words(settings settings)
+{
+    return COPIES_AT + copies_words(settings) + log_words(settings);
+}
+
 size_t length_of(settings settings)
 {
-    size_t copy = 1 + 2 * settings.entries;
-    size_t log = 1 + 3 * settings.chunks + settings.chunks * settings.size / 8;
-    size_t place = 1 + 3 + 2 + 65 + 16 * 2 * copy + log;
-    return 8 * (WORDS_BEFORE_PLACES + settings.places * place);
+    return WORD_BYTES * (PLACES_AT + settings.places * place_words(settings));
 }
 
 uint64_t word(const area *store, size_t index)
 {
     uint64_t value = 0;
-    for (size_t i = 8; i > 0; i--)
-        value = value << 8 | store->bytes[8 * index + i - 1];
+    for (size_t i = WORD_BYTES; i > 0; i--)
+        value = value << 8 | store->bytes[WORD_BYTES * index + i - 1];
     return value;
 }
 
 void set_word(area *store, size_t index, uint64_t value)
 {
-    for (size_t i = 0; i < 8; i++)
-        store->bytes[8 * index + i] = (uint8_t)(value >> 8 * i);
+    for (size_t i = 0; i < WORD_BYTES; i++)
+        store->bytes[WORD_BYTES * index + i] = (uint8_t)(value >> 8 * i);
 }
 
 lent formatted(position position, settings settings)

@@ -20,11 +20,31 @@ typedef struct {
     uint64_t kind, a, b, c, code, key;
 } row;
 
-/* The bytes that every store begins with, from docs/LAYOUT.md; the words up to the places. */
+/* The bytes that every store begins with; then the words of its parts, and where they begin, from docs/LAYOUT.md. */
 #define VERSION "DISK0001"
 #define VERSION_BYTES 8
-#define HEADER_WORDS 8
-#define WORDS_BEFORE_PLACES (HEADER_WORDS + 16 * 8 + 4 * 66 + 321)
+#define BUCKETS 16
+#define PROXIES 4
+/* A table is a count and so many rows. */
+#define TABLE_WORDS(rows, row_words) (1 + (rows) * (row_words))
+enum {
+    WORD_BYTES = 8,
+    ENTRY_WORDS = 2,
+    HEADER_WORDS = 8,
+    BUCKET_WORDS = 8,
+    PROXY_WORDS = 1 + TABLE_WORDS(32, ENTRY_WORDS),
+    BAG_WORDS = TABLE_WORDS(DISK_MOST_RELAYS, 5),
+    PLACES_AT = HEADER_WORDS + BUCKETS * BUCKET_WORDS + PROXIES * PROXY_WORDS + BAG_WORDS,
+    /* of a place */
+    FLAGS_AT = 1,
+    NEXT_AT = FLAGS_AT + 3,
+    CEILING_AT = NEXT_AT + 1,
+    BUFFER_AT = CEILING_AT + 1,
+    COPIES_AT = BUFFER_AT + TABLE_WORDS(32, ENTRY_WORDS)
+};
+
+/* A code after it is none. */
+#define LAST_CODE DISK_OTHER_KEY
 
 #define NO_KEY 0
 #define KEY(id, sequence) ((uint64_t)(id) << 56 | (sequence))
@@ -33,7 +53,8 @@ typedef struct {
 /* The least settings; the most places; the largest blocks. */
 extern const settings least, most_places, largest_blocks;
 
-/* The length of a store, from docs/LAYOUT.md. */
+/* The words of a place, and the length of a store, from docs/LAYOUT.md. */
+size_t place_words(settings settings);
 size_t length_of(settings settings);
 
 /* A word of a store; words have their least byte first. */

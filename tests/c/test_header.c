@@ -3,7 +3,6 @@
 
 #include <string.h>
 
-_Static_assert(sizeof(size_t) == 8, "the library is for 64 bits");
 _Static_assert(sizeof(disk_step_answer) == 16, "two words");
 _Static_assert(offsetof(disk_step_answer, code) == 0 && offsetof(disk_step_answer, key) == 8, "in this order");
 _Static_assert(sizeof(disk_event) == 40, "five words");
@@ -42,20 +41,22 @@ static void kinds_have_their_words(void)
         {DISK_FETCH, "fetch"}, {DISK_READY, "ready"}, {DISK_MEND, "mend"}, {DISK_COLLECT, "collect"},
     };
     const uint8_t data[8] = {0};
+    uint8_t line[64];
+    _Static_assert(COUNT(rows) == DISK_KINDS, "a word of each kind");
     for (size_t i = 0; i < COUNT(rows); i++) {
-        uint8_t line[64];
         disk_line_answer told = disk_print(rows[i].kind, 0, 0, 0, data, sizeof data, sizeof data, line, sizeof line);
         size_t length = strlen(rows[i].word);
         EXPECT(rows[i].kind == i + 1 && told.code == DISK_OK && told.length > length);
         EXPECT(memcmp(line, rows[i].word, length) == 0 && (line[length] == ',' || line[length] == '\n'));
     }
+    EXPECT(disk_print(DISK_KINDS + 1, 0, 0, 0, data, sizeof data, sizeof data, line, sizeof line).code == DISK_BAD_INPUT);
 }
 
 static void every_number_has_a_text(void)
 {
-    static const uint64_t others[] = {16, 17, 255, 256, (uint64_t)1 << 32, UINT64_MAX};
-    const char *none = disk_code_text(16);
-    for (uint64_t code = DISK_OK; code <= DISK_OTHER_KEY; code++) {
+    static const uint64_t others[] = {LAST_CODE + 1, LAST_CODE + 2, 255, 256, (uint64_t)1 << 32, UINT64_MAX};
+    const char *none = disk_code_text(LAST_CODE + 1);
+    for (uint64_t code = DISK_OK; code <= LAST_CODE; code++) {
         EXPECT(strlen(disk_code_text(code)) > 0 && strcmp(disk_code_text(code), none) != 0);
         for (uint64_t other = 0; other < code; other++)
             EXPECT(strcmp(disk_code_text(code), disk_code_text(other)) != 0);
@@ -83,6 +84,26 @@ static void inline_calls(position position)
     end(&lent);
 }
 
+/* The numbers in a block and in a key, and that the library has the same: it refuses a put by another proxy, and a key's home is the brick of its place. */
+static void numbers(position position)
+{
+    static const struct {
+        uint64_t block, proxy, bucket;
+    } rows[] = {
+        {0, 0, 0}, {1023, 0, 0}, {1024, 0, 1}, {15 * 1024, 0, 15}, {16383, 0, 15}, {16384, 0, 0},
+        {((uint64_t)1 << 49) - 1, 0, 15}, {(uint64_t)1 << 49, 1, 0}, {((uint64_t)1 << 51) - 1, 3, 15},
+    };
+    for (size_t i = 0; i < COUNT(rows); i++) {
+        lent lent = formatted(position, least);
+        uint64_t proxy = disk_block_proxy(rows[i].block), place = i % 3;
+        EXPECT(proxy == rows[i].proxy && disk_block_bucket(rows[i].block) == rows[i].bucket);
+        EXPECT(disk_put(lent.store.bytes, lent.store.length, (proxy + 1) % 4, place, rows[i].block, lent.data.bytes, lent.data.length).code == DISK_WRONG_PROXY);
+        disk_step_answer put = disk_put(lent.store.bytes, lent.store.length, proxy, place, rows[i].block, lent.data.bytes, lent.data.length);
+        EXPECT(put.code == DISK_OK && disk_key_home(put.key) == place + 1);
+        end(&lent);
+    }
+}
+
 /* The parts of two answers of a read, no two bytes of which are the same. */
 static void parts_of_answers(void)
 {
@@ -101,5 +122,6 @@ int main(void)
     every_number_has_a_text();
     parts_of_answers();
     in_every_position(inline_calls);
+    in_every_position(numbers);
     return 0;
 }

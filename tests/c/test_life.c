@@ -15,7 +15,7 @@ static void at_places(lent *lent, uint64_t kind, uint64_t down)
 static void begin_view(lent *lent, uint64_t down)
 {
     accept(lent, DISK_VIEW, 0, 0);
-    for (uint64_t bucket = 0; bucket < 16; bucket++) {
+    for (uint64_t bucket = 0; bucket < BUCKETS; bucket++) {
         accept(lent, DISK_FETCH, bucket, 0);
         accept(lent, DISK_READY, bucket, 0);
     }

@@ -19,10 +19,9 @@ static const row shown = {DISK_GET, 0, 5, 0, DISK_OK, KEY(1, SEQUENCE)};
 /* A store in which block 5 is shown; the numbers of the brick at place 0 are written by hand. */
 static lent written(position position, settings settings)
 {
-    enum { NEXT = 4, CEILING = 5 };
     lent lent = formatted(position, settings);
-    set_word(&lent.store, WORDS_BEFORE_PLACES + NEXT, SEQUENCE);
-    set_word(&lent.store, WORDS_BEFORE_PLACES + CEILING, SEQUENCE + 1);
+    set_word(&lent.store, PLACES_AT + NEXT_AT, SEQUENCE);
+    set_word(&lent.store, PLACES_AT + CEILING_AT, SEQUENCE + 1);
     accept(&lent, DISK_LEARN, 0, 0);
     write_block(&lent, shown.b, shown.key);
     return lent;

@@ -98,11 +98,11 @@ static void use_all_ids(lent *lent)
 static void fill_backup(lent *lent)
 {
     static const uint64_t copy[] = {2, 6, KEY(1, 0), 7, KEY(1, 0)};
-    const size_t place = (lent->store.length / 8 - WORDS_BEFORE_PLACES) / lent->settings.places;
+    const size_t memory = PLACES_AT + place_words(lent->settings) + COPIES_AT;
     map_5(lent);
     accept(lent, DISK_SEND, 5, 0);
     for (size_t i = 0; i < COUNT(copy); i++)
-        set_word(&lent->store, WORDS_BEFORE_PLACES + place + 6 + 65 + i, copy[i]);
+        set_word(&lent->store, memory + i, copy[i]);
 }
 
 /* What happens on a fresh store, and the event that is then refused. */
@@ -151,13 +151,13 @@ static const struct {
     {nothing, {DISK_JOIN, 0, 0, 0, DISK_WRONG_STATE, NO_KEY}},
     {use_all_ids, {DISK_JOIN, 0, 0, 0, DISK_NO_NUMBER, NO_KEY}},
     {crash_two, {DISK_VIEW, 0, 0, 0, DISK_WRONG_STATE, NO_KEY}},
-    {nothing, {DISK_FETCH, 16, 0, 0, DISK_BAD_INPUT, NO_KEY}},
+    {nothing, {DISK_FETCH, BUCKETS, 0, 0, DISK_BAD_INPUT, NO_KEY}},
     {nothing, {DISK_FETCH, 0, 0, 0, DISK_WRONG_STATE, NO_KEY}},
     {begin_view, {DISK_READY, 0, 0, 0, DISK_WRONG_STATE, NO_KEY}},
     {crash_0, {DISK_MEND, 0, 0, 0, DISK_NO_MEMBER, NO_KEY}},
     {map_5, {DISK_COLLECT, 0, 0, 0, DISK_WRONG_STATE, NO_KEY}},
     {nothing, {0, 0, 0, 5, DISK_BAD_INPUT, NO_KEY}},
-    {nothing, {23, 0, 0, 5, DISK_BAD_INPUT, NO_KEY}},
+    {nothing, {DISK_KINDS + 1, 0, 0, 5, DISK_BAD_INPUT, NO_KEY}},
     {nothing, {256 + DISK_VIEW, 0, 0, 5, DISK_BAD_INPUT, NO_KEY}},
     {nothing, {((uint64_t)1 << 32) + DISK_VIEW, 0, 0, 5, DISK_BAD_INPUT, NO_KEY}},
     {nothing, {UINT64_MAX, 0, 0, 5, DISK_BAD_INPUT, NO_KEY}},
@@ -176,13 +176,13 @@ static void refusals(position position)
 /* Each kind, and each code that the step can answer on a sound store, is in the table. */
 static void all_are_there(void)
 {
-    for (uint64_t kind = DISK_PUT; kind <= DISK_COLLECT; kind++) {
+    for (uint64_t kind = 1; kind <= DISK_KINDS; kind++) {
         bool found = false;
         for (size_t i = 0; i < COUNT(lists); i++)
             found = found || lists[i].refused.kind == kind;
         EXPECT(found);
     }
-    for (uint64_t code = DISK_BAD_INPUT; code <= DISK_OTHER_KEY; code++) {
+    for (uint64_t code = DISK_BAD_INPUT; code <= LAST_CODE; code++) {
         bool found = false;
         for (size_t i = 0; i < COUNT(lists); i++)
             found = found || lists[i].refused.code == code;

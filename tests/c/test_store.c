@@ -55,7 +55,7 @@ static void format_refused(position position)
 /* The primary and the backup of a bucket, as docs/LAYOUT.md places them. */
 static bool pair_is(const lent *lent, size_t bucket, uint64_t primary, uint64_t backup)
 {
-    size_t at = HEADER_WORDS + 8 * bucket;
+    size_t at = HEADER_WORDS + BUCKET_WORDS * bucket;
     return word(&lent->store, at) == primary && word(&lent->store, at + 1) == backup;
 }
 
@@ -63,7 +63,7 @@ static void pairs(position position)
 {
     static const uint64_t of_three[3][2] = {{1, 2}, {3, 1}, {2, 3}};
     lent lent = formatted(position, least);
-    for (size_t bucket = 0; bucket < 16; bucket++)
+    for (size_t bucket = 0; bucket < BUCKETS; bucket++)
         EXPECT(pair_is(&lent, bucket, of_three[bucket % 3][0], of_three[bucket % 3][1]));
     accept(&lent, DISK_LOSE, 1, 0);
     accept(&lent, DISK_VIEW, 0, 0);

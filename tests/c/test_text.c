@@ -37,6 +37,7 @@ static const struct {
     {{DISK_OK, DISK_MEND, 4, 0, 0}, "mend,4\n"},
     {{DISK_OK, DISK_COLLECT, 5, 0, 0}, "collect,5\n"},
 };
+_Static_assert(COUNT(rows) == DISK_KINDS, "an event of each kind");
 
 static bool same_event(disk_event_answer one, disk_event_answer other)
 {
@@ -114,7 +115,7 @@ static void lines_are_written(position position)
 
 static void other_events_are_refused(position position)
 {
-    static const uint64_t kinds[] = {0, 23, 256 + DISK_VIEW, UINT64_MAX};
+    static const uint64_t kinds[] = {0, DISK_KINDS + 1, 256 + DISK_VIEW, UINT64_MAX};
     area data = lend_text(position, (const char *)data_of_put, SIZE), line = lend(position, 100);
     uint8_t *old = bytes_of(&line);
     for (size_t i = 0; i < COUNT(kinds); i++)

@@ -74,7 +74,10 @@ static void other_lengths(position position)
 
 /* The words in use of a fresh store of three places: the header, the buckets, a view and a count for each proxy, the bag's count; and for each place its id,
  * flags and numbers, and the counts of its buffer, its copies and its log. */
-enum { IN_USE = HEADER_WORDS + 16 * 8 + 4 * 2 + 1 + 3 * (6 + 1 + 32 + 1) };
+enum {
+    COUNTS = 1 + 2 * BUCKETS + 1,
+    IN_USE = HEADER_WORDS + BUCKETS * BUCKET_WORDS + PROXIES * 2 + 1 + 3 * (BUFFER_AT + COUNTS)
+};
 
 /* One word at a time becomes a number that is in no range. In a word in use it makes the store unsound; no rule reads the others. */
 static void damaged_words(position position)
@@ -82,7 +85,7 @@ static void damaged_words(position position)
     static const uint64_t wild[] = {UINT64_MAX, (uint64_t)1 << 63};
     lent lent = formatted(position, least), damaged = formatted(position, least);
     size_t found = 0;
-    for (size_t i = 0; i < damaged.store.length / 8; i++) {
+    for (size_t i = 0; i < damaged.store.length / WORD_BYTES; i++) {
         uint64_t good = word(&damaged.store, i);
         set_word(&damaged.store, i, wild[i % COUNT(wild)]);
         if (disk_check(damaged.store.bytes, damaged.store.length) != DISK_OK) {
@@ -100,7 +103,7 @@ static void damaged_words(position position)
 static void header_alone(position position)
 {
     lent lent = formatted(position, least);
-    area store = lend(position, HEADER_WORDS * 8);
+    area store = lend(position, HEADER_WORDS * WORD_BYTES);
     static const uint64_t header[] = {8, 8192, 1024, 65536, 1, 8, 8};
     memcpy(store.bytes, VERSION, VERSION_BYTES);
     for (size_t i = 0; i < COUNT(header); i++)

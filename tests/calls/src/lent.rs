@@ -1,10 +1,9 @@
 //! A store in lent bytes that is stepped by lines of text. What every call must keep is asserted at each step.
+use crate::kind::GET;
 use crate::random::Random;
 use crate::store::model::{get, Settings, AT_BAG};
 use crate::store::{check, format, step, Answer};
 use crate::text::model::{parse, Event};
-
-pub const GET: u64 = 10;
 
 #[derive(Clone)]
 pub struct Lent {

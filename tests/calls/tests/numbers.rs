@@ -12,7 +12,7 @@ fn same_numbers(block: u64) {
 fn around_powers_of_two() {
     for power in (0..64).map(|bit| 1u64 << bit) {
         for other in (0..64).map(|bit| 1u64 << bit) {
-            [-1, 0, 1].map(|by| same_numbers((power | other).wrapping_add_signed(by)));
+            [-1, 0, 1].iter().for_each(|&by| same_numbers((power | other).wrapping_add_signed(by)));
         }
     }
 }

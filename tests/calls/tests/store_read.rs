@@ -1,13 +1,15 @@
 //! Many blocks in one call, each as a get answers it: numbers of blocks and lengths of areas, unsound stores, proxies and blocks out of range, each code of a
 //! get, the least and the greatest block size, random stores.
-use call_tests::lent::{Lent, GET};
+use call_tests::code::{BAD_INPUT, CODES, OK, UNSOUND};
+use call_tests::counts::Counts;
+use call_tests::kind::{self, GET, PUT};
+use call_tests::lent::Lent;
 use call_tests::random::Random;
 use call_tests::store::model::{self, Settings};
 use call_tests::store::random::{readable_store, small_settings};
 use call_tests::store::{block_answers, read, step, BlockAnswer, HEAD};
 use call_tests::text::model::Event;
 
-const PUT: u64 = 1;
 const SMALL: Settings = Settings { places: 3, size: 8, entries: 2, chunks: 4 };
 const MOST: usize = 64;
 
@@ -72,17 +74,17 @@ impl Asked {
     }
 }
 
-/// How many blocks were told each code, and how many of them showed a write.
+/// How many blocks were told each code, as gets are, and how many of them showed a write.
 #[derive(Debug, Default)]
 struct Tally {
-    codes: [u64; 16],
+    gets: Counts,
     shown: u64,
 }
 
 impl Tally {
     fn add(&mut self, told: &[BlockAnswer]) {
         for answer in told {
-            self.codes[answer.code as usize] += 1;
+            self.gets.add(GET, answer.code);
             self.shown += (answer.key != 0) as u64;
         }
     }
@@ -265,7 +267,7 @@ fn some_blocks(r: &mut Random, store: &[u8], s: Settings) -> Asked {
 #[test]
 fn random_stores() {
     let mut r = Random::new(66);
-    let (mut tally, mut refused) = (Tally::default(), [0; 4]);
+    let (mut tally, mut refused) = (Tally::default(), [0; CODES]);
     for _ in 0..2000 {
         let (s, percent) = (small_settings(&mut r), r.below(101));
         let store = readable_store(&mut r, s, percent);
@@ -280,15 +282,17 @@ fn random_stores() {
         }
     }
     println!("{tally:?} {refused:?}");
-    assert!(tally.shown > 1000 && tally.codes[0] > tally.shown + 1000 && refused[2] == 0 && refused[3] > 500, "{tally:?} {refused:?}");
-    assert!([3, 4, 5, 6, 7, 8, 11].iter().all(|&code| tally.codes[code] > 500), "{tally:?}");
+    let Tally { gets, shown } = tally;
+    assert!(shown > 1000 && gets.of(GET, OK) > shown + 1000, "{shown}, {}", gets.table());
+    assert!(kind::of(GET).refusals.iter().all(|&code| gets.of(GET, code) > 500), "{}", gets.table());
+    assert!(refused[UNSOUND as usize] == 0 && refused[BAD_INPUT as usize] > 500, "{refused:?}");
 }
 
 /// One word or the length changed: 2 exactly where the check says so, before 3.
 #[test]
 fn damaged_stores() {
     let mut r = Random::new(67);
-    let mut codes = [0; 4];
+    let mut codes = [0; CODES];
     for _ in 0..4000 {
         let (s, percent) = (small_settings(&mut r), r.below(101));
         let store = readable_store(&mut r, s, percent);

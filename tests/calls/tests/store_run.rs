@@ -1,13 +1,11 @@
 //! Many events in one call: the lengths of the events and the answers, blocks near the ends of the data and the area, damaged stores.
+use call_tests::kind::{GET, LEARN, PUT};
 use call_tests::random::Random;
 use call_tests::store::model::{self, Settings};
 use call_tests::store::random::{small_settings, sound_store};
 use call_tests::store::{answers_in, check, format, run, step, words_of, Answer, ListEvent};
 use call_tests::text::model::Event;
 
-const PUT: u64 = 1;
-const GET: u64 = 10;
-const LEARN: u64 = 12;
 const KEY: u64 = 1 << 56;
 
 fn event(kind: u64, a: u64, b: u64, c: u64, at: u64) -> ListEvent {

@@ -1,5 +1,8 @@
 //! The step: the printed trace, a whole write, the slips, every kind refused, the areas of a get, wild events, damaged stores.
-use call_tests::lent::{Lent, GET};
+use call_tests::code::{BACKUP_FULL, BAD_INPUT, BAD_SETTINGS, UNSOUND};
+use call_tests::counts::Counts;
+use call_tests::kind::{self, GET, KINDS, PUT};
+use call_tests::lent::Lent;
 use call_tests::random::Random;
 use call_tests::store::model::{self, Settings};
 use call_tests::store::random::{small_settings, sound_store};
@@ -52,7 +55,7 @@ fn whole_writes() {
         store.accepted("learn,0");
         for sequence in 0..2 {
             let data = r.bytes(store.size());
-            let told = store.call(&event(1, 0, 0, 5), &data, &[], &mut []);
+            let told = store.call(&event(PUT, 0, 0, 5), &data, &[], &mut []);
             let key = KEY + sequence;
             assert_eq!(told, Answer { code: 0, key });
             store.accepted(&format!("copy,{key} savelog,0 savelog,1 map,0,5 send,5 deliver,0 savemap,0 savemap,1 done,0,5"));
@@ -130,7 +133,7 @@ fn slips() {
 /// Each kind with a list before which it is refused; that no byte changes is asserted in every step.
 #[test]
 fn every_kind_refused() {
-    let rows = [
+    let rows: [(&str, u64); KINDS.len()] = [
         ("crash,0 put,0,0,5,a1a1a1a1a1a1a1a1", 6),
         ("copy,1", 3),
         ("savelog,3", 3),
@@ -155,9 +158,9 @@ fn every_kind_refused() {
         ("crash,2 collect,0", 13),
     ];
     let mut r = Random::new(4);
-    for (kind, (lines, code)) in rows.into_iter().enumerate() {
+    for (kind, (lines, code)) in KINDS.iter().zip(rows) {
         let word = lines.split(' ').last().unwrap().split(',').next().unwrap();
-        assert_eq!(word, call_tests::text::model::KINDS[kind].0);
+        assert_eq!(word, kind.word);
         assert_eq!(Lent::new(&mut r, SMALL).lines(lines), refused(code), "{lines}");
     }
 }
@@ -166,11 +169,11 @@ fn every_kind_refused() {
 fn no_kind() {
     let mut r = Random::new(5);
     let mut store = Lent::new(&mut r, SMALL);
-    for kind in [0, 23, 24, 255, 256, 1 << 32, u64::MAX - 1, u64::MAX] {
+    for kind in kind::NONE {
         for _ in 0..20 {
             let (data, zero, mut answer) = (r.bytes(8), vec![0; 8], r.bytes(8));
             let e = event(kind, r.below(4), r.below(3), r.number());
-            assert_eq!(store.call(&e, &data, &zero, &mut answer), Answer { code: 3, key: 0 });
+            assert_eq!(store.call(&e, &data, &zero, &mut answer), Answer { code: BAD_INPUT, key: 0 });
         }
     }
 }
@@ -208,7 +211,7 @@ fn data_of_a_put() {
             let mut store = Lent::new(&mut r, Settings::new(3, size, 2, 4));
             let data = r.bytes(length as usize);
             let expected = if length == size { Answer { code: 0, key: KEY } } else { Answer { code: 3, key: 0 } };
-            assert_eq!(store.call(&event(1, 0, 0, 5), &data, &[], &mut []), expected);
+            assert_eq!(store.call(&event(PUT, 0, 0, 5), &data, &[], &mut []), expected);
         }
     }
 }
@@ -228,65 +231,30 @@ fn no_room_at_the_backup() {
     assert_eq!(store.line("deliver,0"), done(1));
 }
 
-/// A field that is mostly in its range.
-fn field(r: &mut Random, kind: u64, which: usize, store: &Lent) -> u64 {
-    if r.one_in(20) {
-        return r.number();
-    }
-    let block = |r: &mut Random| r.below(4) << 49 | r.below(2) << 10 | r.below(2);
-    match (kind, which) {
-        (1, 2) | (4, 1) | (9..=11, 1) | (5, 0) => block(r),
-        (2, 0) => r.among(1, store.settings.places + 1) << 56 | r.below(3) + 1024 * r.one_in(8) as u64,
-        (6..=7, 0) => r.below(store.relays() + 1),
-        (1 | 4 | 9..=13, 0) => r.below(4),
-        (19..=20, 0) => r.below(4),
-        _ => r.below(store.settings.places),
-    }
-}
-
-/// Any number now and then; else any kind, or in a calm store mostly those of writes and reads.
-fn wild_kind(r: &mut Random, calm: bool) -> u64 {
-    const CALM: [u64; 16] = [1, 2, 3, 3, 4, 5, 6, 8, 8, 9, 10, 10, 12, 16, 19, 20];
-    match r.below(50) {
-        0 => r.number(),
-        1..=47 if calm => CALM[r.below(16) as usize],
-        _ => r.kind(),
-    }
-}
-
 /// Events of all kinds, mostly with fields in range, on formatted and on random sound stores.
 #[test]
 fn wild_events() {
     let mut r = Random::new(8);
-    let (mut codes, mut kinds) = ([0u64; 16], [0u64; 23]);
+    let mut counts = Counts::default();
     let mut left = call_tests::tries().min(200_000);
     while left > 0 {
         let s = small_settings(&mut r);
         let (percent, calm) = (r.below(101), r.one_in(2));
         let mut store = if r.one_in(2) { Lent::new(&mut r, s) } else { Lent { settings: s, bytes: sound_store(&mut r, s, percent) } };
         for _ in 0..500.min(left) {
-            let kind = wild_kind(&mut r, calm);
-            let mut e = event(kind, field(&mut r, kind, 0, &store), field(&mut r, kind, 1, &store), field(&mut r, kind, 2, &store));
-            if let 1 | 4 | 9..=11 = kind {
-                let block = if kind == 1 { e.c } else { e.b };
-                if !r.one_in(10) {
-                    e.a = block >> 49;
-                }
-            }
+            let kind = r.wild_kind(calm);
+            let [a, b, c] = r.wild_fields(kind, s.places, store.relays());
             let length = |r: &mut Random| if r.one_in(20) { r.below(40) as usize } else { s.size as usize };
-            let (n, z, a) = (length(&mut r), length(&mut r), length(&mut r));
-            let (data, zero, mut answer) = (r.bytes(n), vec![0; z], r.bytes(a));
-            let told = store.call(&e, &data, &zero, &mut answer);
-            codes[told.code as usize] += 1;
-            if told.code == 0 {
-                kinds[kind as usize] += 1;
-            }
+            let (n, z, a_length) = (length(&mut r), length(&mut r), length(&mut r));
+            let (data, zero, mut answer) = (r.bytes(n), vec![0; z], r.bytes(a_length));
+            counts.add(kind, store.call(&event(kind, a, b, c), &data, &zero, &mut answer).code);
         }
         left -= 500.min(left);
     }
-    assert!(codes[1] == 0 && codes[2] == 0);
-    assert!((3..=15).all(|c| codes[c] > 0 || c == 14), "{codes:?}");
-    assert!((1..=22).all(|k| kinds[k] > 0), "{kinds:?}");
+    if counts.total() >= call_tests::ENOUGH {
+        assert_eq!(counts.codes_missing(&[BACKUP_FULL]), [BAD_SETTINGS, UNSOUND]);
+        assert!(counts.accepted_less(1).is_empty(), "{}", counts.table());
+    }
 }
 
 /// Whatever is asked of damaged bytes is answered 2, and no byte changes.

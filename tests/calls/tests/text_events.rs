@@ -1,6 +1,7 @@
 //! Events of all kinds, both ways, in areas of every length.
-use call_tests::text::model::{self, Event, Line};
+use call_tests::kind::{self, PUT};
 use call_tests::random::Random;
+use call_tests::text::model::{self, Event, Line};
 use call_tests::text::{parse, print};
 use call_tests::tries;
 
@@ -39,7 +40,7 @@ fn random_events_are_printed_and_read_back() {
 #[test]
 fn every_kind_with_the_longest_numbers_and_blocks() {
     let mut r = Random::new(2);
-    for kind in 1..=22 {
+    for kind in kind::all() {
         for size in [8, 512, 8192] {
             let (mut e, data) = r.event(kind, size);
             e.a = if e.a == 0 { 0 } else { u64::MAX };
@@ -54,7 +55,7 @@ fn lines_of_16_500_bytes_and_one_more() {
     for size in 8_200..8_250 {
         for n in 0..60 {
             let (p, q) = (n % 20, n / 20 * 9);
-            let e = Event { code: 0, kind: 1, a: 10u64.pow(p), b: 10u64.pow(q), c: 7 };
+            let e = Event { code: 0, kind: PUT, a: 10u64.pow(p), b: 10u64.pow(q), c: 7 };
             let data = r.bytes(size);
             both_ways(&mut r, &e, &data, size, 17_000);
             let line = model::text(&e, &data);
@@ -75,10 +76,10 @@ fn what_is_no_event_is_not_printed() {
         assert_eq!(print(&e, data, size, &mut line), Line { code: 3, length: 0 });
         assert_eq!(line, before);
     };
-    for kind in [0, 23, 24, 255, 1 << 32, (1 << 32) + 1, u64::MAX] {
+    for kind in kind::NONE {
         refuse(Event { kind, ..Event::default() }, &[], 0);
     }
-    let put = Event { kind: 1, ..Event::default() };
+    let put = Event { kind: PUT, ..Event::default() };
     for (length, size) in [(7, 8), (9, 8), (0, 8), (8, 0), (8, usize::MAX), (8, 1 << 63)] {
         refuse(put, &vec![0; length], size);
     }
@@ -87,11 +88,10 @@ fn what_is_no_event_is_not_printed() {
 #[test]
 fn numbers_and_data_that_a_kind_lacks_are_not_looked_at() {
     let mut r = Random::new(5);
-    for kind in 2..=22 {
+    for kind in kind::all().filter(|&kind| !kind::of(kind).data) {
         let (e, _) = r.event(kind, 8);
-        let (_, count, _) = model::KINDS[kind as usize - 1];
         let mut more = e;
-        [&mut more.a, &mut more.b, &mut more.c].into_iter().skip(count).for_each(|n| *n = r.number());
+        [&mut more.a, &mut more.b, &mut more.c].into_iter().skip(kind::of(kind).fields.len()).for_each(|n| *n = r.number());
         let mut line = vec![0; 100];
         let answer = print(&more, &[1, 2, 3], 8, &mut line);
         assert_eq!(&line[..answer.length], &model::text(&e, &[])[..]);

@@ -1,6 +1,7 @@
 //! Damaged lines, and data areas of other lengths, against the independent parser.
-use call_tests::text::model;
+use call_tests::kind::PUT;
 use call_tests::random::Random;
+use call_tests::text::model;
 use call_tests::text::random::WAYS;
 use call_tests::text::{parse, parse_settings};
 use call_tests::tries;
@@ -62,7 +63,7 @@ fn lines_damaged_twice() {
 fn long_lines_damaged() {
     let mut r = Random::new(13);
     let size = 8192;
-    let (e, data) = r.event(1, size);
+    let (e, data) = r.event(PUT, size);
     let line = model::text(&e, &data);
     for i in 0..tries() / 1000 {
         let place = if i % 2 == 0 { r.below(line.len() as u64) as usize } else { line.len() - 1 - r.below(40) as usize };
@@ -78,10 +79,10 @@ fn data_areas_of_other_lengths() {
     for _ in 0..tries() / 20 {
         let size = r.below(20) as usize;
         let room = r.below(20) as usize;
-        let kind = if r.below(2) == 0 { 1 } else { r.kind() };
+        let kind = if r.below(2) == 0 { PUT } else { r.kind() };
         let (e, data) = r.event(kind, size);
         let line = model::text(&e, &data);
-        assert_eq!(compare(&mut r, &line, size, room), kind != 1 || room == size);
+        assert_eq!(compare(&mut r, &line, size, room), kind != PUT || room == size);
         let other = r.below(20) as usize;
         compare(&mut r, &line, other, room);
     }

@@ -1,12 +1,12 @@
 //! Many random lists of events, cut into batches at random places.
 use crate::choose::one_of;
-use crate::counts::Counts;
 use crate::damage::Damage;
 use crate::generate::{Generator, Profile};
 use crate::lists::start;
 use crate::model::{kind, State};
 use crate::runs::{replay, text, Act, Lent, Runs, Tally};
 use crate::shrink::shrink;
+use call_tests::counts::Counts;
 use call_tests::random::Random;
 use call_tests::store::ListEvent;
 

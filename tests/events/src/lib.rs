@@ -2,7 +2,6 @@
 pub mod batches;
 pub mod both;
 pub mod choose;
-pub mod counts;
 pub mod crashes;
 pub mod damage;
 pub mod decode;

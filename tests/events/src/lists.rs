@@ -1,11 +1,11 @@
 //! Many random lists, each on the proved calls and on the model.
-use crate::counts::Counts;
 use crate::generate::{edited, settings, Generator, Profile};
 use crate::layout::length;
 use crate::model::kind;
 use crate::shrink::{replay, show, shrink};
 use crate::situations::{Met, Moment};
 use crate::trial::{Act, Start, Trial};
+use call_tests::counts::Counts;
 use call_tests::random::Random;
 
 /// What many lists came to.

@@ -10,6 +10,9 @@ use crate::reads::{Read, ReadCall, Told, MOST_BLOCKS};
 use crate::runs::{self, act_text, event_text, Lent, Runs};
 use crate::shrink::{show, shrink};
 use crate::trial;
+use call_tests::code::CODES;
+use call_tests::counts::Counts;
+use call_tests::kind::GET;
 use call_tests::random::Random;
 use call_tests::store::ListEvent;
 
@@ -37,16 +40,16 @@ pub struct Tally {
     pub full: u64,
     pub twice: u64,
     /// reads by the number that refused them
-    pub refused: [u64; 4],
-    /// blocks by their codes, and those that showed a write
-    pub codes: [u64; 16],
+    pub refused: [u64; CODES],
+    /// blocks by their codes, as gets, and those that showed a write
+    pub gets: Counts,
     pub shown: u64,
 }
 
 impl Tally {
     /// Every get of a read counts as an event.
     pub fn events(&self) -> u64 {
-        self.batches.events + self.calls + self.codes.iter().sum::<u64>()
+        self.batches.events + self.calls + self.gets.total()
     }
 
     fn read(&mut self, read: &Read, told: &Told) {
@@ -59,7 +62,7 @@ impl Tally {
         let shown: Vec<u64> = read.blocks.iter().zip(answers).filter(|(_, answer)| answer.key != 0).map(|(&block, _)| block).collect();
         self.shown += shown.len() as u64;
         self.twice += (1..shown.len()).any(|i| shown[..i].contains(&shown[i])) as u64;
-        answers.iter().for_each(|answer| self.codes[answer.code as usize] += 1);
+        answers.iter().for_each(|answer| self.gets.add(GET, answer.code));
     }
 }
 

@@ -4,6 +4,7 @@ use crate::decode::decode;
 use crate::model::{kind, Answer, Call};
 use crate::shrink::{line, show};
 use crate::trial::{self, proved_step, same, same_bytes, Start, Trial};
+use call_tests::code::UNSOUND;
 use call_tests::store::{self, answers_in, words_of, ListEvent};
 
 /// What a word of the answers holds before a call.
@@ -159,7 +160,7 @@ impl Runs {
         };
         if expected.code == 2 {
             tally.damaged += 1;
-            self.events.iter().for_each(|e| self.single.counts.add(e.kind, 2));
+            self.events.iter().for_each(|e| self.single.counts.add(e.kind, UNSOUND));
         }
         self.compare(store, expected).map(drop)
     }

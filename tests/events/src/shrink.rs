@@ -1,7 +1,8 @@
 //! A failing list made short, and shown as lines of text.
 use crate::model::Call;
 use crate::trial::{Act, Start, Trial};
-use call_tests::text::model::{text, Event, KINDS};
+use call_tests::kind;
+use call_tests::text::model::{text, Event};
 
 /// The first thing that differs.
 pub fn replay(start: &Start, acts: &[Act]) -> Result<(), String> {
@@ -32,7 +33,7 @@ pub fn shrink<T: Clone>(mut list: Vec<T>, fails: impl Fn(&[T]) -> bool) -> Vec<T
 
 /// The line of a call. A kind that is none has no word: its line is no event, which answers 3 as well.
 pub fn line(call: &Call) -> String {
-    if !(1..=KINDS.len() as u64).contains(&call.kind) {
+    if kind::find(call.kind).is_none() {
         return format!("{},{},{},{}\n", call.kind, call.a, call.b, call.c);
     }
     let event = Event { code: 0, kind: call.kind, a: call.a, b: call.b, c: call.c };

@@ -1,10 +1,10 @@
 //! A list of events on the proved calls and on the model side by side; whatever differs ends it.
-use crate::counts::Counts;
 use crate::damage::Damage;
 use crate::decode::decode;
 use crate::encode::encode;
 use crate::history::{Found, History};
 use crate::model::{kind, step, Answer, Call, Settings, State, MOST_RELAYS};
+use call_tests::counts::Counts;
 use call_tests::lists::Relay;
 use call_tests::store;
 use call_tests::text::model::Event;
@@ -124,8 +124,8 @@ impl Trial {
             encode(&self.state, &mut self.expected);
         }
         let told = proved_step(&mut self.proved, call)?;
-        self.counts.add(call.kind, told.code);
         same("answer", &told, &answer)?;
+        self.counts.add(call.kind, told.code);
         same_bytes(&self.proved, &self.expected)?;
         same("check", store::check(&self.proved), 0)?;
         if matches!(call.kind, kind::SEND | kind::DELIVER | kind::DROP) {
@@ -157,8 +157,8 @@ impl Trial {
             answer
         });
         let told = proved_step(&mut proved, call)?;
-        self.counts.add(call.kind, told.code);
         same("answer of a damaged store", &told, &answer)?;
+        self.counts.add(call.kind, told.code);
         same_bytes(&proved, &expected)?;
         Ok(answer)
     }

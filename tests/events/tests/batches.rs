@@ -14,7 +14,6 @@ fn random_batches() {
     println!("seed {seed}, {events} events");
     let sum = batches(seed, events).unwrap_or_else(|why| panic!("{why}"));
     println!("{} lists, {:?}\n{}", sum.lists, sum.tally, sum.counts.table());
-    assert!(sum.counts.impossible().is_empty(), "the rules have no such answer: {:?}", sum.counts.impossible());
     let Tally { events: run, batches, empty, longest, past, shown, overlapping, damaged } = sum.tally;
     assert!(run >= events);
     if events >= ENOUGH {

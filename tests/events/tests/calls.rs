@@ -15,7 +15,6 @@ fn random_lists() {
     println!("{} without a loss, whose crashes all found every place an up member and every bucket ready", sum.ready);
     println!("{}", sum.counts.table());
     println!("{}", sum.met.table());
-    assert!(sum.counts.impossible().is_empty(), "the rules have no such answer: {:?}", sum.counts.impossible());
     if events >= ENOUGH {
         assert!(sum.counts.missing().is_empty(), "did not happen: {:?}", sum.counts.missing());
         assert!(sum.met.missing().is_empty(), "not met: {:?}", sum.met.missing());

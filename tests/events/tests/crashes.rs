@@ -18,14 +18,14 @@ fn saved_once(settings: Settings) -> Model {
     Model::new(COPIES - 1, settings)
 }
 
-/// DISK_SEED gives other lists.
+/// DISK_CRASHES says how many crashes, and DISK_SEED gives other lists.
 #[test]
 fn crashes_with_writes_under_way() {
-    let seed = setting("DISK_SEED", 1);
-    let tally = lists(seed, ENOUGH, both).unwrap_or_else(|failure| panic!("seed {seed}: {}", failure.shortened(both).text()));
+    let (seed, crashes) = (setting("DISK_SEED", 1), setting("DISK_CRASHES", ENOUGH));
+    let tally = lists(seed, crashes, both).unwrap_or_else(|failure| panic!("seed {seed}: {}", failure.shortened(both).text()));
     println!("seed {seed}, {tally:?}");
     let Tally { under_way, at_holder, shown, shown_of_pending, .. } = tally;
-    assert!(under_way >= ENOUGH && at_holder > ENOUGH / 4 && shown > ENOUGH && shown_of_pending > ENOUGH);
+    assert!(under_way >= crashes && at_holder > crashes / 4 && shown > crashes && shown_of_pending > crashes);
 }
 
 #[test]

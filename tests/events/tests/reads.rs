@@ -1,5 +1,7 @@
 //! Random lists of calls, batches and reads of many blocks, compared with the same events one by one, on the proved calls and on the model, which the history
 //! machine watches. A read with a slip is found by the same lists.
+use call_tests::code::{BAD_INPUT, OK, UNSOUND};
+use call_tests::kind::{self, GET};
 use call_tests::store::model::Settings;
 use call_tests::store::{read, HEAD};
 use event_tests::model::PROXIES;
@@ -10,9 +12,6 @@ use event_tests::setting;
 /// So many events meet all that can be met.
 const ENOUGH: u64 = 400_000;
 
-/// What a get may be told of a sound store.
-const CODES: [usize; 8] = [0, 3, 4, 5, 6, 7, 8, 11];
-
 /// DISK_EVENTS says how many events, and DISK_SEED gives other lists.
 #[test]
 fn random_requests() {
@@ -20,13 +19,12 @@ fn random_requests() {
     println!("seed {seed}, {events} events");
     let tally = lists(seed, events, read).unwrap_or_else(|failure| panic!("seed {seed}: {}", failure.shortened(read).text()));
     println!("{tally:?}");
-    let Tally { calls, batches, reads, full, twice, refused, codes, shown, promised, .. } = tally;
-    assert!((0..codes.len()).all(|code| codes[code] == 0 || CODES.contains(&code)), "the rules have no such answer: {codes:?}");
+    let Tally { calls, batches, reads, full, twice, refused, gets, shown, promised, .. } = tally;
     if events >= ENOUGH {
-        assert!(CODES.iter().all(|&code| codes[code] > events / 20_000), "{codes:?}");
+        assert!(kind::of(GET).codes().all(|code| gets.of(GET, code) > events / 20_000), "{}", gets.table());
         assert!(calls > events / 20 && batches.batches > events / 10 && reads > events / 40 && promised > 100);
-        assert!(shown > events / 50 && codes[0] > shown + events / 50 && full > 50 && twice > events / 500);
-        assert!(refused[2] > events / 400 && refused[3] > events / 400, "{refused:?}");
+        assert!(shown > events / 50 && gets.of(GET, OK) > shown + events / 50 && full > 50 && twice > events / 500);
+        assert!([UNSOUND, BAD_INPUT].iter().all(|&code| refused[code as usize] > events / 400), "{refused:?}");
     }
 }
 

@@ -1,5 +1,8 @@
 //! The rules' examples by hand and the slips that a showroom would meet, each by lines of text, on the proved calls and on the model.
+use call_tests::code::{BAD_SETTINGS, OK};
+use call_tests::random::Random;
 use event_tests::both::{done, refused, shown, Both};
+use event_tests::layout::length;
 use event_tests::model::{Pair, Settings, State};
 
 const KEY: u64 = 1 << 56;
@@ -32,8 +35,15 @@ fn pairs(state: &State) -> Vec<(u64, u64)> {
 
 #[test]
 fn numbers_of_places() {
-    let passes = |places| State::formatted(Settings::new(places, 8, 2, 4)).is_some();
-    assert_eq!([2, 3, 8, 9].map(passes), [false, true, true, false]);
+    for (places, passes) in [(2, false), (3, true), (8, true), (9, false)] {
+        let settings = Settings::new(places, 8, 2, 4);
+        let before = Random::new(1).bytes(length(settings));
+        let mut bytes = before.clone();
+        assert_eq!(State::formatted(settings).is_some(), passes, "{places}");
+        assert_eq!(call_tests::store::length(settings), if passes { before.len() as u64 } else { 0 }, "{places}");
+        assert_eq!(call_tests::store::format(&mut bytes, settings), if passes { OK } else { BAD_SETTINGS }, "{places}");
+        assert!(passes || bytes == before, "{places}");
+    }
 }
 
 #[test]

@@ -1,5 +1,5 @@
-//! The 22 events directly on a store's bytes, written from the rules and docs/LAYOUT.md alone: the opponent of the proved step, of lists of events, and of
-//! reads of many blocks.
+//! The events directly on a store's bytes, written from the rules and docs/LAYOUT.md alone: the opponent of the proved step, of lists of events, and of reads
+//! of many blocks.
 mod asks;
 mod log;
 mod maps;
@@ -16,14 +16,11 @@ mod views;
 mod words;
 mod writes;
 
+use call_tests::kind;
 use call_tests::store::Answer;
 use call_tests::text::model::Event;
 use std::ops::Range;
 use store::Store;
-
-// The kinds that have a block of bytes.
-const PUT: u64 = 1;
-const GET: u64 = 10;
 
 /// The key of an accepted event, or the number of the question that says no.
 type Told = Result<u64, u64>;
@@ -39,7 +36,7 @@ pub fn check(store: &[u8]) -> u64 {
 #[inline(never)]
 pub fn step(store: &mut [u8], e: &Event, data: &[u8], zero: &[u8], answer: &mut [u8]) -> Answer {
     let told = match Store::sound(store) {
-        Some(store) if e.kind == GET && !reads::is_zero_block(&store, zero) => Err(3),
+        Some(store) if e.kind == kind::GET && !reads::is_zero_block(&store, zero) => Err(3),
         Some(mut store) => event(&mut store, e, data, answer),
         None => Err(2),
     };
@@ -58,8 +55,8 @@ pub fn run(store: &mut [u8], events: &[u64], data: &[u8], area: &mut [u8], answe
     let size = 8 * store.shape.cell;
     for (&[kind, a, b, c, at], answer) in events.iter().zip(answers) {
         let (data, area) = match (kind, block(at, size)) {
-            (PUT, Some(block)) => (data.get(block).unwrap_or(&[]), &mut [][..]),
-            (GET, Some(block)) => (&[][..], area.get_mut(block).unwrap_or(&mut [])),
+            (kind::PUT, Some(block)) => (data.get(block).unwrap_or(&[]), &mut [][..]),
+            (kind::GET, Some(block)) => (&[][..], area.get_mut(block).unwrap_or(&mut [])),
             _ => (&[][..], &mut [][..]),
         };
         *answer = answer_of(event(&mut store, &Event { code: 0, kind, a, b, c }, data, area));
@@ -89,28 +86,28 @@ fn answer_of(told: Told) -> [u64; 2] {
 
 fn event(s: &mut Store, e: &Event, data: &[u8], answer: &mut [u8]) -> Told {
     match e.kind {
-        PUT => writes::put(s, e.a, e.b, e.c, data),
-        2 => writes::copy(s, e.a),
-        3 => writes::savelog(s, e.a),
-        4 => maps::map(s, e.a, e.b),
-        5 => relays::send(s, e.a),
-        6 => relays::deliver(s, e.a),
-        7 => relays::drop(s, e.a),
-        8 => maps::savemap(s, e.a),
-        9 => maps::done(s, e.a, e.b),
-        GET => reads::get(s, e.a, e.b, answer),
-        11 => writes::abandon(s, e.a, e.b),
-        12 => membership::learn(s, e.a),
-        13 => membership::reset(s, e.a),
-        14 => membership::crash(s, e.a),
-        15 => membership::lose(s, e.a),
-        16 => membership::rise(s, e.a),
-        17 => membership::join(s, e.a),
-        18 => views::view(s),
-        19 => views::fetch(s, e.a),
-        20 => views::ready(s, e.a),
-        21 => upkeep::mend(s, e.a),
-        22 => upkeep::collect(s, e.a),
+        kind::PUT => writes::put(s, e.a, e.b, e.c, data),
+        kind::COPY => writes::copy(s, e.a),
+        kind::SAVELOG => writes::savelog(s, e.a),
+        kind::MAP => maps::map(s, e.a, e.b),
+        kind::SEND => relays::send(s, e.a),
+        kind::DELIVER => relays::deliver(s, e.a),
+        kind::DROP => relays::drop(s, e.a),
+        kind::SAVEMAP => maps::savemap(s, e.a),
+        kind::DONE => maps::done(s, e.a, e.b),
+        kind::GET => reads::get(s, e.a, e.b, answer),
+        kind::ABANDON => writes::abandon(s, e.a, e.b),
+        kind::LEARN => membership::learn(s, e.a),
+        kind::RESET => membership::reset(s, e.a),
+        kind::CRASH => membership::crash(s, e.a),
+        kind::LOSE => membership::lose(s, e.a),
+        kind::RISE => membership::rise(s, e.a),
+        kind::JOIN => membership::join(s, e.a),
+        kind::VIEW => views::view(s),
+        kind::FETCH => views::fetch(s, e.a),
+        kind::READY => views::ready(s, e.a),
+        kind::MEND => upkeep::mend(s, e.a),
+        kind::COLLECT => upkeep::collect(s, e.a),
         _ => Err(3),
     }
 }

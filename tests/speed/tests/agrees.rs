@@ -1,10 +1,14 @@
 //! The peer and the proved step agree on random lists of events: code, key, data and each byte of the store. So both do the same work when they are timed.
 mod lists;
 
+use call_tests::code::{BACKUP_FULL, BAD_INPUT, BAD_SETTINGS, CODES, NO_NUMBER, OK, PENDING, UNSOUND};
+use call_tests::counts::Counts;
+use call_tests::kind::{self, DELIVER, GET};
 use call_tests::random::Random;
 use call_tests::store::model::{self, Settings};
 use call_tests::store::random::{small_settings, sound_store};
 use call_tests::store::run;
+use call_tests::ENOUGH;
 use lists::many::Seen;
 use lists::Both;
 use speed::peer;
@@ -23,28 +27,28 @@ fn roomy_settings(r: &mut Random) -> Settings {
 #[test]
 fn disciplined_lists() {
     let mut r = Random::new(31);
-    let (mut codes, mut kinds) = ([0u64; 16], [0u64; 23]);
-    while codes.iter().sum::<u64>() < events() {
+    let mut counts = Counts::default();
+    while counts.total() < events() {
         let s = roomy_settings(&mut r);
         let mut both = Both::formatted(&mut r, s);
         for _ in 0..100 {
             both.some_events(&mut r);
         }
         both.again_in_batches(&mut r);
-        (0..16).for_each(|i| codes[i] += both.codes[i]);
-        (0..23).for_each(|i| kinds[i] += both.kinds[i]);
+        counts.add_all(&both.counts);
     }
-    assert!(codes[1] == 0 && codes[2] == 0);
-    assert!((3..=13).chain(15..=15).all(|c| c == 12 || codes[c] > 0), "{codes:?}");
-    assert!((1..=22).all(|k| kinds[k] > 100), "{kinds:?}");
+    if events() >= ENOUGH {
+        assert_eq!(counts.codes_missing(&[NO_NUMBER, BACKUP_FULL]), [BAD_SETTINGS, UNSOUND]);
+        assert!(counts.accepted_less(101).is_empty(), "{}", counts.table());
+    }
 }
 
 /// Any events on formatted stores and on random sound ones, most of which no list leads to.
 #[test]
 fn wild_lists() {
     let mut r = Random::new(32);
-    let (mut codes, mut kinds) = ([0u64; 16], [0u64; 23]);
-    while codes.iter().sum::<u64>() < events() {
+    let mut counts = Counts::default();
+    while counts.total() < events() {
         let s = small_settings(&mut r);
         let percent = r.below(101);
         let mut both = if r.one_in(2) { Both::formatted(&mut r, s) } else { Both::new(s, sound_store(&mut r, s, percent)) };
@@ -53,12 +57,12 @@ fn wild_lists() {
             both.wild_event(&mut r);
         }
         both.again_in_batches(&mut r);
-        (0..16).for_each(|i| codes[i] += both.codes[i]);
-        (0..23).for_each(|i| kinds[i] += both.kinds[i]);
+        counts.add_all(&both.counts);
     }
-    assert!(codes[1] == 0 && codes[2] == 0);
-    assert!((3..=15).all(|c| codes[c] > 0 || c == 8 || c == 14), "{codes:?}");
-    assert!((1..=22).all(|k| kinds[k] > 0), "{kinds:?}");
+    if events() >= ENOUGH {
+        assert_eq!(counts.codes_missing(&[PENDING, BACKUP_FULL]), [BAD_SETTINGS, UNSOUND]);
+        assert!(counts.accepted_less(1).is_empty(), "{}", counts.table());
+    }
 }
 
 /// Many blocks in one call, between events on formatted stores and on random sound ones.
@@ -75,9 +79,11 @@ fn reads_of_many_blocks() {
             both.read_many(&mut r, &mut seen);
         }
     }
-    assert!([0, 2, 3].iter().all(|&code: &usize| seen.calls[code] > events() / 1000), "{:?}", seen.calls);
-    assert!([0, 3, 4, 5, 6, 7, 8, 11].iter().all(|&code: &usize| seen.blocks[code] > events() / 10_000), "{:?}", seen.blocks);
-    assert!(seen.shown > events() / 100, "{}", seen.shown);
+    if events() >= ENOUGH {
+        assert!([OK, UNSOUND, BAD_INPUT].iter().all(|&code| seen.calls[code as usize] > events() / 1000), "{:?}", seen.calls);
+        assert!(kind::of(GET).codes().all(|code| seen.gets.of(GET, code) > events() / 10_000), "{}", seen.gets.table());
+        assert!(seen.shown > events() / 100, "{}", seen.shown);
+    }
 }
 
 /// No list from format fills the backup alone: its copy is written by hand.
@@ -88,12 +94,12 @@ fn no_room_at_the_backup() {
     let mut both = Both::formatted(&mut r, s);
     both.sent_block(&mut r, 5);
     let memory = model::AT_PLACES + s.place() + model::AT_COPIES;
-    for (first, code) in [(6, 14), (5, 0)] {
+    for (first, code) in [(6, BACKUP_FULL), (5, OK)] {
         for (i, word) in [2, first, 1 << 56, 7, 1 << 56].into_iter().enumerate() {
             model::put(&mut both.proved, memory + i, word);
             model::put(&mut both.peer, memory + i, word);
         }
-        assert_eq!(both.event(&mut r, 6, 0, 0, 0).code, code);
+        assert_eq!(both.event(&mut r, DELIVER, 0, 0, 0).code, code);
     }
 }
 
@@ -148,7 +154,7 @@ fn the_highest_key() {
 fn any_words() {
     let mut r = Random::new(37);
     let sound = Both::formatted(&mut r, Settings::new(3, 8, 2, 4)).peer;
-    let mut codes = [0; 4];
+    let mut codes = [0; CODES];
     for _ in 0..events() / 10 {
         let store = if r.one_in(4) { &sound[1..] } else { &sound };
         let words = if r.one_in(2) { r.below(17) } else { 5 * r.below(4) };
@@ -163,7 +169,7 @@ fn any_words() {
         assert!(proved == peer, "{events:?}");
         codes[peer.0 as usize] += 1;
     }
-    assert!([0, 2, 3].iter().all(|&code: &usize| codes[code] > events() / 100), "{codes:?}");
+    assert!([OK, UNSOUND, BAD_INPUT].iter().all(|&code| codes[code as usize] > events() / 100), "{codes:?}");
 }
 
 #[test]

@@ -1,19 +1,20 @@
 //! Side by side with the independent implementation, in one run: puts of 8,192 bytes and short lines, read and written.
-use std::hint::black_box;
-use call_tests::text::model::{self, Event};
+use call_tests::kind::{COLLECT, COPY, GET, PUT, VIEW};
 use call_tests::random::Random;
+use call_tests::text::model::{self, Event};
 use call_tests::time::{compare, heading};
+use std::hint::black_box;
 
 fn main() {
     let mut r = Random::new(31);
     heading();
     let cases = [
-        ("put of 8,192 bytes", Event { code: 0, kind: 1, a: 3, b: 7, c: 1_125_899_906_842_624 }, 8192),
-        ("put of 8 bytes", Event { code: 0, kind: 1, a: 0, b: 0, c: 5 }, 8),
-        ("get,0,5", Event { code: 0, kind: 10, a: 0, b: 5, c: 0 }, 8),
-        ("copy of a key", Event { code: 0, kind: 2, a: 72_057_594_037_927_936, b: 0, c: 0 }, 8),
-        ("view", Event { code: 0, kind: 18, a: 0, b: 0, c: 0 }, 8),
-        ("collect,7", Event { code: 0, kind: 22, a: 7, b: 0, c: 0 }, 8),
+        ("put of 8,192 bytes", Event { code: 0, kind: PUT, a: 3, b: 7, c: 1_125_899_906_842_624 }, 8192),
+        ("put of 8 bytes", Event { code: 0, kind: PUT, a: 0, b: 0, c: 5 }, 8),
+        ("get,0,5", Event { code: 0, kind: GET, a: 0, b: 5, c: 0 }, 8),
+        ("copy of a key", Event { code: 0, kind: COPY, a: 72_057_594_037_927_936, b: 0, c: 0 }, 8),
+        ("view", Event { code: 0, kind: VIEW, a: 0, b: 0, c: 0 }, 8),
+        ("collect,7", Event { code: 0, kind: COLLECT, a: 7, b: 0, c: 0 }, 8),
     ];
     for (name, e, size) in cases {
         let data = r.bytes(size);

@@ -1,4 +1,5 @@
 //! The text form of events, written from the rules alone.
+use crate::kind::{self, Kind, KINDS};
 
 pub const LONGEST: usize = 16_500;
 
@@ -29,32 +30,6 @@ pub struct Four {
     pub chunks: u64,
 }
 
-/// The word, how many numbers follow, and whether data follows those.
-pub const KINDS: [(&str, usize, bool); 22] = [
-    ("put", 3, true),
-    ("copy", 1, false),
-    ("savelog", 1, false),
-    ("map", 2, false),
-    ("send", 1, false),
-    ("deliver", 1, false),
-    ("drop", 1, false),
-    ("savemap", 1, false),
-    ("done", 2, false),
-    ("get", 2, false),
-    ("abandon", 2, false),
-    ("learn", 1, false),
-    ("reset", 1, false),
-    ("crash", 1, false),
-    ("lose", 1, false),
-    ("rise", 1, false),
-    ("join", 1, false),
-    ("view", 0, false),
-    ("fetch", 1, false),
-    ("ready", 1, false),
-    ("mend", 1, false),
-    ("collect", 1, false),
-];
-
 fn number(text: &[u8]) -> Option<u64> {
     let leading_zero = text.len() > 1 && text[0] == b'0';
     if text.is_empty() || leading_zero || !text.iter().all(u8::is_ascii_digit) {
@@ -84,17 +59,17 @@ fn body(line: &[u8]) -> Option<&[u8]> {
 fn event(line: &[u8], size: usize, data: &mut [u8]) -> Option<Event> {
     let mut fields = body(line)?.split(|&b| b == b',');
     let word = fields.next()?;
-    let index = KINDS.iter().position(|k| k.0.as_bytes() == word)?;
-    let (_, count, payload) = KINDS[index];
+    let index = KINDS.iter().position(|k| k.word.as_bytes() == word)?;
+    let kind = &KINDS[index];
     let mut numbers = [0; 3];
-    for slot in &mut numbers[..count] {
+    for slot in &mut numbers[..kind.fields.len()] {
         *slot = number(fields.next()?)?;
     }
-    let text = if payload { fields.next()? } else { &[] };
+    let text = if kind.data { fields.next()? } else { &[] };
     if fields.next().is_some() {
         return None;
     }
-    if payload {
+    if kind.data {
         if text.len() != 2 * size || data.len() != size || !text.iter().all(is_hexadecimal) {
             return None;
         }
@@ -112,13 +87,13 @@ pub fn parse(line: &[u8], size: usize, data: &mut [u8]) -> Event {
 
 /// The line, whatever its length.
 pub fn text(e: &Event, data: &[u8]) -> Vec<u8> {
-    let (word, count, payload) = KINDS[e.kind as usize - 1];
-    let mut line = word.as_bytes().to_vec();
-    for n in &[e.a, e.b, e.c][..count] {
+    let kind = kind::of(e.kind);
+    let mut line = kind.word.as_bytes().to_vec();
+    for n in &[e.a, e.b, e.c][..kind.fields.len()] {
         line.push(b',');
         line.extend(n.to_string().bytes());
     }
-    if payload {
+    if kind.data {
         line.push(b',');
         data.iter().for_each(|b| line.extend(format!("{b:02x}").bytes()));
     }
@@ -143,10 +118,10 @@ fn put_number(mut v: u64, at: &mut [u8]) -> usize {
 #[inline(never)]
 pub fn print(e: &Event, data: &[u8], size: usize, line: &mut [u8]) -> Line {
     const NO: Line = Line { code: 3, length: 0 };
-    let Some(&(word, count, payload)) = (e.kind as usize).checked_sub(1).and_then(|i| KINDS.get(i)) else {
+    let Some(&Kind { word, fields, data: payload, .. }) = kind::find(e.kind) else {
         return NO;
     };
-    let numbers = &[e.a, e.b, e.c][..count];
+    let numbers = &[e.a, e.b, e.c][..fields.len()];
     if payload && (data.len() != size || size > LONGEST) {
         return NO;
     }

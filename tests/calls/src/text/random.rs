@@ -1,5 +1,6 @@
 //! Random events and the ways to damage a line.
-use super::model::{Event, KINDS};
+use super::model::Event;
+use crate::kind::{self, KINDS};
 use crate::random::Random;
 
 impl Random {
@@ -16,10 +17,10 @@ impl Random {
 
     /// An event of a kind, the numbers that it does not have 0, and its data.
     pub fn event(&mut self, kind: u64, size: usize) -> (Event, Vec<u8>) {
-        let (_, count, payload) = KINDS[kind as usize - 1];
+        let row = kind::of(kind);
         let mut numbers = [0; 3];
-        numbers[..count].iter_mut().for_each(|n| *n = self.number());
-        let data = if payload { self.bytes(size) } else { Vec::new() };
+        numbers[..row.fields.len()].iter_mut().for_each(|n| *n = self.number());
+        let data = if row.data { self.bytes(size) } else { Vec::new() };
         (Event { code: 0, kind, a: numbers[0], b: numbers[1], c: numbers[2] }, data)
     }
 

@@ -1,8 +1,8 @@
 //! Events of any kind, their fields mostly in range and mostly of what the state holds.
 use crate::choose::{one_of, pick};
 use crate::model::{kind, Block, Call, Key, State, BUCKETS, PROXIES};
+use call_tests::kind::Field;
 use call_tests::random::Random;
-use call_tests::text::model::KINDS;
 
 /// A few blocks in few buckets, so that copies fill; of one proxy or of all.
 pub fn some_blocks(r: &mut Random) -> Vec<Block> {
@@ -52,7 +52,7 @@ fn any_kind(r: &mut Random) -> u64 {
     match r.below(100) {
         0 => r.number(),
         1..=39 => one_of(r, &OFTEN),
-        _ => 1 + r.below(KINDS.len() as u64),
+        _ => r.kind(),
     }
 }
 
@@ -65,21 +65,31 @@ fn length(r: &mut Random, size: usize, looked_at: bool) -> usize {
     }
 }
 
-fn numbers(r: &mut Random, state: &State, blocks: &[Block], kind: u64) -> [u64; 3] {
-    let block = any_block(r, blocks);
-    let proxy = if r.one_in(20) { number_of(r, PROXIES as u64) } else { block >> 49 };
-    let place = number_of(r, state.settings.places);
-    match kind {
-        kind::PUT => [proxy, place, block],
-        kind::COPY => [if r.one_in(40) { r.number() } else { key(r, state).0 }, r.next(), r.next()],
-        kind::MAP | kind::DONE | kind::GET | kind::ABANDON => [proxy, block, r.next()],
-        kind::SEND => [block, r.next(), r.next()],
-        kind::DELIVER | kind::DROP => [number_of(r, state.bag.len() as u64), r.next(), r.next()],
-        kind::LEARN | kind::RESET => [number_of(r, PROXIES as u64), r.next(), r.next()],
-        kind::FETCH | kind::READY if r.one_in(2) => [pick(r, blocks).map_or(0, |b| b.bucket() as u64), r.next(), r.next()],
-        kind::FETCH | kind::READY => [number_of(r, BUCKETS as u64), r.next(), r.next()],
-        _ => [place, r.next(), r.next()],
+/// Of a bucket that has a block, or of any.
+fn bucket(r: &mut Random, blocks: &[Block]) -> u64 {
+    if r.one_in(2) {
+        pick(r, blocks).map_or(0, |b| b.bucket() as u64)
+    } else {
+        number_of(r, BUCKETS as u64)
     }
+}
+
+/// Three numbers for a kind, if it is one; where it has a proxy and a block, the proxy is mostly the block's.
+fn numbers(r: &mut Random, state: &State, blocks: &[Block], kind: u64) -> [u64; 3] {
+    let fields = kind::find(kind).map_or(&[][..], |kind| kind.fields);
+    let block = any_block(r, blocks);
+    let is_owned = fields.contains(&Field::Block) && !r.one_in(20);
+    [0, 1, 2].map(|i| match fields.get(i) {
+        Some(Field::Proxy) if is_owned => block >> 49,
+        Some(Field::Proxy) => number_of(r, PROXIES as u64),
+        Some(Field::Place) => number_of(r, state.settings.places),
+        Some(Field::Block) => block,
+        Some(Field::Key) if r.one_in(40) => r.number(),
+        Some(Field::Key) => key(r, state).0,
+        Some(Field::Index) => number_of(r, state.bag.len() as u64),
+        Some(Field::Bucket) => bucket(r, blocks),
+        None => r.next(),
+    })
 }
 
 pub fn wild(r: &mut Random, state: &State, blocks: &[Block]) -> Call {

@@ -1,4 +1,5 @@
 //! Stores in use, each with an event that it accepts.
+use call_tests::kind;
 use call_tests::store::model::{Settings, AT_BUCKETS, BUCKET, BUCKETS, PROXIES};
 use call_tests::store::random::mapped_store;
 use call_tests::store::{model, step};
@@ -27,16 +28,16 @@ pub struct Store {
 pub fn whole_write(block: u64, places: [u64; 2], copy_place: u64, key: u64) -> [Event; 10] {
     let [primary, backup] = places;
     [
-        event(1, 0, primary, block),
-        event(2, key, 0, 0),
-        event(3, primary, 0, 0),
-        event(3, copy_place, 0, 0),
-        event(4, 0, block, 0),
-        event(5, block, 0, 0),
-        event(6, 0, 0, 0),
-        event(8, primary, 0, 0),
-        event(8, backup, 0, 0),
-        event(9, 0, block, 0),
+        event(kind::PUT, 0, primary, block),
+        event(kind::COPY, key, 0, 0),
+        event(kind::SAVELOG, primary, 0, 0),
+        event(kind::SAVELOG, copy_place, 0, 0),
+        event(kind::MAP, 0, block, 0),
+        event(kind::SEND, block, 0, 0),
+        event(kind::DELIVER, 0, 0, 0),
+        event(kind::SAVEMAP, primary, 0, 0),
+        event(kind::SAVEMAP, backup, 0, 0),
+        event(kind::DONE, 0, block, 0),
     ]
 }
 
@@ -44,7 +45,7 @@ impl Store {
     /// So many blocks mapped and whole, all proxies with the view.
     pub fn mapped(settings: Settings, blocks: u64) -> Self {
         let mut store = Store { settings, bytes: mapped_store(settings, blocks) };
-        (0..PROXIES as u64).for_each(|p| store.accept(event(12, p, 0, 0)));
+        (0..PROXIES as u64).for_each(|p| store.accept(event(kind::LEARN, p, 0, 0)));
         store
     }
 
@@ -117,14 +118,15 @@ impl Store {
     }
 }
 
-/// A kind's name, the store, and an event that it accepts: the kinds in their order.
-pub type Case = (&'static str, Store, Event);
+/// A store, and an event that it accepts.
+pub type Case = (Store, Event);
 
-/// Of stores of 4 places with 1,000 blocks mapped.
+/// Of each kind, in their order; stores of 4 places with 1,000 blocks mapped.
 pub fn cases(block_size: u64) -> Vec<Case> {
     let base = Store::mapped(Settings::new(4, block_size, 256, 1024), 1000);
     let mut cases = write_cases(&base);
     cases.extend(brick_cases(&base));
+    assert!(cases.iter().map(|(_, e)| e.kind).eq(kind::all()), "a case of each kind");
     cases
 }
 
@@ -134,39 +136,39 @@ fn write_cases(base: &Store) -> Vec<Case> {
     let at = |n: usize| base.clone().after(&write[..n]);
     let [put, copy, savelog, _, map, send, deliver, savemap, _, done] = write;
     vec![
-        ("put", at(0), put),
-        ("copy", at(1), copy),
-        ("savelog", at(2), savelog),
-        ("map", at(4), map),
-        ("send", at(5), send),
-        ("deliver", at(6), deliver),
-        ("drop", at(6), event(7, 0, 0, 0)),
-        ("savemap", at(7), savemap),
-        ("done", at(9), done),
-        ("get", at(0), event(10, 0, REWRITTEN, 0)),
-        ("abandon", at(1), event(11, 0, REWRITTEN, 0)),
-        ("learn", at(0), event(12, 0, 0, 0)),
-        ("reset", at(1), event(13, 0, 0, 0)),
+        (at(0), put),
+        (at(1), copy),
+        (at(2), savelog),
+        (at(4), map),
+        (at(5), send),
+        (at(6), deliver),
+        (at(6), event(kind::DROP, 0, 0, 0)),
+        (at(7), savemap),
+        (at(9), done),
+        (at(0), event(kind::GET, 0, REWRITTEN, 0)),
+        (at(1), event(kind::ABANDON, 0, REWRITTEN, 0)),
+        (at(0), event(kind::LEARN, 0, 0, 0)),
+        (at(1), event(kind::RESET, 0, 0, 0)),
     ]
 }
 
 /// A brick goes, another one takes its place, and all is made whole; the other kinds.
 fn brick_cases(base: &Store) -> Vec<Case> {
     let [put, copy, ..] = base.write(REWRITTEN);
-    let lost = [event(15, 3, 0, 0), event(17, 3, 0, 0), event(18, 0, 0, 0)];
+    let lost = [event(kind::LOSE, 3, 0, 0), event(kind::JOIN, 3, 0, 0), event(kind::VIEW, 0, 0, 0)];
     let gone = |n: usize| base.clone().after(&lost[..n]);
     let bucket = moved_bucket(&gone(3));
-    let recovered = (0..BUCKETS as u64).fold(gone(3), |s, g| s.after(&[event(19, g, 0, 0), event(20, g, 0, 0)]));
+    let recovered = (0..BUCKETS as u64).fold(gone(3), |s, g| s.after(&[event(kind::FETCH, g, 0, 0), event(kind::READY, g, 0, 0)]));
     vec![
-        ("crash", base.clone().after(&[put, copy]), event(14, put.b, 0, 0)),
-        ("lose", gone(0), event(15, 3, 0, 0)),
-        ("rise", base.clone().after(&[event(14, 3, 0, 0)]), event(16, 3, 0, 0)),
-        ("join", gone(1), event(17, 3, 0, 0)),
-        ("view", gone(2), event(18, 0, 0, 0)),
-        ("fetch", gone(3), event(19, bucket, 0, 0)),
-        ("ready", gone(3).after(&[event(19, bucket, 0, 0)]), event(20, bucket, 0, 0)),
-        ("mend", recovered, event(21, 3, 0, 0)),
-        ("collect", base.clone().after(&base.writes(100)), event(22, put.b, 0, 0)),
+        (base.clone().after(&[put, copy]), event(kind::CRASH, put.b, 0, 0)),
+        (gone(0), event(kind::LOSE, 3, 0, 0)),
+        (base.clone().after(&[event(kind::CRASH, 3, 0, 0)]), event(kind::RISE, 3, 0, 0)),
+        (gone(1), event(kind::JOIN, 3, 0, 0)),
+        (gone(2), event(kind::VIEW, 0, 0, 0)),
+        (gone(3), event(kind::FETCH, bucket, 0, 0)),
+        (gone(3).after(&[event(kind::FETCH, bucket, 0, 0)]), event(kind::READY, bucket, 0, 0)),
+        (recovered, event(kind::MEND, 3, 0, 0)),
+        (base.clone().after(&base.writes(100)), event(kind::COLLECT, put.b, 0, 0)),
     ]
 }
 

@@ -1,5 +1,6 @@
 //! Whole writes, and reads, of several blocks as lists of events.
 use super::fixture::{block, event, Store};
+use call_tests::kind;
 use call_tests::store::ListEvent;
 use call_tests::text::model::Event;
 use std::ops::Range;
@@ -45,7 +46,7 @@ pub fn write_together(store: &mut Store, blocks: Range<usize>) -> (Vec<Group>, V
     }
     let groups = KINDS.map(|(name, columns)| {
         let events = columns.iter().flat_map(|&c| writes.iter().zip(blocks.clone()).map(move |(write, i)| (write[c], i)));
-        let mut events: Vec<ListEvent> = events.map(|(e, i)| listed(e, if e.kind == 1 { byte_of(store, i) } else { 0 })).collect();
+        let mut events: Vec<ListEvent> = events.map(|(e, i)| listed(e, if e.kind == kind::PUT { byte_of(store, i) } else { 0 })).collect();
         if columns.len() > 1 {
             events.sort_by_key(|e| e.a);
             events.dedup();
@@ -71,7 +72,7 @@ pub fn write_batches(store: &Store, n: usize) -> (Vec<Batch>, Store) {
 /// The gets of some blocks; where each block goes.
 pub fn read_together(store: &Store, blocks: Range<usize>, at: impl Fn(usize) -> usize) -> Batch {
     Batch {
-        events: blocks.clone().map(|i| listed(event(10, 0, block(i as u64), 0), at(i))).collect(),
+        events: blocks.clone().map(|i| listed(event(kind::GET, 0, block(i as u64), 0), at(i))).collect(),
         at: blocks.clone().map(at).collect(),
         cells: blocks.map(|i| [store.cell_of(block(i as u64)); 2]).collect(),
     }

@@ -3,6 +3,7 @@ use super::event::Undo;
 use super::fixture::{block, event, Store};
 use super::samples::{medians, time};
 use super::STEPS;
+use call_tests::kind;
 use call_tests::text::model::Event;
 use std::hint::black_box;
 
@@ -34,7 +35,7 @@ pub fn reads(store: &Store, rounds: usize) -> [f64; 2] {
     let mut at = 0;
     medians(rounds, BLOCKS, |way| {
         at = (at + 1) % BLOCKS;
-        let e = event(10, 0, block(at as u64), 0);
+        let e = event(kind::GET, 0, block(at as u64), 0);
         time(|| assert_eq!(STEPS[way](&mut bytes, &e, &[], &zero, &mut answer).code, 0))
     })
 }

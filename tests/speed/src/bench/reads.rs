@@ -4,6 +4,7 @@ use super::fixture::{event, Store};
 use super::lists::{read_together, Batch};
 use super::samples::{medians, time};
 use super::{READS, RUNS, STEPS};
+use call_tests::kind;
 use call_tests::store::{words_of, HEAD};
 use std::hint::black_box;
 use std::slice::from_ref;
@@ -44,7 +45,7 @@ impl Lent {
         match way {
             0 => assert_eq!(READS[0](store, 0, blocks, area), 0),
             1 => blocks.iter().zip(&batch.at).for_each(|(&block, &at)| {
-                assert_eq!(STEPS[0](store, &event(10, 0, block, 0), &[], zero, &mut area[at..][..zero.len()]).code, 0);
+                assert_eq!(STEPS[0](store, &event(kind::GET, 0, block, 0), &[], zero, &mut area[at..][..zero.len()]).code, 0);
             }),
             2 => assert_eq!(RUNS[0](store, words, &[], area, answers), 0),
             3 => assert_eq!(READS[1](store, 0, blocks, area), 0),

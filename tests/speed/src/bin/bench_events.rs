@@ -1,4 +1,5 @@
 //! The proved step side by side with the peer, in one run: every kind, the whole write path, and how a call grows with the blocks mapped.
+use call_tests::kind;
 use call_tests::store::model::Settings;
 use speed::bench::event::compare;
 use speed::bench::fixture::{block, cases, event, Store};
@@ -7,7 +8,7 @@ use speed::bench::path::{memcpy, reads, writes};
 const ROUNDS: usize = 100;
 
 /// Kinds that move cells by the hundred are timed with small blocks too: 8 KB ones hide what else they do.
-const SMALL: [&str; 3] = ["crash", "mend", "collect"];
+const SMALL: [u64; 3] = [kind::CRASH, kind::MEND, kind::COLLECT];
 
 fn main() {
     every_kind();
@@ -26,17 +27,17 @@ fn heading(name: &str) -> String {
 fn every_kind() {
     println!("{} {:>16} {:>8}", heading("one call, ns"), "no check: proved", "peer");
     for size in [8192, 64] {
-        for (name, store, e) in cases(size) {
-            if size == 8192 || SMALL.contains(&name) {
-                let rounds = if SMALL.contains(&name) { ROUNDS / 5 } else { ROUNDS };
+        for (store, e) in cases(size) {
+            if size == 8192 || SMALL.contains(&e.kind) {
+                let rounds = if SMALL.contains(&e.kind) { ROUNDS / 5 } else { ROUNDS };
                 let [step, check] = compare(&store, &e, rounds, 50);
-                let name = format!("{:>2} {name:<10} S {size}", e.kind);
+                let name = format!("{:>2} {:<10} S {size}", e.kind, kind::of(e.kind).word);
                 println!("{} {:>16.0} {:>8.0}", row(&name, step), step[0] - check[0], step[1] - check[1]);
             }
         }
     }
     let store = Store::mapped(Settings::new(4, 64, 256, 1024), 1000);
-    println!("{}", row("check alone", compare(&store, &event(12, 0, 0, 0), ROUNDS, 50)[1]));
+    println!("{}", row("check alone", compare(&store, &event(kind::LEARN, 0, 0, 0), ROUNDS, 50)[1]));
     println!("4 places, 1,000 blocks mapped; each call accepted; \"no check\" is what is left without the time of the check alone\n");
 }
 
@@ -55,7 +56,7 @@ fn growth() {
     println!("{}", heading("by blocks mapped, ns"));
     for blocks in [100, 1_000, 10_000] {
         let store = Store::mapped(Settings::new(4, 512, 1024, 8192), blocks);
-        println!("{}", row(&format!("get, {blocks}"), compare(&store, &event(10, 0, block(50), 0), ROUNDS, 20)[0]));
+        println!("{}", row(&format!("get, {blocks}"), compare(&store, &event(kind::GET, 0, block(50), 0), ROUNDS, 20)[0]));
         println!("{}", row(&format!("put, {blocks}"), compare(&store, &store.write(block(50))[0], ROUNDS, 20)[0]));
         println!("{}", row(&format!("put to done, {blocks}"), writes(&store, ROUNDS)));
     }

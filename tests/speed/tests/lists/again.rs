@@ -1,4 +1,5 @@
 //! Events that were taken one by one are taken again in batches, each batch by one call.
+use call_tests::kind::{GET, PUT};
 use call_tests::random::Random;
 use call_tests::store::{answers_in, run, words_of, Answer, ListEvent};
 use call_tests::text::model::Event;
@@ -22,12 +23,12 @@ impl Kept {
 
     /// Areas that do not fit become a block past the end.
     pub fn add(&mut self, e: &Event, fits: bool, data: &[u8], (area, filled): (&[u8], &[u8]), told: Answer) {
-        let end = if e.kind == 1 { self.data.len() } else { self.area.len() };
+        let end = if e.kind == PUT { self.data.len() } else { self.area.len() };
         let at = if fits { end as u64 } else { u64::MAX - self.events.len() as u64 % 20 };
-        if e.kind == 1 && fits {
+        if e.kind == PUT && fits {
             self.data.extend(data);
         }
-        if e.kind == 10 && fits {
+        if e.kind == GET && fits {
             self.area.extend(area);
             self.filled.extend(filled);
         }

@@ -1,14 +1,17 @@
 //! Reads of many blocks in one call, by the proved call and by the peer, on a store as it is.
-use super::{some_block, Both};
+use super::Both;
+use call_tests::code::CODES;
+use call_tests::counts::Counts;
+use call_tests::kind::GET;
 use call_tests::random::Random;
 use call_tests::store::{block_answers, read, HEAD};
 use speed::peer;
 
-/// How often each code was answered: by the calls, and for their blocks; and how many blocks were shown with a key.
+/// How often each code was answered: by the calls, and for their blocks, as gets; and how many blocks were shown with a key.
 #[derive(Default)]
 pub struct Seen {
-    pub calls: [u64; 4],
-    pub blocks: [u64; 16],
+    pub calls: [u64; CODES],
+    pub gets: Counts,
     pub shown: u64,
 }
 
@@ -35,7 +38,7 @@ impl Both {
         seen.calls[code as usize] += 1;
         if code == 0 {
             for answer in block_answers(&one, size, blocks.len()) {
-                seen.blocks[answer.code as usize] += 1;
+                seen.gets.add(GET, answer.code);
                 seen.shown += (answer.key != 0) as u64;
             }
         }
@@ -44,7 +47,7 @@ impl Both {
 
 /// Mostly of the proxy.
 fn block_of(r: &mut Random, proxy: u64) -> u64 {
-    let block = some_block(r);
+    let block = r.some_block();
     match r.below(20) {
         0 => r.number(),
         1 => block,
