@@ -1,15 +1,34 @@
 /* The drawing disk: the calls for the network layer in C.
  *
- * Every area is lent for the time of the call: the library keeps no pointer and allocates nothing. A pointer is not NULL, also where its length is 0:
- * for an area that a call does not look at, lend the address of any byte with length 0, or call disk_do, disk_put or disk_get, which do so. An area that
- * a call writes overlaps no other area of that call. No call has another condition: every input has the answer described here.
- * A code of 0 says yes; any other is the number of the question that says no, and then all other fields are 0 and no lent byte has changed. Only the
- * numbers of disk_length, a length, and of disk_alike are others. */
+ * Know first:
+ * - Stack: every call needs less than DISK_STACK_BYTES, mend the most of it. Nothing is allocated, and no pointer is kept.
+ * - Threads: there is no state but the lent areas. Calls on different stores may run at once; on one store one at a time, but for calls that only read it
+ *   (disk_check, disk_read, disk_bag, disk_alike), which may run beside each other.
+ * - Machines: 64-bit ones alone, with the least byte first; a compiler for another refuses this header.
+ * - Pointers: none is NULL, also where its length is 0. For an area that a call does not look at, lend the address of any byte with length 0, or call
+ *   disk_do, disk_put or disk_get, which do so.
+ * - Areas: one that a call writes overlaps no other area of that call. Bytes may begin anywhere; events, answers, block numbers and relays lie where C may
+ *   place a uint64_t.
+ * - A process that is ended amid a call leaves a store half written, which the next call may refuse with 2. Where that can happen run events on a copy, or keep
+ *   the last good store.
+ * No call has another condition: every input has the answer described here, and every call ends.
+ *
+ * A code of 0 says yes; any other is the number of the question that says no, and then all other fields are 0 and no lent byte has changed. Questions are
+ * asked in the order of their numbers: a call on bytes that are no sound store answers 2 whatever else is wrong, and 3 comes next. Only the numbers of
+ * disk_length, a length, and of disk_alike are others. */
 #ifndef DISK_H
 #define DISK_H
 
 #include <stddef.h>
 #include <stdint.h>
+
+#if defined __cplusplus
+static_assert(sizeof(size_t) == 8, "the drawing disk is for 64-bit machines");
+#elif defined __STDC_VERSION__ && __STDC_VERSION__ >= 201112L
+_Static_assert(sizeof(size_t) == 8, "the drawing disk is for 64-bit machines");
+#else
+typedef char disk_is_for_64_bit_machines[sizeof(size_t) == 8 ? 1 : -1];
+#endif
 
 #ifdef __cplusplus
 extern "C" {
@@ -61,6 +80,9 @@ enum {
     DISK_COLLECT = 22
 };
 
+/* So many kinds there are, numbered from 1. */
+#define DISK_KINDS 22
+
 /* A line of text has at most so many bytes, its line feed counted. */
 #define DISK_LONGEST_LINE 16500
 
@@ -72,6 +94,9 @@ enum {
 
 /* The bytes of an answer of disk_read before the block's: the code in one, the key in eight. */
 #define DISK_HEAD_BYTES 9
+
+/* Every call takes less than so many bytes of stack. */
+#define DISK_STACK_BYTES 16384
 
 /* What a step answers: its code, and a key. */
 typedef struct {
@@ -88,7 +113,7 @@ typedef struct {
     uint64_t at;
 } disk_event;
 
-/* An event: its kind, 1 to 22, and its numbers in the order of its text; numbers that the kind does not have are 0. */
+/* An event: its kind and its numbers in the order of its text; numbers that the kind does not have are 0. */
 typedef struct {
     uint64_t code;
     uint64_t kind;
@@ -123,6 +148,25 @@ typedef struct {
     uint64_t code;
     size_t count;
 } disk_bag_answer;
+
+/* Whose a block is: its proxy, 0 to 3 for a block below 2^51. */
+static inline uint64_t disk_block_proxy(uint64_t block)
+{
+    return block >> 49;
+}
+
+/* The bucket that maps a block. */
+static inline uint64_t disk_block_bucket(uint64_t block)
+{
+    return block >> 10 & 15;
+}
+
+/* The id of the brick that a chunk was put to. Bricks 1, 2 .. stand at places 0, 1 .. of a fresh store; join gives the next id, so a place's id changes
+ * only by lose and join. */
+static inline uint64_t disk_key_home(uint64_t key)
+{
+    return key >> 56;
+}
 
 /* The bytes to lend for a store of these settings: places 3 to 8; block size 8 to 8,192, a multiple of 8; entries 2 to 1,024 in each bucket copy;
  * chunks 4 to 65,536 in each brick's log. 0 where a setting is outside its limits. */
@@ -160,12 +204,13 @@ uint64_t disk_check(const uint8_t *store, size_t store_length);
  *     (deliver), else 0. After a get answer[0 .. S] is the block's data, zeros where it has no mapping.
  *  1: never; it is the number of disk_format's question.
  *  2: the bytes are no sound store, as disk_check says.
- *  3: the kind is not 1 to 22, or a field is out of range (proxy 0 to 3; place below the settings' places; block below 2^51; the id in a key 1 to 255;
+ *  3: the kind is not 1 to DISK_KINDS, or a field is out of range (proxy 0 to 3; place below the settings' places; block below 2^51; the id in a key 1 to 255;
  *     index below the number of relays in the bag; bucket 0 to 15), or a put's data is not S bytes, or a get's zero block is not S zeros or its answer
  *     area not S bytes.
  *  4: the block is not the proxy's.
  *  5: the proxy does not know the present view (map, get, done).
- *  6: the brick needed is no up member.
+ *  6: a brick that is needed is no up member: that at the place (put, savelog, savemap, mend, collect); the key's home (copy); the primary of the block's
+ *     or the named bucket (map, send, done, get, fetch); the backup (deliver, unless the relay is set aside); either of the two (ready).
  *  7: the bucket is not ready (get, send, done).
  *  8: the block is pending, or waits in the buffer (map, get, done).
  *  9: there is an item for the block (put), or there is none (map, done, abandon).
@@ -179,7 +224,14 @@ uint64_t disk_check(const uint8_t *store, size_t store_length);
  * 15: the primary's key is not the item's (done).
  *
  * A block is written by a proxy that has learned the view: put; copy of the key that it answers; savelog at both places that now hold the chunk, since map
- * asks for it saved at two members; map; send; deliver; savemap at the places of the bucket's primary and backup; done.
+ * asks for it saved at two members; map; send; deliver; savemap at the places of the bucket's primary and backup; done. copy writes to the member with the
+ * next higher id than the home's, after the highest the lowest, whether or not that brick is of the bucket's pair; where no other member is, or it holds the
+ * chunk, nothing changes.
+ *
+ * After a crash, a loss, a rise or a join: view; learn of each proxy; fetch and ready of each bucket; then mend of each place, which brings saved copies of
+ * mapped chunks back to two members. mend goes by the keys in the primaries' memory: while a write of a block is under way (mapped, not yet done) its older,
+ * confirmed chunk is not looked after. So mend when nothing is pending, and before the next brick is taken away. collect at each place now and then, when no
+ * write is under way: it frees the room of chunks that are mapped no more.
  *
  * Each call checks the whole store first, as disk_check does: for many events disk_run checks it once, for many gets of a proxy disk_read. */
 disk_step_answer disk_step(uint8_t *store, size_t store_length, uint64_t kind, uint64_t a, uint64_t b, uint64_t c, const uint8_t *data, size_t data_length,
@@ -283,7 +335,7 @@ disk_event_answer disk_parse(const uint8_t *line, size_t line_length, size_t siz
 
 /* The line of text of an event. Numbers that the kind does not have, and data where it has none, are not looked at.
  * 0: the line is in line[0 .. length], its line feed last; the bytes after it have not changed.
- * 3: the kind is not 1 to 22, or it is a put's and data_length is not size, or the line would have more than 16,500 bytes or more than line_length. */
+ * 3: the kind is not 1 to DISK_KINDS, or it is a put's and data_length is not size, or the line would have more than 16,500 bytes or more than line_length. */
 disk_line_answer disk_print(uint64_t kind, uint64_t a, uint64_t b, uint64_t c, const uint8_t *data, size_t data_length, size_t size, uint8_t *line,
                             size_t line_length);
 
