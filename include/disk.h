@@ -4,7 +4,7 @@
  * - Stack: every call needs less than DISK_STACK_BYTES, mend the most of it. Nothing is allocated, and no pointer is kept.
  * - Threads: there is no state but the lent areas. Calls on different stores may run at once; on one store one at a time, but for calls that only read it
  *   (disk_check, disk_read, disk_bag, disk_alike), which may run beside each other.
- * - Machines: 64-bit ones alone, with the least byte first; a compiler for another refuses this header.
+ * - Machines: the library is compiled for x86-64; a compiler for 32 bits refuses this header.
  * - Pointers: none is NULL, also where its length is 0. For an area that a call does not look at, lend the address of any byte with length 0, or call
  *   disk_do, disk_put or disk_get, which do so.
  * - Areas: one that a call writes overlaps no other area of that call. Bytes may begin anywhere; events, answers, block numbers and relays lie where C may

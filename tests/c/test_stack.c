@@ -126,7 +126,7 @@ static const row life[] = {
 };
 
 /* The most bytes that a step of each kind took. */
-static size_t most[DISK_COLLECT + 1];
+static size_t most[DISK_KINDS + 1];
 
 static void one_by_one(void)
 {
@@ -143,7 +143,7 @@ static void one_by_one(void)
 
 static void every_kind(void)
 {
-    for (int kind = DISK_PUT; kind <= DISK_COLLECT; kind++) {
+    for (int kind = 1; kind <= DISK_KINDS; kind++) {
         char name[12];
         snprintf(name, sizeof name, "%d", kind);
         EXPECT(most[kind] > 0);
