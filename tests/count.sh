@@ -6,12 +6,15 @@ trap 'rm -rf "$out" "$out.status" ${memory:+"$memory"}' EXIT
 passed=0
 failed=0
 
-# runs a command, shows its output as it comes, keeps it in $out, and leaves the command's own exit status in $status: a pipe's would be that of tee
+# runs a command, shows its output as it comes and how long it took, keeps the output in $out, and leaves the command's own exit status in $status: a pipe's
+# would be that of tee
 run() {
     echo "== $*"
+    began=$(date +%s)
     echo 1 >"$out.status"
     { "$@" 2>&1; echo $? >"$out.status"; } | tee "$out"
     status=$(cat "$out.status")
+    echo "== took $(($(date +%s) - began)) s"
 }
 
 # the counts in $out, 'passed failed' on a line: of the last line 'N passed, M failed', or of each of cargo's lines of results
