@@ -7,6 +7,7 @@ import re
 import sys
 
 WORD = re.compile(r"(?<![\w'-])[A-Za-z_][\w']*(?:-[\w']+)+")
+MODULE = re.compile(r"(?m)^(?:ghost )?use ([\w.'·ᴰ]+)\.([\w'ᴰ]+)(?: as ([\w'ᴰ]+))?;?$")
 USE = re.compile(r"use\s+([\w.'+«»]+)\.\{([^}]*)\}")
 DECL = re.compile(r"^\s*(?:(?:abbrev|unfoldable|instance|pub|data|record|private|opaque|mutual)\s+)*([A-Za-z_][\w'-]*)\s*(?::|\(|\{|$)")
 
@@ -69,6 +70,7 @@ def main():
         for m in USE.finditer(t):
             if not own(m.group(1), crates):
                 taken |= {w.strip().split(" as ")[-1] for w in m.group(2).split(",")}
+        taken |= {m.group(3) or m.group(2) for m in MODULE.finditer(t) if not own(m.group(1), crates)}
         before = set(re.findall(r"[A-Za-z_][\w']*(?:-[\w']+)*", t))
         out = []
         for line in t.splitlines(keepends=True):

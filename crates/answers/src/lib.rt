@@ -29,7 +29,7 @@ fn put_data(data: &[u8], area: &mut [u8], at: usize) -> usize
         area::put(area, at, b'-');
         return at + 1;
     }
-    hex::encode(data, area, at);
+    hexadecimal::encode(data, area, at);
     at + 2 * data.len()
 }
 

@@ -18,7 +18,7 @@ use Rattle.rules.specs.State.{State}
 use Rattle.rules.specs.Derived.{up_member}
 use Rattle.rules.specs.Question.{AllYes}
 use Rattle.rules.specs.Writes.{target, nothing_to_copy, copy_asks, copy_effect}
-use Rattle.log.specs.Answers.{FoundAt}
+use Rattle.chunk_log.specs.Answers.{FoundAt}
 use Rattle.layout.specs.Contents.{Brick, blank_brick}
 use Rattle.layout.specs.Store.{brick_in, decode, render}
 use Rattle.lent.specs.Stores.{StoreOf}

@@ -19,8 +19,8 @@ use Rattle.rules.specs.State.{State}
 use Rattle.rules.specs.Derived.{nothing_pending}
 use Rattle.rules.specs.Upkeep.{pair_names, is_named, collect_effect}
 use Rattle.rules.proofs.Derived.{nothing_pending_agrees}
-use Rattle.log.specs.Log.{IsLog}
-use Rattle.log.proofs.Check.{looser}
+use Rattle.chunk_log.specs.Log.{IsLog}
+use Rattle.chunk_log.proofs.Check.{looser}
 use Rattle.sweep.specs.Marks.{with_marks, swept}
 use Rattle.sweep.proofs.Marks.{keep_named_leaves}
 use Rattle.layout.specs.Layout.{word_bytes, log_codec, log_words}

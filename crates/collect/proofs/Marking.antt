@@ -19,8 +19,8 @@ use Rattle.words.specs.Words.{words}
 use Rattle.words.proofs.Laws.{lent_run}
 use Rattle.rules.specs.declared.settings.Settings.{Settings}
 use Rattle.rules.specs.Limits.{buckets}
-use Rattle.log.specs.Log.{LogWith}
-use Rattle.log.proofs.Chunks.{fits_read, length_write}
+use Rattle.chunk_log.specs.Log.{LogWith}
+use Rattle.chunk_log.proofs.Chunks.{fits_read, length_write}
 use Rattle.sweep.specs.Marks.{with_marks, swept}
 use Rattle.sweep.proofs.Marks.{fits_marks, marked_twice, marked_same, unmarked, log_marked}
 use Rattle.layout.specs.Layout.{word_bytes, copy_words, log_words}

@@ -5,7 +5,7 @@ use Rattle.lists.specs.Runs.{run, on_run}
 use Rattle.rules.specs.declared.settings.Settings.{Settings}
 use Rattle.rules.specs.Limits.{buckets}
 use Rattle.rules.specs.Limits.{Limits}
-use Rattle.log.specs.Log.{LogWith}
+use Rattle.chunk_log.specs.Log.{LogWith}
 use Rattle.sweep.specs.Marks.{with_marks, swept}
 use Rattle.layout.specs.Layout.{word_bytes, copy_words, log_words}
 use Rattle.named.specs.Tables.{names_at}

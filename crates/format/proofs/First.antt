@@ -13,8 +13,8 @@ use Rattle.rules.specs.Limits.{buckets, max_relays}
 use Rattle.rules.specs.Chunks.{Chunk}
 use Rattle.rules.specs.Pairs.{Assignments}
 use Rattle.rules.specs.Format.{first_pairs, format}
-use Rattle.log.specs.Log.{log_enc}
-use Rattle.log.proofs.Changes.{cleared}
+use Rattle.chunk_log.specs.Log.{log_enc}
+use Rattle.chunk_log.proofs.Changes.{cleared}
 use Rattle.codec.specs.Codec.{Codec, ◌&◌, enc_two, ◌then◌, Row, table}
 use Rattle.codec.proofs.Laws.{Lawful}
 use Rattle.codec.proofs.Focus.{on_whole, many_same, if_present_some}

@@ -14,9 +14,9 @@ use Rattle.rules.specs.Derived.{members_from, holder}
 use Rattle.rules.specs.Sound.{keys_apart}
 use Rattle.rules.proofs.Chunks.{held_in}
 use Rattle.rules.proofs.Derived.{first_holder_held}
-use Rattle.log.specs.Log.{chunk_at}
-use Rattle.log.specs.Answers.{FoundAt}
-use Rattle.log.proofs.Rules.{found_bytes}
+use Rattle.chunk_log.specs.Log.{chunk_at}
+use Rattle.chunk_log.specs.Answers.{FoundAt}
+use Rattle.chunk_log.proofs.Rules.{found_bytes}
 use Rattle.layout.specs.Layout.{log_codec}
 use Rattle.layout.specs.Store.{decode}
 use Rattle.lent.specs.Parts.{LogPart}

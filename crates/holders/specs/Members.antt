@@ -9,7 +9,7 @@ use Rattle.rules.specs.Derived.{members}
 use Rattle.lent.specs.declared.brick.Found.{Found}
 use Rattle.lent.specs.declared.brick.Found.TheVariants.{At, Nowhere}
 use Rattle.lent.specs.Places.{Stands}
-use Rattle.log.specs.Answers.{FoundAt}
+use Rattle.chunk_log.specs.Answers.{FoundAt}
 use Rattle.holders.specs.declared.Location.{Location}
 use Rattle.holders.specs.declared.Location.TheVariants as lies
 

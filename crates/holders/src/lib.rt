@@ -7,8 +7,8 @@ ghost use Rattle.rules.specs.Derived.{members_from, first_holder, holder, saved_
 ghost use Rattle.rules.specs.Upkeep.{of_first_two};
 ghost use Rattle.rules.specs.Writes.{target};
 ghost use Rattle.layout.specs.Store.{decode};
-ghost use Rattle.log.specs.Log.{chunk_at};
-ghost use Rattle.log.specs.Answers.{FoundIn};
+ghost use Rattle.chunk_log.specs.Log.{chunk_at};
+ghost use Rattle.chunk_log.specs.Answers.{FoundIn};
 ghost use Rattle.lent.specs.Stores.{StoreOf};
 ghost use Rattle.holders.specs.Members.{between, member_within, NextIn, Chosen, LiesWith, member_saved, NextSaved, round, begins_with};
 
@@ -64,11 +64,11 @@ pub enum Location {
 }
 
 // The chunk in the log of the brick at the place.
-pub fn find_at(store: &[u8], settings: Settings, place: usize, key: ChunkKey) -> log::Found
+pub fn find_at(store: &[u8], settings: Settings, place: usize, key: ChunkKey) -> chunk_log::Found
     requires { StoreOf settings store.now × (place < settings.places) × (0 < (decode (words store.now)).ids place) }
     ensures { FoundIn ((decode (words store.now)).bricks.log ((decode (words store.now)).ids place)) key.0 result }
 {
-    log::find(
+    chunk_log::find(
         place::log(store, settings, place),
         settings.chunks,
         settings.size / sizes::WORD_BYTES,
@@ -81,7 +81,7 @@ pub fn holds_at(store: &[u8], settings: Settings, place: usize, key: ChunkKey) -
     requires { StoreOf settings store.now × (place < settings.places) × (0 < (decode (words store.now)).ids place) }
     ensures { result ≡ held ((decode (words store.now)).bricks.log ((decode (words store.now)).ids place)) key.0 }
 {
-    log::holds(
+    chunk_log::holds(
         place::log(store, settings, place),
         settings.chunks,
         settings.size / sizes::WORD_BYTES,
@@ -94,7 +94,7 @@ pub fn saved_at(store: &[u8], settings: Settings, place: usize, key: ChunkKey) -
     requires { StoreOf settings store.now × (place < settings.places) × (0 < (decode (words store.now)).ids place) }
     ensures { result ≡ saved_in ((decode (words store.now)).bricks.log ((decode (words store.now)).ids place)) key.0 }
 {
-    log::holds_saved(
+    chunk_log::holds_saved(
         place::log(store, settings, place),
         settings.chunks,
         settings.size / sizes::WORD_BYTES,
@@ -109,7 +109,7 @@ pub fn chunk<'a>(store: &'a [u8], settings: Settings, place: usize, row: usize) 
     ensures { result.now ≡ (chunk_at ((decode (words store.now)).bricks.log ((decode (words store.now)).ids place)) row).bytes }
 {
     let log = place::log(store, settings, place);
-    log::bytes_at(log, settings.chunks, settings.size / sizes::WORD_BYTES, row)
+    chunk_log::bytes_at(log, settings.chunks, settings.size / sizes::WORD_BYTES, row)
 }
 
 // Where the chunk lies with the first member between two ids that holds it.
@@ -123,7 +123,7 @@ fn first_holder(store: &[u8], settings: Settings, key: ChunkKey, from: u64, to: 
         let Found::At(place) = next_member(store, settings, low, to) else {
             return Location::Nowhere;
         };
-        if let log::Found::At(row) = find_at(store, settings, place, key) {
+        if let chunk_log::Found::At(row) = find_at(store, settings, place, key) {
             return Location::At(place, row);
         }
         low = place::id(store, settings, place) + 1;

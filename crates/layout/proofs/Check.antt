@@ -14,9 +14,9 @@ use Rattle.rules.specs.Numbers.{is_data}
 use Rattle.rules.specs.Chunks.{Chunk}
 use Rattle.rules.specs.Sound.{sound_chunk, sound_log, sound}
 use Rattle.rules.specs.Limits.{Limits}
-use Rattle.log.specs.Log.{good_log}
-use Rattle.log.proofs.Check.{is_log}
-use Rattle.log.proofs.Codec.{dec_length, log_clean, good_of_clean, dec_apart, dec_data}
+use Rattle.chunk_log.specs.Log.{good_log}
+use Rattle.chunk_log.proofs.Check.{is_log}
+use Rattle.chunk_log.proofs.Codec.{dec_length, log_clean, good_of_clean, dec_apart, dec_data}
 use Rattle.codec.specs.Codec.{Clean, word_limit}
 use Rattle.layout.specs.Layout.{log_codec, settings_of, log_words, store_words}
 use Rattle.layout.specs.Store.{decode, sound_words}

@@ -6,7 +6,7 @@ use native.Mathlib.Omega.{arith}
 use lib.ListN.{length}
 use Rattle.rules.specs.declared.settings.Settings.{Settings}
 use Rattle.rules.specs.Limits.{proxies, buckets, max_relays, max_items, max_waiting}
-use Rattle.log.proofs.Codec.{log_keeps, log_idem}
+use Rattle.chunk_log.proofs.Codec.{log_keeps, log_idem}
 use Rattle.codec.proofs.Laws.{Lawful, Exact, word_law, flag_law, fixed_law, via_law, then_law, many_law, table_law, if_present_law}
 use Rattle.layout.specs.Layout.{layout_version, settings_codec, head_codec, agreed_codec, items_codec, proxy_codec, bag_codec}
 use Rattle.layout.specs.Layout.{status_codec, buffer_codec, copy_codec, copies_codec, all_copies_codec, log_codec, brick_codec, place_codec}

@@ -18,7 +18,7 @@ use Rattle.rules.specs.Limits.{Limits}
 use Rattle.rules.proofs.Limits.{limits}
 use Rattle.rules.proofs.Sound.{EntryOk, RelayOk, KeyOf, Sound}
 use Rattle.rules.proofs.SoundTest.{facts_sound}
-use Rattle.log.proofs.Codec.{log_back, log_small}
+use Rattle.chunk_log.proofs.Codec.{log_back, log_small}
 use Rattle.codec.specs.Codec.{Fits, word_limit, word, flag, fixed, ◌&◌, ◌then◌}
 use Rattle.codec.proofs.Laws.{word_law, flag_law, fixed_law}
 use Rattle.codec.proofs.Round.{fits_word, fits_flag, fits_fixed, fits_via, fits_two, fits_many, fits_table, fits_if_present}

@@ -6,7 +6,7 @@ use Rattle.rules.specs.Limits.{proxies, buckets, max_relays, max_items, max_wait
 use Rattle.rules.specs.Entries.{Entry}
 use Rattle.rules.specs.Chunks.{Chunk}
 use Rattle.rules.specs.State.{Relay}
-use Rattle.log.specs.Log.{chunks_codec}
+use Rattle.chunk_log.specs.Log.{chunks_codec}
 use Rattle.codec.specs.Codec.{Codec, word, flag, fixed, via, ◌then◌, many, table, if_present}
 use Rattle.layout.specs.Contents.{Head, Agreed, Proxy, Status, Copies, Brick, Place, Contents, blank_agreed, blank_proxy, blank_copies, blank_brick, blank_place}
 use Rattle.layout.specs.Contents.{entry_row, relay_row, settings_reading, head_reading, agreed_reading, proxy_reading, status_reading}

@@ -13,7 +13,7 @@ use Rattle.words.proofs.Laws.{words_part}
 use Rattle.rules.specs.declared.settings.Settings.{Settings}
 use Rattle.rules.specs.Chunks.{Chunk}
 use Rattle.rules.specs.State.{State}
-use Rattle.log.specs.Log.{IsLog}
+use Rattle.chunk_log.specs.Log.{IsLog}
 use Rattle.layout.specs.Contents.{Brick}
 use Rattle.layout.specs.Layout.{word_bytes, log_codec, settings_of, log_words, place_words, store_words, place_at, log_at}
 use Rattle.layout.specs.Store.{brick_in, decode, render}

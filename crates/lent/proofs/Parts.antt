@@ -14,9 +14,9 @@ use Rattle.rules.specs.declared.settings.Settings.{Settings}
 use Rattle.rules.specs.Limits.{buckets, max_waiting}
 use Rattle.rules.specs.Entries.{Entry, ascending}
 use Rattle.rules.specs.Chunks.{Chunk}
-use Rattle.log.specs.Log.{IsLog}
-use Rattle.log.proofs.Check.{is_log}
-use Rattle.log.proofs.Codec.{dec_length, good_of_clean}
+use Rattle.chunk_log.specs.Log.{IsLog}
+use Rattle.chunk_log.proofs.Check.{is_log}
+use Rattle.chunk_log.proofs.Codec.{dec_length, good_of_clean}
 use Rattle.codec.specs.Codec.{Clean}
 use Rattle.codec.proofs.Focus.{Focus, ◌through◌, at_offset, part_length, clean_part}
 use Rattle.layout.specs.Contents.{entry_row, Place}

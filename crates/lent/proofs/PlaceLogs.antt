@@ -9,7 +9,7 @@ use Rattle.lists.specs.Runs.{run, on_run}
 use Rattle.words.specs.Words.{words}
 use Rattle.words.proofs.Laws.{lent_run}
 use Rattle.rules.specs.declared.settings.Settings.{Settings}
-use Rattle.log.specs.Log.{IsLog}
+use Rattle.chunk_log.specs.Log.{IsLog}
 use Rattle.layout.specs.Layout.{word_bytes, log_words, log_at}
 use Rattle.layout.proofs.Lent.{lent}
 use Rattle.lent.specs.Places.{PlaceLog}

@@ -9,7 +9,7 @@ use Rattle.lists.proofs.Runs.{fits_in, run_length, run_at}
 use Rattle.words.specs.Words.{words}
 use Rattle.words.proofs.Laws.{length_words, words_part, lent_run}
 use Rattle.rules.specs.declared.settings.Settings.{Settings}
-use Rattle.log.specs.Log.{IsLog}
+use Rattle.chunk_log.specs.Log.{IsLog}
 use Rattle.codec.specs.Codec.{Codec, change}
 use Rattle.codec.proofs.Focus.{Focus, ◌through◌}
 use Rattle.codec.proofs.Changes.{part_stays, value_changed}

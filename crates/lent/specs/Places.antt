@@ -8,7 +8,7 @@ use Rattle.rules.specs.Chunks.{Chunk}
 use Rattle.rules.specs.State.{State, set_bricks, with_log}
 use Rattle.rules.specs.Derived.{up_member}
 use Rattle.rules.specs.Limits.{Limits}
-use Rattle.log.specs.Log.{IsLog}
+use Rattle.chunk_log.specs.Log.{IsLog}
 use Rattle.codec.specs.Codec.{Clean, ◌&◌}
 use Rattle.layout.specs.Contents.{Place, blank_brick}
 use Rattle.layout.specs.Layout.{word_bytes, place_codec, all_places_codec, copy_words, log_words, place_words, place_at, copies_at, log_at, place_part}

@@ -20,7 +20,7 @@ use Rattle.rules.specs.Entries.{Entry}
 use Rattle.rules.specs.Chunks.{Chunk, held}
 use Rattle.rules.specs.State.{State}
 use Rattle.rules.specs.Upkeep.{mend_buckets, mended}
-use Rattle.log.proofs.Codec.{dec_length}
+use Rattle.chunk_log.proofs.Codec.{dec_length}
 use Rattle.layout.specs.Store.{decode}
 use Rattle.lent.specs.Stores.{StoreOf}
 use Rattle.lent.specs.Parts.{LogPart}

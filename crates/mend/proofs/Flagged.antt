@@ -20,9 +20,9 @@ use Rattle.rules.specs.State.{State}
 use Rattle.rules.specs.Limits.{max_places}
 use Rattle.rules.specs.Derived.{holder}
 use Rattle.rules.specs.Sound.{keys_apart}
-use Rattle.log.specs.Log.{chunk_at}
-use Rattle.log.specs.Answers.{FoundAt}
-use Rattle.log.proofs.Rules.{held_at, not_held, apart_at}
+use Rattle.chunk_log.specs.Log.{chunk_at}
+use Rattle.chunk_log.specs.Answers.{FoundAt}
+use Rattle.chunk_log.proofs.Rules.{held_at, not_held, apart_at}
 use Rattle.layout.specs.Store.{decode}
 use Rattle.lent.specs.Places.{Stands}
 use Rattle.lent.specs.Stores.{StoreOf}

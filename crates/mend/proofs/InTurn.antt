@@ -18,7 +18,7 @@ use Rattle.rules.specs.Entries.{Entry}
 use Rattle.rules.specs.Chunks.{Chunk}
 use Rattle.rules.specs.State.{State}
 use Rattle.rules.specs.Upkeep.{mend_key, mend_keys}
-use Rattle.log.proofs.Codec.{log_keeps}
+use Rattle.chunk_log.proofs.Codec.{log_keeps}
 use Rattle.layout.specs.Layout.{word_bytes, log_codec, copy_codec, copy_words, log_words, store_words}
 use Rattle.layout.specs.Store.{decode}
 use Rattle.entries.specs.Entries.{entry_at}

@@ -13,8 +13,8 @@ use Rattle.words.proofs.Laws.{lent_run}
 use Rattle.rules.specs.declared.settings.Settings.{Settings}
 use Rattle.rules.specs.Chunks.{Chunk}
 use Rattle.codec.specs.Codec.{change}
-use Rattle.log.proofs.Steps.{clean}
-use Rattle.log.proofs.Codec.{dec_length}
+use Rattle.chunk_log.proofs.Steps.{clean}
+use Rattle.chunk_log.proofs.Codec.{dec_length}
 use Rattle.layout.specs.Layout.{word_bytes, log_codec, log_words, place_words, store_words, place_at, log_at}
 use Rattle.layout.specs.Store.{decode}
 use Rattle.layout.proofs.Lent.{lent}

@@ -23,9 +23,9 @@ use Rattle.rules.proofs.Sound.{Sound, LogOk, KeyOf}
 use Rattle.history.proofs.Sound.Groups.{log_sound}
 use Rattle.history.proofs.Sound.Lists.{log_append, log_save}
 use Rattle.history.proofs.Sound.Writes.{held_ok}
-use Rattle.log.proofs.Codec.{fits_from, log_keeps}
-use Rattle.log.proofs.Chunks.{write_write}
-use Rattle.log.specs.Log.{log_enc, from_chunk}
+use Rattle.chunk_log.proofs.Codec.{fits_from, log_keeps}
+use Rattle.chunk_log.proofs.Chunks.{write_write}
+use Rattle.chunk_log.specs.Log.{log_enc, from_chunk}
 use Rattle.layout.specs.Layout.{word_bytes, log_codec, settings_of, log_words, store_words}
 use Rattle.layout.specs.Store.{decode, render}
 use Rattle.layout.proofs.Sound.{SoundWords}

@@ -11,7 +11,7 @@ use Rattle.rules.specs.declared.settings.Settings.{Settings}
 use Rattle.rules.specs.Chunks.{Chunk, new_chunk, held, bytes_in, append, save_key}
 use Rattle.rules.specs.State.{State}
 use Rattle.rules.specs.Derived.{holder}
-use Rattle.log.specs.Log.{chunk_at}
+use Rattle.chunk_log.specs.Log.{chunk_at}
 use Rattle.layout.specs.Store.{decode}
 use Rattle.holders.proofs.Contents.{bytes_at_holder, holder_size}
 use Rattle.mend.specs.Fit.{with_log_at, log_of, Mends, key_mended}

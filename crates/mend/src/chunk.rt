@@ -18,7 +18,7 @@ pub fn save_chunk(part: &mut [u8], settings: Settings, key: ChunkKey)
 {
     let a = 8 * sizes::log_at(settings);
     let e = a + 8 * sizes::log_words(settings);
-    log::save_key(
+    chunk_log::save_key(
         &mut part[a..e],
         settings.chunks,
         settings.size / sizes::WORD_BYTES,
@@ -35,7 +35,7 @@ pub fn append_saved(part: &mut [u8], settings: Settings, key: ChunkKey, bytes: &
 {
     let a = 8 * sizes::log_at(settings);
     let e = a + 8 * sizes::log_words(settings);
-    log::append(
+    chunk_log::append(
         &mut part[a..e],
         settings.chunks,
         settings.size / sizes::WORD_BYTES,

@@ -16,8 +16,8 @@ use Rattle.area.proofs.Laws.{onto_nothing}
 use Rattle.area.proofs.Each.{Above, each_none, each_more}
 use Rattle.decimal.specs.Decimal.{push, spelled, number_of, and_then, answer}
 use Rattle.decimal.proofs.Laws.{spelled_append, spells_none}
-use Rattle.hex.specs.Hex.{only_digits, unhex, spells_bytes, hex_bytes}
-use Rattle.hex.proofs.Laws.{digit_cases, digits_head}
+use Rattle.hexadecimal.specs.Hex.{only_digits, unhex, spells_bytes, hex_bytes}
+use Rattle.hexadecimal.proofs.Laws.{digit_cases, digits_head}
 use Rattle.rules.specs.Event.{kind_at, EventFields}
 use Rattle.text.specs.Kinds.{kind_of_word, packed_upto, packed, kind_of_packed}
 use Rattle.text.specs.Table.{kind_number}

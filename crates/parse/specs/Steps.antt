@@ -2,7 +2,7 @@
 use Rattle.std.specs.Prelude.{Bool, true, false, cond, List, [], ◌∷◌, ◌≡◌, ℕ, ◌+◌, ◌-◌, ◌≤◌, leb, length, get_or, take, drop}
 use Rattle.std.proofs.Math.Option.{Option, some, none}
 use Rattle.decimal.specs.Decimal.{spelled, number_of}
-use Rattle.hex.specs.Hex.{unhex, spells_bytes}
+use Rattle.hexadecimal.specs.Hex.{unhex, spells_bytes}
 use Rattle.text.specs.Kinds.{kind_of_word, kind_of_packed}
 use Rattle.text.specs.Fields.{fields}
 use Rattle.rules.specs.Event.{EventFields}

@@ -196,7 +196,7 @@ fn read_body(body: &[u8], size: usize) -> Reading
         if body.len() < next {
             return Reading::Refused;
         }
-        if hex::is_bytes(&body[next..], size) {
+        if hexadecimal::is_bytes(&body[next..], size) {
             return Reading::Loaded {
                 kind: kind as u64,
                 a,
@@ -237,7 +237,7 @@ fn parse_body(body: &[u8], size: usize, data: &mut [u8]) -> Parsed
             if data.len() != size {
                 return Parsed::Refused;
             }
-            hex::decode(&body[from..], data);
+            hexadecimal::decode(&body[from..], data);
             Parsed::Is { kind, a, b, c }
         }
         Reading::Refused => Parsed::Refused,

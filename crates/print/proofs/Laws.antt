@@ -12,8 +12,8 @@ use Rattle.lists.proofs.Tests.{by, by_lt}
 use Rattle.area.proofs.Laws.{onto_then, onto_nothing}
 use Rattle.area.proofs.Each.{Below, each_none, each_more}
 use Rattle.decimal.specs.Decimal.{decimal}
-use Rattle.hex.specs.Hex.{hex}
-use Rattle.hex.proofs.Laws.{hex_length}
+use Rattle.hexadecimal.specs.Hex.{hex}
+use Rattle.hexadecimal.proofs.Laws.{hex_length}
 use Rattle.text.specs.Table.{shape_of}
 use Rattle.text.specs.declared.Shape.{Shape}
 use Rattle.rules.specs.Event.{kind_count, kind_at, EventFields, fields_brought}

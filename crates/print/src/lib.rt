@@ -3,7 +3,7 @@ ghost use Rattle.std.specs.Prelude.{◌≡◌, ◌∷◌, ◌+◌, ◌*◌, ◌�
 ghost use Rattle.rules.specs.Event.{kind_count, fields_brought};
 ghost use Rattle.area.specs.Area.{onto};
 ghost use Rattle.decimal.specs.Decimal.{decimal};
-ghost use Rattle.hex.specs.Hex.{hex};
+ghost use Rattle.hexadecimal.specs.Hex.{hex};
 ghost use Rattle.text.specs.Fields.{comma};
 ghost use Rattle.text.specs.Lines.{line_of};
 ghost use Rattle.print.specs.Answers.{printed, line_after};
@@ -103,7 +103,7 @@ fn put_data(data: &[u8], line: &mut [u8], at: usize) -> usize
         × (line.new ≡ onto at (comma ∷ hex «data».now) line.old) }
 {
     area::put(line, at, b',');
-    hex::encode(data, line, at + 1);
+    hexadecimal::encode(data, line, at + 1);
     at + 1 + 2 * data.len()
 }
 

@@ -17,7 +17,7 @@ use Rattle.rules.specs.Derived.{holder}
 use Rattle.rules.specs.Question.{first_no, AllYes}
 use Rattle.rules.specs.Reads.{mapped, get_asks, get_bytes, zeros}
 use Rattle.rules.proofs.Questions.{first_yes, first_stop, none_asked, goes_on, all_yes}
-use Rattle.log.specs.Log.{chunk_at}
+use Rattle.chunk_log.specs.Log.{chunk_at}
 use Rattle.layout.specs.Store.{decode}
 use Rattle.lent.specs.Stores.{StoreOf}
 use Rattle.lent.proofs.Stores.{settings_are}

@@ -15,11 +15,11 @@ use Rattle.lists.proofs.Lists.{get_or_map_in}
 use Rattle.rules.specs.declared.settings.Settings.{Settings}
 use Rattle.rules.specs.Numbers.{sequences, home_of, sequence_of}
 use Rattle.rules.specs.Chunks.{Chunk, new_chunk}
-use Rattle.log.specs.Log.{row_key, row_saved, position_at, key_by, rises_at, stored, to_chunk, read_log, log_dec, good_log, IsLog}
-use Rattle.log.specs.Steps.{row_good, good_order}
-use Rattle.log.proofs.Chunks.{length_read, read_key, reach}
-use Rattle.log.proofs.Codec.{dec_length}
-use Rattle.log.proofs.Check.{good_over, is_log, good_in_order, row_far, row_flag, row_fine, row_key_by, order_all}
+use Rattle.chunk_log.specs.Log.{row_key, row_saved, position_at, key_by, rises_at, stored, to_chunk, read_log, log_dec, good_log, IsLog}
+use Rattle.chunk_log.specs.Steps.{row_good, good_order}
+use Rattle.chunk_log.proofs.Chunks.{length_read, read_key, reach}
+use Rattle.chunk_log.proofs.Codec.{dec_length}
+use Rattle.chunk_log.proofs.Check.{good_over, is_log, good_in_order, row_far, row_flag, row_fine, row_key_by, order_all}
 use Rattle.rules.specs.Limits.{Limits}
 use Rattle.layout.specs.Layout.{log_codec, log_words}
 use Rattle.layout.proofs.Check.{log_sound as sound_of_good, log_keys}

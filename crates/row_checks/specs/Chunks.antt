@@ -6,8 +6,8 @@ use Rattle.rules.specs.declared.settings.Settings.{Settings}
 use Rattle.rules.specs.Limits.{max_chunks}
 use Rattle.rules.specs.Sound.{sound_log}
 use Rattle.words.specs.Words.{words}
-use Rattle.log.specs.Log.{row_saved, position_at, key_by, good_log}
-use Rattle.log.specs.Steps.{row_good}
+use Rattle.chunk_log.specs.Log.{row_saved, position_at, key_by, good_log}
+use Rattle.chunk_log.specs.Steps.{row_good}
 use Rattle.layout.specs.Layout.{log_codec, log_words}
 use Rattle.rules.specs.Limits.{Limits}
 use Rattle.row_checks.specs.Rows.{ids}

@@ -12,10 +12,10 @@ use borrow.Author.Tests.{eqb-true, eqb-false}
 use Rattle.lists.specs.Runs.{Sized, none}
 use Rattle.lists.proofs.Tests.{by, by_eq, by_lt}
 use Rattle.lists.proofs.Runs.{sized_at}
-use Rattle.log.specs.Log.{Stored, stored, cell_of, stored_at, key_at, saved_of, positions_of}
-use Rattle.log.proofs.Positions as order
-use Rattle.log.proofs.Positions.{pick}
-use Rattle.log.proofs.Changes.{sized_more}
+use Rattle.chunk_log.specs.Log.{Stored, stored, cell_of, stored_at, key_at, saved_of, positions_of}
+use Rattle.chunk_log.proofs.Positions as order
+use Rattle.chunk_log.proofs.Positions.{pick}
+use Rattle.chunk_log.proofs.Changes.{sized_more}
 use Rattle.sweep.specs.Sweep.{stays, plain, kept_chunks, kept_first, rank}
 
 kept_more : (xs : List Stored) (x : Stored) → kept_chunks (xs ++ x ∷ []) ≡ cond (stays x.saved) (kept_chunks xs ++ plain x ∷ []) (kept_chunks xs)

@@ -15,15 +15,15 @@ use Rattle.lists.proofs.Tests.{by, by_eq, impossible, length_only}
 use Rattle.lists.proofs.Lists.{same_cons, get_or_map_in, map_only}
 use Rattle.words.specs.Words.{words}
 use Rattle.rules.specs.Chunks.{Chunk, only_saved, only_named, held}
-use Rattle.log.specs.Log.{Stored, stored, cell_of, stored_at, key_at, saved_of, write_log, read_log, row_saved, LogWith, IsLog, Fits, log_size, log_dec}
-use Rattle.log.specs.Log.{log_enc, from_chunk, chunk_at}
-use Rattle.log.specs.Steps.{with_saved, put_saved, tag}
-use Rattle.log.specs.Answers.{FoundAt}
-use Rattle.log.proofs.Chunks.{length_read, read_saved, fits_read, log_write, write_read, read_write, write_write, distinct_read}
-use Rattle.log.proofs.Changes.{set_saved}
-use Rattle.log.proofs.Codec.{dec_length}
-use Rattle.log.proofs.Rules.{held_at}
-use Rattle.log.proofs.Steps.{sizes, same, count_is, dec_at, found_row, chunks_back, as_chunks}
+use Rattle.chunk_log.specs.Log.{Stored, stored, cell_of, stored_at, key_at, saved_of, write_log, read_log, row_saved, LogWith, IsLog, Fits, log_size, log_dec}
+use Rattle.chunk_log.specs.Log.{log_enc, from_chunk, chunk_at}
+use Rattle.chunk_log.specs.Steps.{with_saved, put_saved, tag}
+use Rattle.chunk_log.specs.Answers.{FoundAt}
+use Rattle.chunk_log.proofs.Chunks.{length_read, read_saved, fits_read, log_write, write_read, read_write, write_write, distinct_read}
+use Rattle.chunk_log.proofs.Changes.{set_saved}
+use Rattle.chunk_log.proofs.Codec.{dec_length}
+use Rattle.chunk_log.proofs.Rules.{held_at}
+use Rattle.chunk_log.proofs.Steps.{sizes, same, count_is, dec_at, found_row, chunks_back, as_chunks}
 use Rattle.sweep.specs.Sweep.{stays, plain, kept_chunks, triple_of}
 use Rattle.sweep.specs.Marks.{mark, with_marks, swept}
 use Rattle.sweep.proofs.Tags.{tag_map}

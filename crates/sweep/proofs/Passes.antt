@@ -9,15 +9,15 @@ use lib.ListN.{length, take, drop, get_or, set, length-append, length-drop, leng
 use Rattle.lists.specs.Runs.{enc_all, Sized}
 use Rattle.lists.proofs.Tests.{by}
 use Rattle.lists.proofs.Runs.{fits_in}
-use Rattle.log.specs.Log.{Stored, row_of, cell_of, stored_at, key_at, saved_of, rows_in, positions_in, cells_in, lay, over, read_log}
-use Rattle.log.specs.Log.{row_key, row_saved, position_at}
-use Rattle.log.specs.Steps.{tag}
-use Rattle.log.proofs.Positions as order
-use Rattle.log.proofs.Regions.{length_over, over_at, over_two, over_set, drop_over, over_past, over_set_past, over_one, over_run, lay_row, lay_row_at}
-use Rattle.log.proofs.Regions.{lay_position_at, lay_position, lay_rows, lay_positions, lay_past, lay_cells, lay_paste, length_rows, length_positions}
-use Rattle.log.proofs.Regions.{length_cells, regions, row_word, position_word}
-use Rattle.log.proofs.Chunks.{length_row_words, length_cells_in, enc_key, enc_saved}
-use Rattle.log.proofs.Changes.{rows_more, cells_more, rows_put, tag_turn, tag_length}
+use Rattle.chunk_log.specs.Log.{Stored, row_of, cell_of, stored_at, key_at, saved_of, rows_in, positions_in, cells_in, lay, over, read_log}
+use Rattle.chunk_log.specs.Log.{row_key, row_saved, position_at}
+use Rattle.chunk_log.specs.Steps.{tag}
+use Rattle.chunk_log.proofs.Positions as order
+use Rattle.chunk_log.proofs.Regions.{length_over, over_at, over_two, over_set, drop_over, over_past, over_set_past, over_one, over_run, lay_row, lay_row_at}
+use Rattle.chunk_log.proofs.Regions.{lay_position_at, lay_position, lay_rows, lay_positions, lay_past, lay_cells, lay_paste, length_rows, length_positions}
+use Rattle.chunk_log.proofs.Regions.{length_cells, regions, row_word, position_word}
+use Rattle.chunk_log.proofs.Chunks.{length_row_words, length_cells_in, enc_key, enc_saved}
+use Rattle.chunk_log.proofs.Changes.{rows_more, cells_more, rows_put, tag_turn, tag_length}
 use Rattle.sweep.specs.Sweep.{stays, plain, kept_first, plain_of, next_by, pick_first, put_positions, numbered, packing, moved, packed}
 use Rattle.sweep.proofs.Tags.{tag_past}
 use Rattle.sweep.proofs.Kept.{kept_first_yes, kept_first_no, kept_first_few, kept_first_sized}

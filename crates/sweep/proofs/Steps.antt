@@ -7,12 +7,12 @@ use native.Mathlib.Nat.{le_refl}
 use lib.ListN.{length, take, drop, get_or, set, take-append-drop}
 use lib.Seq.{paste, drop-drop}
 use borrow.Author.Tests.{eq-eqb, ne_eqb}
-use Rattle.log.specs.Log.{Stored, stored_at, saved_of, cells_in, write_log, read_log, row_key, row_saved, position_at, LogWith, Fits}
-use Rattle.log.specs.Steps.{tag}
-use Rattle.log.proofs.Positions as order
-use Rattle.log.proofs.Chunks.{length_read, read_saved, read_cell, sized_read, fits_read, write_saved}
-use Rattle.log.proofs.Changes.{tag_length, tag_fits}
-use Rattle.log.proofs.Steps.{sizes, count_is, tagged, tag_start}
+use Rattle.chunk_log.specs.Log.{Stored, stored_at, saved_of, cells_in, write_log, read_log, row_key, row_saved, position_at, LogWith, Fits}
+use Rattle.chunk_log.specs.Steps.{tag}
+use Rattle.chunk_log.proofs.Positions as order
+use Rattle.chunk_log.proofs.Chunks.{length_read, read_saved, read_cell, sized_read, fits_read, write_saved}
+use Rattle.chunk_log.proofs.Changes.{tag_length, tag_fits}
+use Rattle.chunk_log.proofs.Steps.{sizes, count_is, tagged, tag_start}
 use Rattle.sweep.specs.Sweep.{RenumberStep, PackStep, stays, plain, kept_chunks, kept_first, rank, tag_of, next_by, pick_first, put_positions, numbered}
 use Rattle.sweep.specs.Sweep.{packing, moved, packed, triple_of}
 use Rattle.sweep.proofs.Tags.{tag_past}

@@ -11,15 +11,15 @@ use lib.ListN.{length, take, get_or, set}
 use lib.Seq.{take_all, take-suc}
 use Rattle.lists.specs.Runs.{enc_all}
 use Rattle.lists.proofs.Tests.{by}
-use Rattle.log.specs.Log.{Stored, row_of, cell_of, stored_at, key_at, saved_of, positions_of, rows_in, positions_in, cells_in, lay, over, write_log, read_log}
-use Rattle.log.specs.Log.{row_saved, position_at, Ordered, Fits}
-use Rattle.log.specs.Steps.{with_saved, tag}
-use Rattle.log.proofs.Positions as order
-use Rattle.log.proofs.Positions.{pick}
-use Rattle.log.proofs.Regions.{over_over, regions}
-use Rattle.log.proofs.Chunks.{length_row_words, length_positions_of, fits_read, rows_over, cells_over, distinct_read, position_over, write_count}
-use Rattle.log.proofs.Chunks.{write_rows, write_position, write_cells, length_write, read_write, write_saved, write_pos, positions_of_below, write_as}
-use Rattle.log.proofs.Changes.{tag_length, tag_fits}
+use Rattle.chunk_log.specs.Log.{Stored, row_of, cell_of, stored_at, key_at, saved_of, positions_of, rows_in, positions_in, cells_in, lay, over, write_log, read_log}
+use Rattle.chunk_log.specs.Log.{row_saved, position_at, Ordered, Fits}
+use Rattle.chunk_log.specs.Steps.{with_saved, tag}
+use Rattle.chunk_log.proofs.Positions as order
+use Rattle.chunk_log.proofs.Positions.{pick}
+use Rattle.chunk_log.proofs.Regions.{over_over, regions}
+use Rattle.chunk_log.proofs.Chunks.{length_row_words, length_positions_of, fits_read, rows_over, cells_over, distinct_read, position_over, write_count}
+use Rattle.chunk_log.proofs.Chunks.{write_rows, write_position, write_cells, length_write, read_write, write_saved, write_pos, positions_of_below, write_as}
+use Rattle.chunk_log.proofs.Changes.{tag_length, tag_fits}
 use Rattle.sweep.specs.Sweep.{stays, plain, kept_chunks, kept_first, rank, tag_of, plain_of, pick_first, put_positions, packing}
 use Rattle.sweep.proofs.Tags.{tag_at, tag_cells, tag_position, tag_same, tag_map, tag_tag}
 use Rattle.sweep.proofs.Kept.{kept_first_kept, kept_first_yes, kept_first_no, kept_first_none, position_kept}

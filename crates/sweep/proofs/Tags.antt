@@ -6,10 +6,10 @@ use native.Mathlib.Nat.{not-suc-le-zero, le_of_suc-le-suc}
 use native.Mathlib.Omega.{arith}
 use lib.ListN.{length}
 use Rattle.lists.specs.Runs.{enc_all}
-use Rattle.log.specs.Log.{Stored, cell_of, stored_at, key_at, positions_of}
-use Rattle.log.specs.Steps.{with_saved, tag}
-use Rattle.log.proofs.Positions as order
-use Rattle.log.proofs.Changes.{tag_length}
+use Rattle.chunk_log.specs.Log.{Stored, cell_of, stored_at, key_at, positions_of}
+use Rattle.chunk_log.specs.Steps.{with_saved, tag}
+use Rattle.chunk_log.proofs.Positions as order
+use Rattle.chunk_log.proofs.Changes.{tag_length}
 
 pub tag_past : (g : ℕ → ℕ) (i : ℕ) (cs : List Stored) (j : ℕ) → i ≤ j → stored_at (tag g i cs) j ≡ stored_at cs j
 unfolding tag

@@ -1,7 +1,7 @@
 -- Marks, and what a sweep leaves of a marked log.
 use Rattle.std.specs.Prelude.{Bool, cond, List, map, ℕ, ◌+◌, ◌%◌}
-use Rattle.log.specs.Log.{Stored, write_log, read_log}
-use Rattle.log.specs.Steps.{with_saved}
+use Rattle.chunk_log.specs.Log.{Stored, write_log, read_log}
+use Rattle.chunk_log.specs.Steps.{with_saved}
 use Rattle.sweep.specs.Sweep.{plain, kept_chunks}
 
 -- a chunk that stays

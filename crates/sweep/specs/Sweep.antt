@@ -3,9 +3,9 @@
 use Rattle.std.specs.Prelude.{◌≡◌, Bool, cond, List, [], ◌∷◌, ◌++◌, ℕ, zero, suc, ◌+◌, ◌*◌, ◌-◌, ◌/◌, ◌%◌, eqb, length, get_or, set, drop}
 use Rattle.std.proofs.Math.Seq.{paste}
 use Rattle.lists.specs.Runs.{enc_all}
-use Rattle.log.specs.Log.{Stored, row_of, cell_of, stored_at, saved_of, rows_in, positions_in, cells_in, lay, over, row_key, row_saved, position_at}
-use Rattle.log.specs.Log.{write_log, read_log}
-use Rattle.log.specs.Steps.{with_saved, tag}
+use Rattle.chunk_log.specs.Log.{Stored, row_of, cell_of, stored_at, saved_of, rows_in, positions_in, cells_in, lay, over, row_key, row_saved, position_at}
+use Rattle.chunk_log.specs.Log.{write_log, read_log}
+use Rattle.chunk_log.specs.Steps.{with_saved, tag}
 
 -- a chunk with this saved word stays
 abbrev pub stays : ℕ → Bool

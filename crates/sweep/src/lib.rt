@@ -5,7 +5,7 @@ ghost use Rattle.std.proofs.Math.Seq.{paste};
 ghost use Rattle.words.specs.Words.{words};
 ghost use Rattle.rules.specs.Chunks.{only_saved};
 ghost use Rattle.codec.specs.Codec.{change};
-ghost use Rattle.log.specs.Log.{chunks_codec, log_size, position_at, LogWith, IsLog};
+ghost use Rattle.chunk_log.specs.Log.{chunks_codec, log_size, position_at, LogWith, IsLog};
 ghost use Rattle.sweep.specs.Sweep.{ranked, pick_first, put_positions, moved, RenumberStep, PackStep, PackAll};
 ghost use Rattle.sweep.specs.Marks.{with_marks, swept};
 
@@ -122,12 +122,12 @@ pub fn mark_key(log: &mut [u8], chunks: usize, width: usize, k: ChunkKey)
     requires { LogWith 3 chunks width (words log.old) (length log.old) }
     ensures { words log.new ≡ with_marks chunks width (λ x. eqb k.0 x.key) (words log.old) }
 {
-    match log::find(log, chunks, width, k) {
-        log::Found::At(p) => {
+    match chunk_log::find(log, chunks, width, k) {
+        chunk_log::Found::At(p) => {
             let s = words::read(log, 2 + 2 * p);
             words::write(log, 2 + 2 * p, s % 2 + 2);
         }
-        log::Found::Nothing => {}
+        chunk_log::Found::Nothing => {}
     }
 }
 

@@ -7,7 +7,7 @@ use Prim.Native.Nat.{◌^◌, ◌-◌}
 use Prim.Native.String.{String}
 use Rattle.lists.specs.Tests.{◌and◌, same_numbers}
 use Rattle.decimal.specs.Decimal.{digits, decimal, push, and_then, spelled, number_of}
-use Rattle.hex.specs.Hex.{hex_digit, hex, is_digit, digit_value, only_digits, unhex, spells_bytes, hex_bytes}
+use Rattle.hexadecimal.specs.Hex.{hex_digit, hex, is_digit, digit_value, only_digits, unhex, spells_bytes, hex_bytes}
 use Rattle.rules.specs.Event.{ascii, kinds, kind_at, EventFields}
 use Rattle.text.specs.Kinds.{kind_from, kind_of_word}
 use Rattle.text.specs.Fields.{parted, before, fields}

@@ -15,8 +15,8 @@ use Rattle.area.proofs.Each.{Below, each_none, each_more, each_append, each_of}
 use Rattle.decimal.specs.Decimal.{decimal, number_of, and_then}
 use Rattle.decimal.proofs.Laws.{then_some}
 use Rattle.decimal.proofs.RoundTrip.{number_there, number_back, number_fits, decimal_above}
-use Rattle.hex.specs.Hex.{hex}
-use Rattle.hex.proofs.Laws.{bytes_there, bytes_back, hex_all_above}
+use Rattle.hexadecimal.specs.Hex.{hex}
+use Rattle.hexadecimal.proofs.Laws.{bytes_there, bytes_back, hex_all_above}
 use Rattle.rules.specs.Event.{kind_count, kind_at, EventFields}
 use Rattle.text.specs.Kinds.{kind_of_word}
 use Rattle.text.specs.Fields.{parted, fields}

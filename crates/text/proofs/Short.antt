@@ -13,8 +13,8 @@ use Rattle.rules.specs.Limits.{max_size}
 use Rattle.rules.specs.Event.{Event, kind_count, kind_at, EventFields, event_fields}
 use Rattle.decimal.specs.Decimal.{decimal}
 use Rattle.decimal.proofs.Laws.{decimal_most}
-use Rattle.hex.specs.Hex.{hex}
-use Rattle.hex.proofs.Laws.{hex_length}
+use Rattle.hexadecimal.specs.Hex.{hex}
+use Rattle.hexadecimal.proofs.Laws.{hex_length}
 use Rattle.text.specs.Fields.{parted}
 use Rattle.text.specs.Lines.{longest, line_feed, field_texts, line_of, is_event, is_well_formed, event_line, read_event, has_line}
 use Rattle.text.proofs.Fields.{parted_append}

@@ -5,7 +5,7 @@ use Rattle.lists.specs.Tests.{◌and◌, every}
 use Rattle.rules.specs.Event.{Event, kind_count, kind_at, EventFields, event_of, event_fields}
 use Rattle.rules.specs.declared.settings.Settings.{Settings}
 use Rattle.decimal.specs.Decimal.{decimal, number_of, and_then}
-use Rattle.hex.specs.Hex.{hex, hex_bytes}
+use Rattle.hexadecimal.specs.Hex.{hex, hex_bytes}
 use Rattle.text.specs.Kinds.{kind_of_word}
 use Rattle.text.specs.Fields.{parted, fields}
 

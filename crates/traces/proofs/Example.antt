@@ -6,7 +6,7 @@ use Rattle.lists.specs.Tests.{same_numbers}
 use Rattle.rules.specs.Event.{ascii, kinds, kind_at, event_of}
 use Rattle.rules.proofs.Examples.{rules_open}
 use Rattle.decimal.specs.Decimal.{digits, decimal, push, and_then, spelled, number_of}
-use Rattle.hex.specs.Hex.{hex_digit, hex, is_digit, digit_value, only_digits, unhex, spells_bytes, hex_bytes}
+use Rattle.hexadecimal.specs.Hex.{hex_digit, hex, is_digit, digit_value, only_digits, unhex, spells_bytes, hex_bytes}
 use Rattle.text.specs.Kinds.{kind_from, kind_of_word}
 use Rattle.text.specs.Fields.{parted, before, fields}
 use Rattle.text.specs.Lines.{take_numbers, take_bytes, fields_of_kind, fields_of_texts, is_line, without_feed, read_fields, read_event, settings_at}

@@ -12,11 +12,11 @@ use Rattle.words.specs.Words.{words, unwords}
 use Rattle.words.proofs.Laws.{lent_run, length_words}
 use Rattle.rules.specs.declared.settings.Settings.{Settings}
 use Rattle.rules.specs.Chunks.{Chunk, new_chunk, append, bytes_in}
-use Rattle.log.specs.Log.{IsLog}
-use Rattle.log.specs.Steps.{with_next}
-use Rattle.log.specs.Answers.{FoundAt}
-use Rattle.log.proofs.Steps.{found_row, cell_bytes, placed_length, placed_count, placed_log, placed}
-use Rattle.log.proofs.Codec.{dec_length}
+use Rattle.chunk_log.specs.Log.{IsLog}
+use Rattle.chunk_log.specs.Steps.{with_next}
+use Rattle.chunk_log.specs.Answers.{FoundAt}
+use Rattle.chunk_log.proofs.Steps.{found_row, cell_bytes, placed_length, placed_count, placed_log, placed}
+use Rattle.chunk_log.proofs.Codec.{dec_length}
 use Rattle.layout.specs.Layout.{word_bytes, log_codec, log_words, place_words, store_words, place_at, log_at}
 use Rattle.layout.specs.Store.{decode, render}
 use Rattle.layout.proofs.Lent.{lent}

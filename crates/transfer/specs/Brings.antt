@@ -5,7 +5,7 @@ use Rattle.words.specs.Words.{words}
 use Rattle.rules.specs.declared.settings.Settings.{Settings}
 use Rattle.rules.specs.Chunks.{Chunk, new_chunk, append, bytes_in}
 use Rattle.rules.specs.State.{State}
-use Rattle.log.specs.Answers.{FoundAt}
+use Rattle.chunk_log.specs.Answers.{FoundAt}
 use Rattle.layout.specs.Layout.{word_bytes, log_words, log_at}
 use Rattle.layout.specs.Store.{decode}
 use Rattle.lent.specs.Stores.{StoreOf}

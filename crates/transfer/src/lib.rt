@@ -3,7 +3,7 @@ ghost use Rattle.std.specs.Prelude.{◌≡◌, ◌+◌, ◌/◌, ◌<◌, ◌≤
 ghost use Rattle.lists.specs.Runs.{on_run};
 ghost use Rattle.words.specs.Words.{words};
 ghost use Rattle.rules.specs.Limits.{Limits};
-ghost use Rattle.log.specs.Steps.{with_next};
+ghost use Rattle.chunk_log.specs.Steps.{with_next};
 ghost use Rattle.layout.specs.Layout.{log_words, store_words, log_at};
 ghost use Rattle.layout.specs.Store.{decode, render};
 ghost use Rattle.transfer.specs.Brings.{brought, Brings, cell_at, LogRoom};
@@ -32,7 +32,7 @@ fn enter(part: &mut [u8], settings: Settings, key: ChunkKey, saved: bool)
 {
     let at = 8 * sizes::log_at(settings);
     let end = part.len();
-    log::append_in_place(
+    chunk_log::append_in_place(
         &mut part[at..end],
         settings.chunks,
         settings.size / sizes::WORD_BYTES,

@@ -10,7 +10,7 @@ use Rattle.words.specs.Words.{words}
 use Rattle.rules.specs.declared.settings.Settings.{Settings}
 use Rattle.rules.specs.Chunks.{Chunk}
 use Rattle.rules.specs.State.{State, set_bricks, with_log}
-use Rattle.log.proofs.Codec.{dec_length}
+use Rattle.chunk_log.proofs.Codec.{dec_length}
 use Rattle.codec.specs.Codec.{change}
 use Rattle.codec.proofs.Focus.{part_length}
 use Rattle.codec.proofs.Changes.{part_stays, value_changed}

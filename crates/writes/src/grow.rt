@@ -18,7 +18,7 @@ pub fn append(part: &mut [u8], settings: Settings, key: ChunkKey, bytes: &[u8])
 {
     let at = 8 * sizes::log_at(settings);
     let end = part.len();
-    log::append(
+    chunk_log::append(
         &mut part[at..end],
         settings.chunks,
         settings.size / sizes::WORD_BYTES,

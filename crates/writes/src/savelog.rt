@@ -20,7 +20,7 @@ fn save_place(part: &mut [u8], settings: Settings)
 {
     let at = 8 * sizes::log_at(settings);
     let end = part.len();
-    log::save_all(
+    chunk_log::save_all(
         &mut part[at..end],
         settings.chunks,
         settings.size / sizes::WORD_BYTES,

@@ -7,7 +7,7 @@ use Rattle.rules.specs.Numbers.{home_of}
 use Rattle.rules.specs.Chunks.{held}
 use Rattle.rules.specs.State.{State}
 use Rattle.rules.specs.Writes.{target, nothing_to_copy}
-use Rattle.log.specs.Answers.{FoundAt}
+use Rattle.chunk_log.specs.Answers.{FoundAt}
 use Rattle.layout.specs.Contents.{blank_brick}
 use Rattle.layout.specs.Store.{brick_in, decode}
 use Rattle.lent.specs.Places.{Stands}

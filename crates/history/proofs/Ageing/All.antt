@@ -61,23 +61,23 @@ unfolding format number key_for
 format_ageing c = record {
   keys = λ b k z. absurd (omega arith);
   marked = λ b. omega arith;
-  items = λ p e m. absurd (Memᴰ.not_nil m);
-  logs = λ i e m. absurd (Memᴰ.not_nil m);
-  relays = λ r m. absurd (Memᴰ.not_nil m);
+  items = λ p e m. absurd (Memᴰ.not-nil m);
+  logs = λ i e m. absurd (Memᴰ.not-nil m);
+  relays = λ r m. absurd (Memᴰ.not-nil m);
   buckets = λ g z. either (λ k. AgeOf (format c) no_history g k) (ltb g (buckets c)) (λ _ _. first g _ _) (λ n. clash n (lt-ltb _ _ z)) z;
 }
   where
     none : {g view : ℕ} (r : Relay) → InBag g view [] r → ⊥
-    none r m = Memᴰ.not_nil m.in_bag
+    none r m = Memᴰ.not-nil m.in_bag
 
     first : (g p b : ℕ) → BucketAge (λ b. []) (λ b. 0) (buckets c) 1 [] (λ i. []) (format c).bricks.present (format c).bricks.member g (first_bucket p b)
     first g p b = record {
       same = λ _. record { one = refl; two = refl };
       copies = record {
-        memory = λ i r b. record { known = inl refl; floor = λ _. omega arith; waits = λ i e m. absurd (Memᴰ.not_nil m) };
-        disk = λ i r b. record { known = inl refl; floor = λ _. omega arith; waits = λ i e m. absurd (Memᴰ.not_nil m) };
+        memory = λ i r b. record { known = inl refl; floor = λ _. omega arith; waits = λ i e m. absurd (Memᴰ.not-nil m) };
+        disk = λ i r b. record { known = inl refl; floor = λ _. omega arith; waits = λ i e m. absurd (Memᴰ.not-nil m) };
       };
-      waiting = λ i e m. absurd (Memᴰ.not_nil m);
+      waiting = λ i e m. absurd (Memᴰ.not-nil m);
       queue = record { ordered = λ r m. absurd (none r m); while_ready = λ r m. refl; sorted = λ r t m. absurd (none r m) };
       flight = record {
         behind = λ r m. absurd (none r m);

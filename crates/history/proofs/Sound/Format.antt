@@ -88,7 +88,7 @@ module _ (c : Settings) (y : in_limits c ≡ true) where
           }));
           none = λ g l. rw (le-ltb g (buckets c) l) refl;
         };
-        bag = record { room = omega arith; each = λ r m. absurd (Memᴰ.not_nil m) };
+        bag = record { room = omega arith; each = λ r m. absurd (Memᴰ.not-nil m) };
         items = record { each = λ p. table_none; none = λ p _. refl };
         known = record { most = λ p. omega arith; none = λ p _. refl };
       })

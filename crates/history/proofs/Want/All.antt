@@ -99,5 +99,5 @@ format_want c z = record {
         let two = in_first c.places b t.two_first t.two_born in
         record {
           pair = record { tracked = λ y. impossible y; one = inl one; all = λ _ _. (one, two) };
-          matches_backup = λ _ _ r m. absurd (Memᴰ.not_nil m.in_bag);
+          matches_backup = λ _ _ r m. absurd (Memᴰ.not-nil m.in_bag);
         }

@@ -96,7 +96,7 @@ module _ (K : ℕ → Type 0) (s : State) (u : Uses K s) where
     view_uses : Uses K (rule s Event.view).after
     unfolding rule view_effect
     view_uses = record {
-      waiting = λ i e m. absurd (Memᴰ.not_nil m);
+      waiting = λ i e m. absurd (Memᴰ.not-nil m);
       buckets = λ g l. record {
         copies = copies_map _ _ (λ _ _ p. p) (λ i. relied_anew _ _ _) (u.buckets g l).copies;
         live_kept = λ r m. absurd (old_relay s h v g r m);
@@ -229,12 +229,12 @@ module _ (K : ℕ → Type 0) (s : State) (u : Uses K s) where
 pub format_uses : (c : Settings) (K : ℕ → Type 0) → K 0 → Uses K (format c)
 unfolding format
 format_uses c K none = record {
-  waiting = λ i e m. absurd (Memᴰ.not_nil m);
+  waiting = λ i e m. absurd (Memᴰ.not-nil m);
   buckets = λ g l. either (λ k. BucketUse K (format c).bricks.present [] 1 g k) (ltb g (buckets c)) (λ _. first g _ _) (λ n. clash n (lt-ltb _ _ l));
 }
   where
     first : (g p b : ℕ) → BucketUse K (format c).bricks.present [] 1 g (first_bucket p b)
     first g p b = record {
       copies = record { memory = λ i r b. unfold key_for in none; disk = λ i r b. unfold key_for in none };
-      live_kept = λ r m. absurd (Memᴰ.not_nil m.in_bag);
+      live_kept = λ r m. absurd (Memᴰ.not-nil m.in_bag);
     }

@@ -5,10 +5,10 @@ use native.Mathlib.Omega.{arith}
 use lib.ListN.{length}
 use Rattle.words.specs.Words.{words}
 use Rattle.rules.specs.Chunks.{Chunk}
-use Rattle.log.specs.Log.{chunk_at}
-use Rattle.log.proofs.Check.{looser}
-use Rattle.log.proofs.Codec.{dec_length}
-use Rattle.log.proofs.Steps.{sizes}
+use Rattle.chunk_log.specs.Log.{chunk_at}
+use Rattle.chunk_log.proofs.Check.{looser}
+use Rattle.chunk_log.proofs.Codec.{dec_length}
+use Rattle.chunk_log.proofs.Steps.{sizes}
 use borrow.Author.Rules.{rules}
 use Rattle.holders.proofs.chunk.Statement.{statement}
 use Rattle.holders.proofs.chunk.Tie as tie

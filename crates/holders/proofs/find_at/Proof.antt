@@ -2,8 +2,8 @@ use mathlib.Core.Path.{subst}
 use mathlib.Core.List.{List}
 use native.Mathlib.Omega.{arith}
 use Rattle.rules.specs.Chunks.{Chunk}
-use Rattle.log.specs.Answers.{FoundIn}
-use Rattle.log.proofs.Check.{looser}
+use Rattle.chunk_log.specs.Answers.{FoundIn}
+use Rattle.chunk_log.proofs.Check.{looser}
 use borrow.Author.Rules.{rules}
 use Rattle.holders.proofs.find_at.Statement.{statement}
 use Rattle.holders.proofs.find_at.Tie as tie

@@ -6,8 +6,8 @@ use native.Mathlib.Omega.{arith}
 use Rattle.words.specs.Words.{words}
 use Rattle.rules.specs.Chunks.{held}
 use Rattle.rules.specs.Derived.{first_holder}
-use Rattle.log.specs.Answers.{FoundAt}
-use Rattle.log.proofs.Rules.{held_at}
+use Rattle.chunk_log.specs.Answers.{FoundAt}
+use Rattle.chunk_log.proofs.Rules.{held_at}
 use Rattle.layout.specs.Store.{decode}
 use Rattle.holders.specs.Members.{between, NextAt}
 use Rattle.holders.proofs.Sought.{sought_none, sought_over, sought_here, sought_on}

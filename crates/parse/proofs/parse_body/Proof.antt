@@ -9,8 +9,8 @@ use Rattle.text.specs.Lines.{fields_of_texts}
 use Rattle.parse.specs.Answers.{with_room}
 use Rattle.parse.specs.Steps.{Found, FoundAt}
 use Rattle.parse.proofs.Laws.{part_all, refused, accepted, filled, room_none, room_unasked, room_right, room_wrong}
-use Rattle.hex.specs.Hex.{unhex}
-use Rattle.hex.proofs.Laws.{is_bytes, unhex_length}
+use Rattle.hexadecimal.specs.Hex.{unhex}
+use Rattle.hexadecimal.proofs.Laws.{is_bytes, unhex_length}
 use Rattle.area.proofs.Laws.{onto_nothing}
 use borrow.Author.Rules.{rules}
 use Rattle.parse.proofs.parse_body.Statement.{statement}

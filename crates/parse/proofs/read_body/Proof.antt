@@ -4,7 +4,7 @@ use mathlib.Core.List.{List}
 use Prim.Native.Nat.{ℕ, ◌+◌, ◌≤◌}
 use native.Mathlib.Omega.{arith}
 use lib.ListN.{length, drop}
-use Rattle.hex.specs.Hex.{spells_bytes}
+use Rattle.hexadecimal.specs.Hex.{spells_bytes}
 use Rattle.rules.specs.Event.{kind_at}
 use Rattle.text.specs.Table.{kind_number}
 use Rattle.text.proofs.Laws.{form_ok, row_numbers, row_payload}

@@ -4,7 +4,7 @@ use lib.Dec.{eqb}
 use lib.ListN.{length}
 use Rattle.lists.proofs.Runs.{below_of}
 use Rattle.words.specs.Words.{words}
-use Rattle.log.proofs.Steps.{sizes}
+use Rattle.chunk_log.proofs.Steps.{sizes}
 use Rattle.sweep.specs.Marks.{swept}
 use Rattle.sweep.proofs.Marks.{log_marked, keep_saved_leaves}
 use borrow.Author.Rules.{rules}

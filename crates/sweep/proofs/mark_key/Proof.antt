@@ -3,9 +3,9 @@ use Prim.Native.Nat.{◌<◌}
 use native.Mathlib.Omega.{arith}
 use lib.ListN.{get_or}
 use Rattle.words.specs.Words.{words}
-use Rattle.log.specs.Log.{log_dec}
-use Rattle.log.specs.Answers.{FoundAt}
-use Rattle.log.proofs.Steps.{found_row}
+use Rattle.chunk_log.specs.Log.{log_dec}
+use Rattle.chunk_log.specs.Answers.{FoundAt}
+use Rattle.chunk_log.proofs.Steps.{found_row}
 use Rattle.sweep.proofs.Marks.{mark_leaves, mark_none}
 use borrow.Author.Rules.{rules}
 use Rattle.sweep.proofs.mark_key.Statement.{statement}

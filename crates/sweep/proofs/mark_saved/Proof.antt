@@ -1,7 +1,7 @@
 use lib.ListN.{length}
 use Rattle.words.specs.Words.{words}
-use Rattle.log.specs.Log.{write_log, read_log}
-use Rattle.log.specs.Steps.{tag}
+use Rattle.chunk_log.specs.Log.{write_log, read_log}
+use Rattle.chunk_log.specs.Steps.{tag}
 use Rattle.sweep.specs.Sweep.{triple_of}
 use Rattle.sweep.proofs.Steps.{triple_start, triple_small, triple_turn}
 use mathlib.Core.Path.{◌≡◌, ◌∙◌}

@@ -1,8 +1,8 @@
 use lib.ListN.{length}
 use Rattle.words.specs.Words.{words}
-use Rattle.log.specs.Log.{read_log}
+use Rattle.chunk_log.specs.Log.{read_log}
 use Rattle.sweep.specs.Sweep.{packing, kept_first}
-use Rattle.log.proofs.Steps.{counted}
+use Rattle.chunk_log.proofs.Steps.{counted}
 use Rattle.sweep.proofs.Steps.{zero_kept, pack_low, pack_step, pack_turn}
 use Rattle.sweep.proofs.Swept.{pack_start}
 use mathlib.Core.Path.{◌≡◌}

@@ -1,9 +1,9 @@
 use lib.ListN.{length}
 use Rattle.words.specs.Words.{words}
-use Rattle.log.specs.Log.{saved_of, write_log, read_log}
-use Rattle.log.specs.Steps.{tag}
+use Rattle.chunk_log.specs.Log.{saved_of, write_log, read_log}
+use Rattle.chunk_log.specs.Steps.{tag}
 use Rattle.sweep.specs.Sweep.{rank, tag_of}
-use Rattle.log.proofs.Steps.{tag_start}
+use Rattle.chunk_log.proofs.Steps.{tag_start}
 use Rattle.sweep.proofs.Steps.{rank_start, rank_small, rank_turn, rank_sum}
 use mathlib.Core.Path.{◌≡◌, sym, ◌∙◌}
 use Prim.Native.Nat.{◌-◌, ◌≤◌}

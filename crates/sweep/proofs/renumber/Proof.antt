@@ -1,8 +1,8 @@
 use lib.ListN.{length}
 use Rattle.words.specs.Words.{words}
-use Rattle.log.specs.Log.{position_at}
+use Rattle.chunk_log.specs.Log.{position_at}
 use Rattle.sweep.specs.Sweep.{pick_first, put_positions}
-use Rattle.log.proofs.Steps.{counted}
+use Rattle.chunk_log.proofs.Steps.{counted}
 use Rattle.sweep.proofs.Steps.{zero_picked, renum_start, renum_pos, renum_low, renum_turn, renum_next}
 use mathlib.Core.Path.{◌≡◌}
 use Prim.Native.Nat.{◌+◌, ◌*◌, ◌-◌, ◌≤◌, ◌<◌}

@@ -2,7 +2,7 @@ use mathlib.Core.Path.{◌≡◌}
 use Prim.Native.Nat.{◌+◌, ◌*◌, ◌/◌}
 use native.Mathlib.Omega.{arith}
 use lib.ListN.{length}
-use Rattle.log.specs.Steps.{with_next}
+use Rattle.chunk_log.specs.Steps.{with_next}
 use Rattle.layout.specs.Layout.{log_words, log_at}
 use Rattle.lent.proofs.PlaceLogs.{part_log, part_room, part_back}
 use borrow.Author.Rules.{rules}

@@ -4,7 +4,7 @@ use native.Mathlib.Omega.{arith}
 use lib.ListN.{length}
 use Rattle.words.specs.Words.{words}
 use Rattle.words.proofs.Laws.{length_words}
-use Rattle.log.proofs.Codec.{dec_length}
+use Rattle.chunk_log.proofs.Codec.{dec_length}
 use borrow.Author.Rules.{rules}
 use Rattle.lent.proofs.place.chunk_count.Statement.{statement}
 use Rattle.lent.proofs.place.chunk_count.Tie as tie

@@ -2,8 +2,8 @@ use mathlib.Core.Path.{ap, ◌∙◌}
 use native.Mathlib.Omega.{arith}
 use lib.Bits.{bit_or}
 use Rattle.words.specs.Words.{words}
-use Rattle.log.specs.Log.{row_saved}
-use Rattle.log.proofs.Check.{row_key_by}
+use Rattle.chunk_log.specs.Log.{row_saved}
+use Rattle.chunk_log.proofs.Check.{row_key_by}
 use borrow.Author.Rules.{rules}
 use Rattle.row_checks.proofs.chunks.key_under.Statement.{statement}
 use Rattle.row_checks.proofs.chunks.key_under.Tie as tie

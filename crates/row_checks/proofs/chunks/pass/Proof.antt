@@ -5,7 +5,7 @@ use borrow.Author.Rules.{rules}
 use borrow.Author.Tests.{not-true, not-false}
 use Rattle.lists.proofs.Tests.{all_false}
 use Rattle.words.specs.Words.{words}
-use Rattle.log.proofs.Check.{row_fine, row_key_by}
+use Rattle.chunk_log.proofs.Check.{row_fine, row_key_by}
 use Rattle.row_checks.specs.Rows.{key_below}
 use Rattle.row_checks.proofs.RowLaws.{zero_not_below}
 use Rattle.row_checks.proofs.ChunkLaws.{passes_down, has_home, Passing, pass_far, pass_flag, pass_key, pass_start, pass_high, pass_dirty, pass_turn, pass_end}

@@ -1,0 +1,15 @@
+-- `hex::both` meets its contract.
+use Rattle.lists.specs.Tests.{◌and◌}
+use Rattle.hexadecimal.proofs.both.Statement.{statement}
+use Rattle.hexadecimal.proofs.both.Tie as tie
+
+returns : tie.Need-returns
+unfolding ◌and◌
+returns c = rw c.if1.true
+
+returns-2 : tie.Need-returns-2
+unfolding ◌and◌
+returns-2 c = rw c.if1.false
+
+pub both-spec : {M : Type 1} → statement M
+both-spec = tie.close (tie.spec returns returns-2)

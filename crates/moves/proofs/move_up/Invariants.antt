@@ -1,0 +1,19 @@
+use mathlib.Core.Path.{◌≡◌, ap, ◌∙◌}
+use mathlib.Core.List.{List}
+use Prim.Native.Nat.{ℕ, ◌+◌, ◌-◌, ◌≤◌}
+use native.Mathlib.Omega.{arith}
+use lib.ListN.{length, drop}
+use lib.Seq.{paste, paste-zero}
+use Rattle.words.specs.Words.{words}
+use Rattle.words.proofs.Laws.{room}
+use borrow.Author.Rules.{rules}
+use native.Mathlib.Nat.{add-zero, sub_self, sub-zero}
+use Rattle.moves.proofs.Laws.{up_turn}
+use Rattle.moves.proofs.move_up.Given as goal
+
+abbrev pub invariant-loop-left : goal.invariant-loop-left
+invariant-loop-left l =
+    (l.left ≤ l.n) × (length l.s ≡ length l.initial.s) × (words l.s ≡ paste (words l.initial.s) (l.to + l.left) (drop (l.from + l.left) (words l.initial.s)) (l.n - l.left))
+
+abbrev pub decreases-loop-left : goal.decreases-loop-left
+decreases-loop-left l = l.left

@@ -1,0 +1,14 @@
+use Rattle.spans.proofs.Laws.{copy_turn, copy_end}
+use mathlib.Core.Path.{◌≡◌, refl, ap, ◌∙◌}
+use mathlib.Core.List.{List, ◌++◌}
+use Prim.Native.Nat.{ℕ, ◌+◌, ◌-◌, ◌≤◌}
+use native.Mathlib.Omega.{arith}
+use lib.ListN.{length, get_or, take, drop, set}
+use borrow.Author.Rules.{rules}
+use Rattle.spans.proofs.copy_each.Given as goal
+
+abbrev pub invariant-loop-i : goal.invariant-loop-i
+invariant-loop-i l = (l.i ≤ l.n) × (l.n ≡ length l.src) × (length l.d ≡ length l.initial.d) × (l.d ≡ take l.i l.src ++ drop l.i l.initial.d)
+
+abbrev pub decreases-loop-i : goal.decreases-loop-i
+decreases-loop-i l = l.n - l.i

@@ -1,0 +1,8 @@
+use native.Mathlib.Omega.{arith}
+use Rattle.words.proofs.Laws.{halves}
+use borrow.Author.Rules.{rules}
+use Rattle.words.proofs.four.Goals as goal
+
+pub returns : goal.returns
+returns c =
+    omega (arith, halves 2 c.args.s.now c.args.a (omega arith))

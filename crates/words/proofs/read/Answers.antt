@@ -1,0 +1,8 @@
+use mathlib.Core.Path.{◌∙◌, sym}
+use Rattle.words.proofs.Laws.{words_at}
+use borrow.Author.Rules.{rules}
+use Rattle.words.proofs.read.Goals as goal
+
+pub returns : goal.returns
+returns c =
+    c.eight.ensures ∙ sym (words_at c.args.s.now c.args.i c.requires)
