@@ -18,7 +18,7 @@ use lent::{brick, bucket, place, store};
 use rules::settings::Settings;
 
 // A yes or no over two sound stores, or one of them is not sound.
-#[derive(Drop)]
+#[derive(Clone, Copy)]
 pub enum Compared {
     Alike,
     Different,

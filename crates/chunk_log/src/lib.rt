@@ -41,7 +41,7 @@ fn lower_bound(log: &[u8], chunks: usize, n: usize, k: u64) -> usize
 }
 
 // The chunk that has a key, by its index in the log.
-#[derive(Drop)]
+#[derive(Clone, Copy)]
 pub enum Found {
     At(usize),
     Nothing,

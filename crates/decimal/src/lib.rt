@@ -5,7 +5,7 @@ ghost use Rattle.area.specs.Area.{onto};
 ghost use Rattle.decimal.specs.Decimal.{decimal, push, spelled, number_of, answer};
 
 // What reading a number gives.
-#[derive(Drop)]
+#[derive(Clone, Copy)]
 pub enum Number {
     Value(u64),
     Malformed,

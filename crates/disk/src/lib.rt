@@ -19,7 +19,7 @@ use print::for_c::LineAnswer;
 use relay_list::{BagAnswer, Relay};
 
 #[repr(C)]
-#[derive(Drop)]
+#[derive(Clone, Copy)]
 pub struct StepAnswer {
     pub code: u64,
     pub key: u64,

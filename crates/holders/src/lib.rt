@@ -57,7 +57,7 @@ pub fn next_member(store: &[u8], settings: Settings, from: u64, to: u64) -> Foun
 // ---- chunks
 
 // Where a chunk lies: the place of a brick that holds it, and the row of its log.
-#[derive(Drop)]
+#[derive(Clone, Copy)]
 pub enum Location {
     At(usize, usize),
     Nowhere,

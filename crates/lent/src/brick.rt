@@ -10,7 +10,7 @@ use crate::place;
 use rules::settings::Settings;
 
 // The place that holds a brick.
-#[derive(Drop)]
+#[derive(Clone, Copy)]
 pub enum Found {
     At(usize),
     Nowhere,

@@ -7,7 +7,7 @@ pub mod proxy;
 pub mod store;
 
 // What an event answers: yes with a key (put, get; for deliver 1 taken, 0 set aside; else 0), or no with the number of the question.
-#[derive(Drop)]
+#[derive(Clone, Copy)]
 pub enum Answer {
     Yes(u64),
     No(u64),

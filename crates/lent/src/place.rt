@@ -28,7 +28,7 @@ pub fn part<'a>(store: &'a [u8], settings: Settings, place: usize) -> &'a [u8]
 }
 
 // From which byte of the store to which they lie: for a step that is lent that part to write.
-#[derive(Drop)]
+#[derive(Clone, Copy)]
 pub struct Span {
     pub from: usize,
     pub to: usize,

@@ -6,7 +6,7 @@ use relay_list::Relay;
 pub mod numbers;
 
 #[repr(C)]
-#[derive(Drop)]
+#[derive(Clone, Copy)]
 pub struct DeliverAnswer {
     pub code: u64,
     pub relay: Relay,

@@ -10,7 +10,7 @@ use lent::place;
 use rules::numbers::ChunkKey;
 use rules::settings::Settings;
 
-#[derive(Drop)]
+#[derive(Clone, Copy)]
 pub enum Act {
     Nothing,
     // its own chunk becomes saved

@@ -42,7 +42,7 @@ fn raise(flags: &mut [u8], row: usize, place: usize) -> bool
 // ---- chunks that are added
 
 // Of a part of the rows: the chunks in it, each counted once, and those in later rows, each counted as often as it is named.
-#[derive(Drop)]
+#[derive(Clone, Copy)]
 struct Count {
     inside: usize,
     beyond: usize,

@@ -7,7 +7,7 @@ ghost use Rattle.parse.specs.Answers.{parsed, answer_to, bytes_read, settings_an
 use crate::{Parsed, SettingsLine};
 
 #[repr(C)]
-#[derive(Drop)]
+#[derive(Clone, Copy)]
 pub struct EventAnswer {
     pub code: u64,
     pub kind: u64,
@@ -17,7 +17,7 @@ pub struct EventAnswer {
 }
 
 #[repr(C)]
-#[derive(Drop)]
+#[derive(Clone, Copy)]
 pub struct SettingsAnswer {
     pub code: u64,
     pub places: u64,

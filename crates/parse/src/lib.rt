@@ -11,14 +11,14 @@ pub mod for_c;
 use decimal::Number;
 
 // A kind with its numbers, those that it does not have 0, or a no to question 3.
-#[derive(Drop)]
+#[derive(Clone, Copy)]
 pub enum Parsed {
     Is { kind: u64, a: u64, b: u64, c: u64 },
     Refused,
 }
 
 // The four numbers of the settings line, or a no.
-#[derive(Drop)]
+#[derive(Clone, Copy)]
 pub enum SettingsLine {
     Are {
         places: u64,
@@ -30,28 +30,28 @@ pub enum SettingsLine {
 }
 
 // A field as one number, a 1 and its bytes, and where it ends; or a field that is longer than every word.
-#[derive(Drop)]
+#[derive(Clone, Copy)]
 pub enum Word {
     Packed(u64, usize),
     Long,
 }
 
 // A number, and where the next field starts; past the end there is none.
-#[derive(Drop)]
+#[derive(Clone, Copy)]
 pub enum Field {
     Value(u64, usize),
     Malformed,
 }
 
 // The numbers of a kind, and where the next field starts.
-#[derive(Drop)]
+#[derive(Clone, Copy)]
 pub enum Numbers {
     Read { a: u64, b: u64, c: u64, next: usize },
     Wrong,
 }
 
 // An event without data, one whose data is the text from a place on, or none.
-#[derive(Drop)]
+#[derive(Clone, Copy)]
 pub enum Reading {
     Plain {
         kind: u64,

@@ -17,7 +17,7 @@ use row_checks::rows::Whose;
 use rules::settings::Settings;
 
 // What the comparison of a copy in memory tells: a place below has the same one, and the disk has.
-#[derive(Drop)]
+#[derive(Clone, Copy)]
 struct Alike {
     known: bool,
     saved: bool,

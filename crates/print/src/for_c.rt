@@ -6,7 +6,7 @@ ghost use Rattle.print.specs.Answers.{printed, line_after, line-answer};
 use crate::Printed;
 
 #[repr(C)]
-#[derive(Drop)]
+#[derive(Clone, Copy)]
 pub struct LineAnswer {
     pub code: u64,
     pub length: usize,

@@ -12,7 +12,7 @@ ghost use Rattle.print.specs.Steps.{number_texts, length_of_line};
 pub mod for_c;
 
 // The length of the line, or a no to question 3.
-#[derive(Drop)]
+#[derive(Clone, Copy)]
 pub enum Printed {
     Length(usize),
     Refused,

@@ -18,7 +18,7 @@ use rules::settings::Settings;
 // ---- the look-up
 
 // What get finds: the number of the question that is answered no; no mapping; or the mapped key, with the place and the row of a log where its chunk lies.
-#[derive(Drop)]
+#[derive(Clone, Copy)]
 enum Lookup {
     Refused(u64),
     Unmapped,

@@ -6,7 +6,7 @@ ghost use Rattle.records.specs.Records.{agreed_of};
 
 use layout::sizes;
 
-#[derive(Drop)]
+#[derive(Clone, Copy)]
 pub struct Agreed {
     pub primary: u64,
     pub backup: u64,

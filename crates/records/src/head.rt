@@ -8,7 +8,7 @@ use layout::sizes;
 use rules::numbers::ViewNumber;
 use rules::settings::Settings;
 
-#[derive(Drop)]
+#[derive(Clone, Copy)]
 pub struct Head {
     pub settings: Settings,
     pub view: ViewNumber,

@@ -17,7 +17,7 @@ const NEXT_AT: usize = sizes::NEXT_AT - sizes::UP_AT;
 
 const CEILING_AT: usize = sizes::CEILING_AT - sizes::UP_AT;
 
-#[derive(Drop)]
+#[derive(Clone, Copy)]
 pub struct Status {
     pub up: bool,
     pub member: bool,

@@ -16,7 +16,7 @@ pub mod flat;
 pub mod stored;
 
 #[repr(C)]
-#[derive(Drop)]
+#[derive(Clone, Copy)]
 pub struct Relay {
     pub view: ViewNumber,
     pub bucket: u64,
@@ -25,19 +25,19 @@ pub struct Relay {
     pub key: ChunkKey,
 }
 
-#[derive(Drop)]
+#[derive(Clone, Copy)]
 pub enum Sent {
     Sent,
     NoRoom,
 }
 
-#[derive(Drop)]
+#[derive(Clone, Copy)]
 pub enum Delivered {
     Is(Relay),
     NoSuch,
 }
 
-#[derive(Drop)]
+#[derive(Clone, Copy)]
 pub enum Dropped {
     Dropped,
     NoSuch,
@@ -45,7 +45,7 @@ pub enum Dropped {
 
 // How many relays of a store's bag were handed out, or the number of the question that was answered no.
 #[repr(C)]
-#[derive(Drop)]
+#[derive(Clone, Copy)]
 pub struct BagAnswer {
     pub code: u64,
     pub count: usize,

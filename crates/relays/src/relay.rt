@@ -35,7 +35,7 @@ pub fn bag_part<'a>(store: &'a [u8], settings: Settings) -> &'a [u8]
 }
 
 // A relay; its bucket is its block's.
-#[derive(Drop)]
+#[derive(Clone, Copy)]
 pub struct Relay {
     pub view: ViewNumber,
     pub order: u64,

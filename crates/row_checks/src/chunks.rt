@@ -14,7 +14,7 @@ use rules::settings::Settings;
 const HIGHEST: u64 = 0xffff_ffff_ffff_ffff;
 
 // A key, and the bits of the flags that were gathered on the way to it.
-#[derive(Drop)]
+#[derive(Clone, Copy)]
 struct Gathered {
     key: u64,
     flags: u64,
@@ -41,7 +41,7 @@ fn key_under(log: &[u8], chunks: usize, n: usize, k: usize, next: Gathered) -> G
 }
 
 // A position that was reached, the key there, and the bits of the flags on the way.
-#[derive(Drop)]
+#[derive(Clone, Copy)]
 struct Reached {
     at: usize,
     key: u64,

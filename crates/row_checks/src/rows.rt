@@ -11,7 +11,7 @@ use rules::numbers::{BlockNumber, ChunkKey};
 use rules::settings::Settings;
 
 // Whose blocks a table has: a bucket's or a proxy's, ascending, or anyone's, in arrival order.
-#[derive(Drop)]
+#[derive(Clone, Copy)]
 pub enum Whose {
     Bucket(u64),
     Proxy(u64),
@@ -75,7 +75,7 @@ fn block_under(bounds: &[u64], table: &[u8], i: usize, next: u64) -> u64
 }
 
 // A row that was reached, and the block there.
-#[derive(Drop)]
+#[derive(Clone, Copy)]
 struct Reached {
     at: usize,
     block: u64,

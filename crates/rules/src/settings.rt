@@ -4,7 +4,7 @@ ghost use Rattle.rules.specs.Limits.{in_range, checked, buckets};
 
 use crate::constants;
 
-#[derive(Drop)]
+#[derive(Clone, Copy)]
 pub struct Settings {
     // places for bricks
     pub places: usize,
@@ -17,7 +17,7 @@ pub struct Settings {
 }
 
 // Settings within their limits, or none.
-#[derive(Drop)]
+#[derive(Clone, Copy)]
 pub enum Checked {
     Good(Settings),
     Bad,

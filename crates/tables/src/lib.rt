@@ -78,7 +78,7 @@ fn lower_bound_near(t: &[u8], width: usize, most: usize, x: u64, guess: usize) -
 }
 
 // Where the row that begins with x is, or the index before which it would go.
-#[derive(Drop)]
+#[derive(Clone, Copy)]
 pub enum Spot {
     Here(usize),
     Gap(usize),

@@ -13,7 +13,7 @@ pub const LONGEST: usize = 16_500;
 pub const KINDS: usize = 22;
 
 // How a kind's line looks: how many bytes its word has, how many numbers follow, and whether data follows those.
-#[derive(Drop)]
+#[derive(Clone, Copy)]
 pub struct Shape {
     pub len: u8,
     pub numbers: u8,

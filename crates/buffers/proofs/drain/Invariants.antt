@@ -1,0 +1,22 @@
+use mathlib.Core.Path.{◌≡◌, refl, ◌∙◌}
+use Prim.Native.Nat.{◌+◌, ◌*◌, ◌-◌, ◌≤◌}
+use native.Mathlib.Omega.{arith}
+use lib.ListN.{length, get_or}
+use Rattle.lists.specs.Runs.{on_run}
+use Rattle.words.specs.Words.{words}
+use Rattle.words.proofs.Laws.{room}
+use Rattle.entries.specs.Entries.{entries_words}
+use Rattle.rules.specs.Limits.{buckets}
+use Rattle.buffers.proofs.Drained.{drained, drain_start, still_sorted, drain_turn, drain_end}
+use native.Mathlib.Numerals.{add-one}
+use Rattle.layout.specs.Layout.{entries_codec}
+use borrow.Author.Rules.{rules}
+use Rattle.buffers.proofs.drain.Given as goal
+
+abbrev pub invariant-loop-i : goal.invariant-loop-i
+invariant-loop-i l =
+    (l.i ≤ l.n) × (l.n ≡ get_or (words l.initial.s) l.buffer 0) × (length l.s ≡ length l.initial.s)
+    × (words l.s ≡ on_run l.copy (entries_words l.most) ((entries_codec l.most).enc (drained (buckets l.settings) l.g l.buffer l.waiting l.copy l.most (words l.initial.s) l.i)) (words l.initial.s))
+
+abbrev pub decreases-loop-i : goal.decreases-loop-i
+decreases-loop-i l = l.n - l.i

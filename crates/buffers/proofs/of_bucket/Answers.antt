@@ -1,0 +1,6 @@
+use Prim.Native.Nat.{◌-◌}
+use borrow.Author.Rules.{rules}
+use Rattle.buffers.proofs.of_bucket.Goals as goal
+
+pub returns : goal.returns
+returns c = rw c.bucket.ensures

@@ -1,0 +1,18 @@
+use mathlib.Core.Path.{sym, ◌∙◌}
+use Prim.Native.Nat.{◌-◌}
+use native.Mathlib.Omega.{arith}
+use Rattle.words.specs.Words.{words}
+use Rattle.words.proofs.Laws.{length_words}
+use Rattle.rules.specs.Entries.{has}
+use Rattle.entries.proofs.Words.{entries, entries_length, takes_room, takes_has}
+use borrow.Author.Rules.{rules}
+use Rattle.entries.proofs.takes.Goals as goal
+
+pub returns-then-has : goal.returns-then-has
+returns-then-has c =
+    sym (takes_has c.args.most (entries (words c.args.t.now)) c.args.b.0 (sym c.has.ensures ∙ c.if-has.true))
+
+pub returns : goal.returns
+returns c =
+    sym (takes_room c.args.most (entries (words c.args.t.now)) c.args.b.0 (sym c.has.ensures ∙ c.if-has.false) ∙ rw
+    (entries_length c.args.most (words c.args.t.now) (length_words c.args.t.now ∙ omega arith) c.requires.few, c.read.ensures))

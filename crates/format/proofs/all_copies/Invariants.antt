@@ -1,0 +1,23 @@
+use mathlib.Core.Path.{◌≡◌, ap, ap₂, ◌∙◌}
+use Prim.Native.Nat.{ℕ, ◌+◌, ◌*◌, ◌-◌, ◌≤◌}
+use native.Mathlib.Omega.{arith}
+use lib.ListN.{length}
+use borrow.Author.Rules.{rules}
+use Rattle.lists.proofs.Runs.{run_length}
+use Rattle.words.specs.Words.{words}
+use Rattle.words.proofs.Laws.{length_words}
+use Rattle.codec.proofs.Loops.{written, loop_start, loop_end}
+use Rattle.rules.specs.Limits.{buckets}
+use Rattle.layout.specs.Layout.{copies_codec, copies_words}
+use Rattle.layout.proofs.Codecs.{copies_law}
+use Rattle.layout.proofs.Lent.{lent_turn}
+use Rattle.layout.specs.Contents.{blank_copies}
+use Rattle.format.proofs.all_copies.Given as goal
+
+abbrev pub invariant-loop-g : goal.invariant-loop-g
+invariant-loop-g l =
+    (l.g ≤ l.count) × (l.count * l.size ≡ buckets l.settings * copies_words l.settings) × (length l.s ≡ length l.initial.s)
+    × (words l.s ≡ written (copies_codec l.settings) l.g (λ _. blank_copies) (words l.initial.s))
+
+abbrev pub decreases-loop-g : goal.decreases-loop-g
+decreases-loop-g l = l.count - l.g

@@ -1,0 +1,20 @@
+use mathlib.Core.Path.{◌≡◌, ◌∙◌}
+use Prim.Native.Nat.{ℕ, ◌+◌, ◌*◌, ◌-◌, ◌≤◌}
+use native.Mathlib.Omega.{arith}
+use lib.ListN.{length}
+use borrow.Author.Rules.{rules}
+use Rattle.lists.proofs.Runs.{run_length}
+use Rattle.words.specs.Words.{words}
+use Rattle.words.proofs.Laws.{length_words}
+use Rattle.codec.proofs.Loops.{written, loop_start, loop_end}
+use Rattle.layout.specs.Contents.{blank_proxy}
+use Rattle.layout.specs.Layout.{proxy_codec, proxy_words}
+use Rattle.layout.proofs.Codecs.{proxy_law}
+use Rattle.layout.proofs.Lent.{lent_turn}
+use Rattle.format.proofs.proxies.Given as goal
+
+abbrev pub invariant-loop-p : goal.invariant-loop-p
+invariant-loop-p l = (l.p ≤ 4) × (length l.s ≡ length l.initial.s) × (words l.s ≡ written proxy_codec l.p (λ _. blank_proxy) (words l.initial.s))
+
+abbrev pub decreases-loop-p : goal.decreases-loop-p
+decreases-loop-p l = 4 - l.p

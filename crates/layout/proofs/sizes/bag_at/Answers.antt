@@ -1,0 +1,7 @@
+use native.Mathlib.Omega.{arith}
+use Rattle.rules.proofs.Limits.{few_buckets}
+use borrow.Author.Rules.{rules}
+use Rattle.layout.proofs.sizes.bag_at.Goals as goal
+
+pub overflow_add-result : goal.overflow_add-result
+overflow_add-result c = omega (arith, few_buckets c.args.settings)

@@ -1,0 +1,20 @@
+use mathlib.Core.Path.{◌≡◌, ap, ap₂, ◌∙◌}
+use Prim.Native.Nat.{ℕ, ◌+◌, ◌*◌, ◌-◌, ◌≤◌}
+use native.Mathlib.Omega.{arith}
+use lib.ListN.{length}
+use Rattle.words.specs.Words.{words}
+use Rattle.words.proofs.Laws.{length_words}
+use Rattle.codec.proofs.Loops.{written}
+use Rattle.rules.specs.Limits.{buckets}
+use Rattle.layout.specs.Layout.{copies_codec, copies_words}
+use Rattle.lent.proofs.MatchedCopies.{to_match, match_start, match_end, match_fit, match_turn}
+use borrow.Author.Rules.{rules}
+use Rattle.lent.proofs.copies.match_all.Given as goal
+
+abbrev pub invariant-loop-bucket : goal.invariant-loop-bucket
+invariant-loop-bucket l =
+    (l.bucket ≤ l.count) × (l.count * l.size ≡ buckets l.settings * copies_words l.settings) × (length l.copies ≡ length l.initial.copies)
+    × (words l.copies ≡ written (copies_codec l.settings) l.bucket (to_match l.saving l.settings (words l.initial.copies)) (words l.initial.copies))
+
+abbrev pub decreases-loop-bucket : goal.decreases-loop-bucket
+decreases-loop-bucket l = l.count - l.bucket

@@ -1,0 +1,18 @@
+use Rattle.words.specs.Words.{words}
+use Rattle.records.proofs.Steps.{agreed_read}
+use borrow.Author.Rules.{rules}
+use Rattle.records.proofs.agreed.read.Goals as goal
+
+pub returns : goal.returns
+returns c =
+    rw (
+      c.read.ensures,
+      c.read-2.ensures,
+      c.read-3.ensures,
+      c.read-4.ensures,
+      c.read-5.ensures,
+      c.read-6.ensures,
+      c.read-7.ensures,
+      c.read-8.ensures,
+    )
+    (agreed_read (words c.args.part.now))

@@ -1,0 +1,12 @@
+use mathlib.Core.Path.{◌≡◌}
+use Prim.Native.Nat.{◌-◌}
+use native.Mathlib.Omega.{arith}
+use Rattle.words.specs.Words.{words}
+use Rattle.sweep.proofs.Steps.{paste_self}
+use borrow.Author.Rules.{rules}
+use Rattle.sweep.proofs.carry.Goals as goal
+
+pub returns : goal.returns
+returns c =
+    let e : c.args.from ≡ c.args.to = omega arith in
+    rw e (paste_self (words c.args.log.now) c.args.to c.args.n)
