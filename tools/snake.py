@@ -26,7 +26,7 @@ def own(module, crates):
 
 
 def is_proof(path):
-    return os.path.basename(path) in ("Proof.antt", "Answers.antt", "Invariants.antt")
+    return os.path.basename(path) in ("Proof.antt", "Answers.antt", "Invariants.antt") and "/specs/" not in path
 
 
 def comment_at(path):

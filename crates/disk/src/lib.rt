@@ -2,16 +2,16 @@
 ghost use Rattle.std.specs.Prelude.{◌≡◌, length};
 ghost use Rattle.text.specs.Lines.{read_settings};
 ghost use Rattle.area.specs.Area.{onto};
-ghost use Rattle.parse.specs.Answers.{parsed, answer_to, bytes_read, settings_answer, event-answer, four-answer};
+ghost use Rattle.parse.specs.Answers.{parsed, answer_to, bytes_read, settings_answer, event_answer, four_answer};
 ghost use Rattle.rules.specs.Event.{fields_brought};
-ghost use Rattle.print.specs.Answers.{printed, line_after, line-answer};
+ghost use Rattle.print.specs.Answers.{printed, line_after, line_answer};
 ghost use Rattle.store.specs.Calls.{settings, length_answer, Formatted, check_answer};
 ghost use Rattle.calls.specs.Outcome.{call_with, outcome};
 ghost use Rattle.alike.specs.Alike.{alike_answer, alike_number};
 ghost use Rattle.read_many.specs.Read.{read, read_outcome};
 ghost use Rattle.batch.specs.Batch.{batch_with, lent, ran, batch_outcome};
 ghost use Rattle.relay_list.specs.Shown.{Shows};
-ghost use Rattle.disk.specs.Answers.{step-outcome};
+ghost use Rattle.disk.specs.Answers.{step_outcome};
 
 use lent::Answer;
 use parse::for_c::{EventAnswer, SettingsAnswer};
@@ -67,7 +67,7 @@ pub extern "C" fn disk_step(
     blank: &[u8],
     area: &mut [u8],
 ) -> StepAnswer
-    ensures { step-outcome result area.new store.new
+    ensures { step_outcome result area.new store.new
         ≡ outcome store.old (call_with kind a b c «data».now blank.now area.old) }
 {
     let answer = step::step(store, kind, a, b, c, data, blank, area);
@@ -119,7 +119,7 @@ pub extern "C" fn disk_alike(store: &[u8], other: &[u8]) -> u64
 // The event of a line of text.
 #[unsafe(no_mangle)]
 pub extern "C" fn disk_parse(line: &[u8], size: usize, data: &mut [u8]) -> EventAnswer
-    ensures { (result ≡ event-answer (answer_to (parsed size (length «data».old) line.now)))
+    ensures { (result ≡ event_answer (answer_to (parsed size (length «data».old) line.now)))
         × («data».new ≡ onto 0 (bytes_read (parsed size (length «data».old) line.now)) «data».old) }
 {
     parse::for_c::parse(line, size, data)
@@ -136,7 +136,7 @@ pub extern "C" fn disk_print(
     size: usize,
     line: &mut [u8],
 ) -> LineAnswer
-    ensures { (result ≡ line-answer (printed size (fields_brought kind a b c «data».now) (length line.old)))
+    ensures { (result ≡ line_answer (printed size (fields_brought kind a b c «data».now) (length line.old)))
         × (line.new ≡ line_after size (fields_brought kind a b c «data».now) line.old) }
 {
     print::for_c::print(kind, a, b, c, data, size, line)
@@ -145,7 +145,7 @@ pub extern "C" fn disk_print(
 // The settings of the settings line.
 #[unsafe(no_mangle)]
 pub extern "C" fn disk_parse_settings(line: &[u8]) -> SettingsAnswer
-    ensures { result ≡ four-answer (settings_answer (read_settings line.now)) }
+    ensures { result ≡ four_answer (settings_answer (read_settings line.now)) }
 {
     parse::for_c::parse_settings(line)
 }

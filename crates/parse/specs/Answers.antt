@@ -40,10 +40,10 @@ settings_answer (some c) = Are c.places c.size c.entries c.chunks
 
 -- ---- the number and the values of each answer, as the calls for C give them
 -- question 3: text well formed, data of S bytes?
-unfoldable pub event-answer : Parsed → EventAnswer
-event-answer (Is k a b c) = record { code = 0; kind = k; a = a; b = b; c = c }
-event-answer Refused = record { code = 3; kind = 0; a = 0; b = 0; c = 0 }
+unfoldable pub event_answer : Parsed → EventAnswer
+event_answer (Is k a b c) = record { code = 0; kind = k; a = a; b = b; c = c }
+event_answer Refused = record { code = 3; kind = 0; a = 0; b = 0; c = 0 }
 
-unfoldable pub four-answer : SettingsLine → SettingsAnswer
-four-answer (Are n s m l) = record { code = 0; places = n; size = s; entries = m; chunks = l }
-four-answer Malformed = record { code = 3; places = 0; size = 0; entries = 0; chunks = 0 }
+unfoldable pub four_answer : SettingsLine → SettingsAnswer
+four_answer (Are n s m l) = record { code = 0; places = n; size = s; entries = m; chunks = l }
+four_answer Malformed = record { code = 3; places = 0; size = 0; entries = 0; chunks = 0 }

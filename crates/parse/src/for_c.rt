@@ -2,7 +2,7 @@
 ghost use Rattle.std.specs.Prelude.{◌≡◌, length};
 ghost use Rattle.area.specs.Area.{onto};
 ghost use Rattle.text.specs.Lines.{read_settings};
-ghost use Rattle.parse.specs.Answers.{parsed, answer_to, bytes_read, settings_answer, event-answer, four-answer};
+ghost use Rattle.parse.specs.Answers.{parsed, answer_to, bytes_read, settings_answer, event_answer, four_answer};
 
 use crate::{Parsed, SettingsLine};
 
@@ -28,7 +28,7 @@ pub struct SettingsAnswer {
 
 // The event of a line, as `parse::parse` gives it.
 pub fn parse(line: &[u8], size: usize, data: &mut [u8]) -> EventAnswer
-    ensures { (result ≡ event-answer (answer_to (parsed size (length «data».old) line.now)))
+    ensures { (result ≡ event_answer (answer_to (parsed size (length «data».old) line.now)))
         × («data».new ≡ onto 0 (bytes_read (parsed size (length «data».old) line.now)) «data».old) }
 {
     let answer = crate::parse(line, size, data);
@@ -52,7 +52,7 @@ pub fn parse(line: &[u8], size: usize, data: &mut [u8]) -> EventAnswer
 
 // The settings of a line, as `parse::parse_settings` gives them.
 pub fn parse_settings(line: &[u8]) -> SettingsAnswer
-    ensures { result ≡ four-answer (settings_answer (read_settings line.now)) }
+    ensures { result ≡ four_answer (settings_answer (read_settings line.now)) }
 {
     let answer = crate::parse_settings(line);
     match answer {

@@ -20,6 +20,6 @@ unfoldable pub line_after : ℕ → EventFields → List ℕ → List ℕ
 line_after S e area = cond (can_print S e (length area)) (onto 0 (line_of e) area) area
 
 -- the number and the values of each answer, as the call for C gives them
-unfoldable pub line-answer : Printed → LineAnswer
-line-answer (Length n) = record { code = 0; length = n }
-line-answer Refused = record { code = 3; length = 0 }
+unfoldable pub line_answer : Printed → LineAnswer
+line_answer (Length n) = record { code = 0; length = n }
+line_answer Refused = record { code = 3; length = 0 }

@@ -1,7 +1,7 @@
 // The answer as a struct, for the calls for C: a no answers with its number and nothing else.
 ghost use Rattle.std.specs.Prelude.{◌≡◌, length};
 ghost use Rattle.rules.specs.Event.{fields_brought};
-ghost use Rattle.print.specs.Answers.{printed, line_after, line-answer};
+ghost use Rattle.print.specs.Answers.{printed, line_after, line_answer};
 
 use crate::Printed;
 
@@ -22,7 +22,7 @@ pub fn print(
     size: usize,
     line: &mut [u8],
 ) -> LineAnswer
-    ensures { (result ≡ line-answer (printed size (fields_brought kind a b c «data».now) (length line.old)))
+    ensures { (result ≡ line_answer (printed size (fields_brought kind a b c «data».now) (length line.old)))
         × (line.new ≡ line_after size (fields_brought kind a b c «data».now) line.old) }
 {
     let answer = crate::print(kind, a, b, c, data, size, line);

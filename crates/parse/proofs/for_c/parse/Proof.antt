@@ -1,6 +1,6 @@
 -- `parse::for_c::parse` meets its contract.
 use mathlib.Core.Path.{sym, ap, ◌∙◌}
-use Rattle.parse.specs.Answers.{event-answer}
+use Rattle.parse.specs.Answers.{event_answer}
 use borrow.Author.Rules.{rules}
 use Rattle.parse.proofs.for_c.parse.Statement.{statement}
 use Rattle.parse.proofs.for_c.parse.Tie as tie
@@ -18,9 +18,9 @@ same_length : tie.Need-same-length
 same_length c = search rules
 
 returns : tie.Need-returns
-unfolding event-answer
+unfolding event_answer
 returns c = (
-  ap event-answer (sym c.before.answer.given.1 ∙ c.before.before.before.before.before.parse.ensures.0),
+  ap event_answer (sym c.before.answer.given.1 ∙ c.before.before.before.before.before.parse.ensures.0),
   c.before.before.before.before.before.parse.ensures.1,
 )
 
@@ -28,9 +28,9 @@ same-length-2 : tie.Need-same-length-2
 same-length-2 c = search rules
 
 returns-2 : tie.Need-returns-2
-unfolding event-answer
+unfolding event_answer
 returns-2 c = (
-  ap event-answer (sym c.enum_told.given.1 ∙ c.before.before.before.before.parse.ensures.0),
+  ap event_answer (sym c.enum_told.given.1 ∙ c.before.before.before.before.parse.ensures.0),
   c.before.before.before.before.parse.ensures.1,
 )
 

@@ -1,6 +1,6 @@
 -- `parse::for_c::parse_settings` meets its contract.
 use mathlib.Core.Path.{sym, ap, ◌∙◌}
-use Rattle.parse.specs.Answers.{four-answer}
+use Rattle.parse.specs.Answers.{four_answer}
 use borrow.Author.Rules.{rules}
 use Rattle.parse.proofs.for_c.parse_settings.Statement.{statement}
 use Rattle.parse.proofs.for_c.parse_settings.Tie as tie
@@ -15,12 +15,12 @@ enum_told : tie.Need-enum-told
 enum_told c = search rules
 
 returns : tie.Need-returns
-unfolding four-answer
-returns c = ap four-answer (sym c.before.answer.given.1 ∙ c.before.before.before.parse-settings.ensures)
+unfolding four_answer
+returns c = ap four_answer (sym c.before.answer.given.1 ∙ c.before.before.before.parse-settings.ensures)
 
 returns-2 : tie.Need-returns-2
-unfolding four-answer
-returns-2 c = ap four-answer (sym c.enum_told.given.1 ∙ c.before.before.parse-settings.ensures)
+unfolding four_answer
+returns-2 c = ap four_answer (sym c.enum_told.given.1 ∙ c.before.before.parse-settings.ensures)
 
 pub parse-settings-spec : {M : Type 1} → statement M
 parse-settings-spec =

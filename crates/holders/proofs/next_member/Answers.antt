@@ -1,0 +1,34 @@
+use mathlib.Core.Path.{◌≡◌, sym, ◌∙◌}
+use mathlib.Core.Logic.{⊎_elim}
+use Prim.Native.Nat.{◌-◌}
+use native.Mathlib.Omega.{arith}
+use borrow.Author.Rules.{rules}
+use Rattle.words.specs.Words.{words}
+use Rattle.layout.specs.Store.{decode}
+use Rattle.holders.proofs.Scan.{Scanned, scan_start, scan_hit, scan_miss, scan_none, scan_next}
+use Rattle.holders.proofs.next_member.Goals as goal
+
+pub loop-place-init : goal.loop-place-init
+loop-place-init c = scan_start _ _ _ _
+
+pub loop-place-preserved : goal.loop-place-preserved
+loop-place-preserved c =
+    let old = c.loop-place in
+    ⊎_elim
+    (λ w. rw (w.2, w.3, w.1.ensures)
+    (scan_hit _ _ _ _ old.place old.least old.at old.invariant (omega arith) (sym c.member_within.ensures ∙ w.0.taken)))
+    (λ w. rw (w.1, w.2)
+    (scan_miss _ _ _ _ old.place old.least old.at old.invariant (omega arith) (sym c.member_within.ensures ∙ w.0.left)))
+    c.if-member_within.branch
+
+pub returns-then-at-settings : goal.returns-then-at-settings
+returns-then-at-settings c =
+    let old = c.loop-place in
+    let e : old.place ≡ c.args.settings.places = omega (arith, old.invariant.passed) in
+    scan_next _ c.args.store.now c.requires _ _ old.least old.at (rw e at old.invariant) c.if-at-settings.true
+
+pub returns : goal.returns
+returns c =
+    let old = c.loop-place in
+    let e : old.place ≡ c.args.settings.places = omega (arith, old.invariant.passed) in
+    scan_none _ c.args.store.now c.requires _ _ old.least old.at (rw e at old.invariant) c.if-at-settings.false

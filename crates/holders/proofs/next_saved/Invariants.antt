@@ -1,0 +1,16 @@
+use mathlib.Core.Path.{◌≡◌, sym, ◌∙◌}
+use mathlib.Core.Bool.{false}
+use Prim.Native.Nat.{ℕ, ◌-◌, ◌≤◌, ◌<◌}
+use native.Mathlib.Omega.{arith}
+use borrow.Author.Count.{below_more}
+use borrow.Author.Rules.{rules}
+use Rattle.words.specs.Words.{words}
+use Rattle.layout.specs.Store.{decode}
+use Rattle.holders.specs.Members.{member_saved}
+use Rattle.holders.proofs.next_saved.Given as goal
+
+abbrev pub invariant-loop-place : goal.invariant-loop-place
+invariant-loop-place l = (l.from ≤ l.place) × ((p : ℕ) → p < l.place → l.from ≤ p → member_saved (decode (words l.store)) l.key.0 p ≡ false)
+
+abbrev pub decreases-loop-place : goal.decreases-loop-place
+decreases-loop-place l = l.settings.places - l.place

@@ -1,0 +1,17 @@
+use mathlib.Core.Path.{sym, ap, ◌∙◌}
+use mathlib.Core.Bool.{not}
+use Rattle.rules.proofs.Questions.{first_yes, first_stop, none_asked}
+use borrow.Author.Rules.{rules}
+use Rattle.mappings.proofs.asks.settled_asks.Goals as goal
+
+pub returns-then-pending : goal.returns-then-pending
+returns-then-pending c = sym (first_stop 8 _ (ap not (sym c.pending.ensures ∙ c.if-pending.true)))
+
+pub returns-then-waits : goal.returns-then-waits
+returns-then-waits c =
+    sym (first_yes 8 _ (ap not (sym c.pending.ensures ∙ c.if-pending.false)) ∙ first_stop 8 _ (ap not (sym c.waits.ensures ∙ c.if-waits.true)))
+
+pub returns : goal.returns
+returns c =
+    sym (first_yes 8 _ (ap not (sym c.pending.ensures ∙ c.if-pending.false)) ∙ first_yes 8 _ (ap not (sym c.waits.ensures ∙ c.if-waits.false))
+    ∙ none_asked)

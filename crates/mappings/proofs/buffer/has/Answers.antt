@@ -1,0 +1,33 @@
+use mathlib.Core.Path.{◌≡◌, sym, ap, ◌∙◌}
+use mathlib.Core.List.{List}
+use Prim.Native.Nat.{ℕ}
+use native.Mathlib.Omega.{arith}
+use Rattle.lists.specs.Tests.{any}
+use Rattle.words.specs.Words.{words}
+use Rattle.rules.specs.Entries.{Entry, has}
+use Rattle.layout.specs.Contents.{Brick, blank_brick}
+use Rattle.layout.specs.Store.{brick_in, decode}
+use Rattle.lent.specs.Places.{Stands}
+use borrow.Author.Rules.{rules}
+use Rattle.mappings.proofs.buffer.has.Goals as goal
+
+pub buffer-requires : goal.buffer-requires
+buffer-requires c =
+    let h : Stands c.args.settings (decode (words c.args.store.now)) c.args.id c.in-At.place =
+    rw c.in-At.is at c.place_of.ensures in
+    (c.requires, h.inside, omega (arith, h.some, h.here))
+
+pub returns-in-At : goal.returns-in-At
+returns-in-At c =
+    let state = decode (words c.args.store.now) in
+    let h : Stands c.args.settings state c.args.id c.in-At.place =
+    rw c.in-At.is at c.place_of.ensures in
+    c.waits.ensures ∙ ap (λ (l : List Entry). has l c.args.block.0) c.buffer.ensures.same
+    ∙ ap (λ (i : ℕ). has (state.bricks.buffer i) c.args.block.0) h.here
+
+pub returns-in-Nowhere : goal.returns-in-Nowhere
+unfolding has any
+returns-in-Nowhere c =
+    let h : brick_in (decode (words c.args.store.now)) c.args.id ≡ blank_brick =
+    rw c.in-Nowhere.is at c.place_of.ensures in
+    sym (ap (λ (b : Brick). has b.buffer c.args.block.0) h)

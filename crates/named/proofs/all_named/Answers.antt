@@ -1,0 +1,29 @@
+use Prim.Native.Nat.{ℕ, ◌-◌, ◌≤◌, ◌<◌}
+use mathlib.Core.Path.{◌≡◌, refl, ◌∙◌}
+use native.Mathlib.Omega.{arith}
+use lib.ListN.{length, get_or}
+use borrow.Author.Count.{below_none}
+use borrow.Author.Rules.{rules}
+use Rattle.words.specs.Words.{words}
+use Rattle.rules.specs.Limits.{buckets}
+use Rattle.layout.specs.Store.{decode}
+use Rattle.named.specs.Tables.{EntriesAt, named}
+use Rattle.named.proofs.Copies.{named_more}
+use Rattle.named.proofs.all_named.Goals as goal
+
+pub loop-bucket-init : goal.loop-bucket-init
+loop-bucket-init c = (search rules, search rules, refl, below_none _)
+
+pub loop-bucket-preserved : goal.loop-bucket-preserved
+loop-bucket-preserved c =
+    let a = c.args in (
+      search rules,
+      search rules,
+      search rules,
+      named_more a.settings (words a.store.now) (decode (words a.store.now)) c.loop-bucket.tables c.loop-bucket.bucket _ (omega arith) c.loop-bucket.invariant.3
+          c.named_at.ensures,
+    )
+
+pub returns : goal.returns
+returns c =
+    record { store = c.requires.0; many = c.loop-bucket.invariant.2 ∙ c.requires.1; lie = λ g p. c.loop-bucket.invariant.3 g (omega arith) }
