@@ -13,7 +13,7 @@ returns-in-At c =
     let state = decode (words c.args.store.now) in
     let home = c.home-home.result in
     let h : LiesAt c.args.settings state (first_holder state.bricks c.args.key.0 (between state home ids)) c.args.key.0 c.in-At.place c.in-At.row =
-    rw c.in-At.is c.place-1.given c.first_holder.ensures in
+    rw c.in-At.is at c.first_holder.ensures in
     holder_above _ c.args.store.now c.requires c.args.key.0 home c.home-home.ensures _ _ h
 
 pub returns-in-Nowhere : goal.returns-in-Nowhere

@@ -7,6 +7,7 @@ use Rattle.words.specs.Words.{words}
 use Rattle.layout.specs.Store.{decode}
 use Rattle.holders.proofs.Scan.{Scanned, scan_start, scan_hit, scan_miss, scan_none, scan_next}
 use Rattle.holders.proofs.next_member.Goals as goal
+use Rattle.holders.proofs.next_member.Goals.{then-member_within, else-member_within}
 
 pub loop-place-init : goal.loop-place-init
 loop-place-init c = scan_start _ _ _ _
@@ -14,12 +15,12 @@ loop-place-init c = scan_start _ _ _ _
 pub loop-place-preserved : goal.loop-place-preserved
 loop-place-preserved c =
     let old = c.loop-place in
-    ⊎_elim
-    (λ w. rw (w.2, w.3, w.1.ensures)
-    (scan_hit _ _ _ _ old.place old.least old.at old.invariant (omega arith) (sym c.member_within.ensures ∙ w.0.taken)))
-    (λ w. rw (w.1, w.2)
-    (scan_miss _ _ _ _ old.place old.least old.at old.invariant (omega arith) (sym c.member_within.ensures ∙ w.0.left)))
-    c.if-member_within.branch
+    elim c.if-member_within.branch [
+      then-member_within w ↦ rw (w.least-is, w.at-is, w.id-least.ensures)
+          (scan_hit _ _ _ _ old.place old.least old.at old.invariant (omega arith) (sym c.member_within.ensures ∙ w.if-member_within.true))
+    | else-member_within w ↦ rw (w.least-is, w.at-is)
+          (scan_miss _ _ _ _ old.place old.least old.at old.invariant (omega arith) (sym c.member_within.ensures ∙ w.if-member_within.false))
+    ]
 
 pub returns-then-at-settings : goal.returns-then-at-settings
 returns-then-at-settings c =

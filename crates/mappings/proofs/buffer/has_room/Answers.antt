@@ -22,9 +22,8 @@ buffer-requires c =
 pub returns-in-At : goal.returns-in-At
 returns-in-At c =
     let place_of = c.place_of in
-    let place = c.place-1 in
     let state = decode (words c.args.store.now) in
-    let h : Stands c.args.settings state c.args.id place.given.0.0 = rw place.given.1 at place_of.ensures in
+    let h : Stands c.args.settings state c.args.id c.in-At.place = rw c.in-At.is at place_of.ensures in
     ap (λ (n : ℕ). ltb n max_waiting) (c.read.ensures ∙ sym (count_is entry_row max_waiting _) ∙ ap length c.buffer.ensures.same
     ∙ ap (λ (i : ℕ). length (state.bricks.buffer i)) h.here)
 

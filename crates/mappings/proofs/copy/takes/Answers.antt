@@ -22,9 +22,8 @@ memory-requires c =
 pub returns-in-At : goal.returns-in-At
 returns-in-At c =
     let place_of = c.place_of in
-    let place = c.place-1 in
     let state = decode (words c.args.store.now) in
-    let h : Stands c.args.settings state c.args.id place.given.0.0 = rw place.given.1 at place_of.ensures in
+    let h : Stands c.args.settings state c.args.id c.in-At.place = rw c.in-At.is at place_of.ensures in
     c.takes.ensures ∙ ap (λ (l : List Entry). takes c.args.settings.entries l c.args.block.0) c.memory.ensures.same
     ∙ ap (λ (i : ℕ). takes c.args.settings.entries ((state.bucket c.args.bucket).memory i) c.args.block.0) h.here
 

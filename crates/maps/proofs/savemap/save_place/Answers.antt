@@ -1,0 +1,22 @@
+use Prim.Native.Nat.{◌*◌}
+use native.Mathlib.Omega.{arith}
+use Rattle.layout.proofs.Bounds.{place_small}
+use Rattle.maps.proofs.Saving.{copies_lent, copies_saved}
+use borrow.Author.Rules.{rules}
+use Rattle.maps.proofs.savemap.save_place.Goals as goal
+
+pub overflow_mul-end : goal.overflow_mul-end
+overflow_mul-end c = omega (arith, place_small c.args.settings c.requires.limits)
+
+pub slice_bounds-match_all-end : goal.slice_bounds-match_all-end
+slice_bounds-match_all-end c = omega (arith, c.requires.size)
+
+pub match_all-requires : goal.match_all-requires
+match_all-requires c =
+    copies_lent c.args.settings c.args.part.now c.requires 568 (8 * c.log_at-end.result) (omega arith) (omega arith)
+
+pub returns : goal.returns
+returns c =
+    let matched = c.match_all in
+    copies_saved c.args.settings c.args.part.now c.requires 568 (8 * c.log_at-end.result) (omega arith) (omega arith)
+    matched.new.copies matched.auto.copies matched.ensures

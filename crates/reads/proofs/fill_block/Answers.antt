@@ -1,0 +1,62 @@
+use mathlib.Core.Path.{◌≡◌, refl, sym, ap, ◌∙◌}
+use lib.ListN.{length}
+use Rattle.words.specs.Words.{words}
+use Rattle.rules.specs.Reads.{zeros, get_bytes}
+use Rattle.layout.specs.Store.{decode}
+use Rattle.holders.proofs.Contents.{row_lies}
+use Rattle.reads.specs.declared.Lookup.TheVariants.{Refused, Unmapped}
+use Rattle.reads.specs.Get.{Located, LooksUp}
+use Rattle.reads.proofs.Contents.{unmapped_bytes, located_bytes, bytes_size}
+use Rattle.reads.proofs.Outcomes.{refused, accepted, fills_refused, fills_accepted}
+use borrow.Author.Rules.{rules}
+use Rattle.reads.proofs.fill_block.Goals as goal
+
+-- where the chunk lies
+lies : (c : goal.In-Chunk-2)
+    → Located c.args.settings (decode (words c.args.store.now)) c.args.proxy c.args.block c.in-Chunk.key.0 c.in-Chunk.place
+    c.in-Chunk.row
+lies c = rw c.in-Chunk.is at c.look_up.ensures
+
+-- its row has the block's bytes
+same_bytes : (c : goal.After-chunk)
+    → c.chunk.result.now ≡ get_bytes (decode (words c.args.store.now)) c.args.block
+same_bytes c =
+    c.chunk.ensures ∙ located_bytes _ c.args.store.now c.requires.0 c.args.proxy c.args.block (lies c.before.before.before.before)
+
+pub returns-in-Refused : goal.returns-in-Refused
+returns-in-Refused c =
+    let s = decode (words c.args.store.now) in
+    let h : LooksUp c.args.settings s c.args.proxy c.args.block (Refused c.in-Refused.no) = rw c.in-Refused.is at c.look_up.ensures in
+    fills_refused s c.args.proxy c.args.block _ (refused s c.args.proxy c.args.block _ h.0 h.1) h.1 c.args.area.now
+
+pub returns-in-Unmapped : goal.returns-in-Unmapped
+returns-in-Unmapped c =
+    let s = decode (words c.args.store.now) in
+    let h : LooksUp c.args.settings s c.args.proxy c.args.block Unmapped = rw c.in-Unmapped.is at c.look_up.ensures in
+    fills_accepted s c.args.proxy c.args.block (accepted s c.args.proxy c.args.block h.0 (sym h.1) refl) refl c.args.area.now _
+    (c.clear.ensures ∙ ap zeros c.requires.1 ∙ unmapped_bytes _ c.args.store.now c.requires.0 c.args.proxy c.args.block h.1)
+
+pub chunk-requires : goal.chunk-requires
+chunk-requires c =
+    let lies : Located c.args.settings (decode (words c.args.store.now)) c.args.proxy c.args.block c.in-Chunk.key.0 c.in-Chunk.place
+    c.in-Chunk.row = rw c.in-Chunk.is at c.look_up.ensures in
+
+    row_lies c.requires.0 (lies).lies
+
+pub copy_bytes-requires : goal.copy_bytes-requires
+copy_bytes-requires c =
+    let lies : Located c.args.settings (decode (words c.args.store.now)) c.args.proxy c.args.block c.in-Chunk.key.0 c.in-Chunk.place
+    c.in-Chunk.row = rw c.in-Chunk.is at c.look_up.ensures in
+
+    c.requires.1 ∙ sym (ap length (same_bytes c) ∙ bytes_size _ c.args.store.now c.requires.0 c.args.proxy c.args.block (lies).accepted)
+
+pub returns-in-Chunk : goal.returns-in-Chunk
+returns-in-Chunk c =
+    let lies : Located c.args.settings (decode (words c.args.store.now)) c.args.proxy c.args.block c.in-Chunk.key.0 c.in-Chunk.place
+    c.in-Chunk.row = rw c.in-Chunk.is at c.look_up.ensures in
+    let same_bytes : c.chunk.result.now ≡ get_bytes (decode (words c.args.store.now)) c.args.block = c.chunk.ensures ∙ located_bytes _ c.args.store.now c.requires.0 c.args.proxy c.args.block (lies) in
+
+    let s = decode (words c.args.store.now) in
+    let at = lies in
+    fills_accepted s c.args.proxy c.args.block (accepted s c.args.proxy c.args.block at.accepted at.key_mapped refl) refl
+    c.args.area.now _ (c.copy_bytes.ensures ∙ same_bytes)

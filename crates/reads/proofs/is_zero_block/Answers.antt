@@ -1,0 +1,32 @@
+use mathlib.Core.Path.{◌≡◌, refl, sym, ◌∙◌}
+use mathlib.Core.Bool.{true}
+use Prim.Native.Nat.{◌*◌, ◌/◌, ◌-◌, ◌≤◌}
+use native.Mathlib.Omega.{arith}
+use lib.ListN.{take}
+use Rattle.lists.specs.Tests.{every}
+use borrow.Author.Rules.{rules}
+use Rattle.reads.proofs.Zeros.{all_zero, zeros_short, zeros_not, zeros_more, zeros_yes}
+use Rattle.reads.proofs.is_zero_block.Goals as goal
+
+pub returns-then-bytes-size : goal.returns-then-bytes-size
+returns-then-bytes-size c = sym (zeros_short c.args.size c.args.bytes.now c.if-bytes-size.true)
+
+pub loop-i-init : goal.loop-i-init
+unfolding every
+loop-i-init c = (search rules, refl)
+
+pub returns-then-read-ne0 : goal.returns-then-read-ne0
+returns-then-read-ne0 c =
+    sym (zeros_not c.args.size c.args.bytes.now c.loop-i.i (omega arith) (λ e. c.if-read-ne0.true (c.read.ensures ∙ e)))
+
+pub loop-i-preserved : goal.loop-i-preserved
+loop-i-preserved c =
+    let old = c.loop-i in (
+      search rules,
+      zeros_more c.args.size c.args.bytes.now old.i (omega arith) (sym c.read.ensures ∙ c.if-read-ne0.false) old.invariant.1,
+    )
+
+pub returns : goal.returns
+returns c =
+    let old = c.loop-i in
+    sym (zeros_yes c.args.size c.args.bytes.now (omega arith) old.i (omega arith) old.invariant.1)

@@ -1,0 +1,36 @@
+use mathlib.Core.Path.{◌≡◌}
+use Rattle.words.specs.Words.{words}
+use Rattle.rules.specs.Derived.{holder}
+use Rattle.rules.proofs.Questions.{stops_there}
+use Rattle.layout.specs.Store.{decode}
+use Rattle.mappings.specs.Asks.{served_asks}
+use Rattle.holders.specs.Members.{LiesAt}
+use Rattle.reads.proofs.Contents.{no_mapping, located, lost}
+use borrow.Author.Rules.{rules}
+use Rattle.reads.proofs.look_up.Goals as goal
+
+pub returns-then-no-ne0 : goal.returns-then-no-ne0
+returns-then-no-ne0 c =
+    let s = decode (words c.args.store.now) in
+    (stops_there (served_asks s c.args.proxy c.args.block) _ c.served_asks-no.ensures c.if-no-ne0.true, c.if-no-ne0.true)
+
+pub returns-then-key-eq0 : goal.returns-then-key-eq0
+returns-then-key-eq0 c =
+    no_mapping c.args.settings (decode (words c.args.store.now)) c.args.proxy c.args.block c.served_asks-no.ensures c.if-no-ne0.false
+    c.mapped-key.ensures c.if-key-eq0.true
+
+pub returns-in-At : goal.returns-in-At
+returns-in-At c =
+    let s = decode (words c.args.store.now) in
+    let k = c.mapped-key.result.0 in
+    let at : LiesAt c.args.settings s (holder s k) k c.in-At.place c.in-At.row =
+    rw c.in-At.is at c.holder.ensures in
+    located c.args.settings s c.args.proxy c.args.block c.served_asks-no.ensures c.if-no-ne0.false
+    c.mapped-key.ensures c.if-key-eq0.false _ _ at
+
+pub returns-in-Nowhere : goal.returns-in-Nowhere
+returns-in-Nowhere c =
+    let s = decode (words c.args.store.now) in
+    let none : holder s c.mapped-key.result.0 ≡ 0 = rw c.in-Nowhere.is at c.holder.ensures in
+    lost c.args.settings s c.args.proxy c.args.block c.served_asks-no.ensures c.if-no-ne0.false
+    c.mapped-key.ensures c.if-key-eq0.false none
