@@ -11,18 +11,6 @@ use Rattle.reads.proofs.Outcomes.{refused, accepted, fills_refused, fills_accept
 use borrow.Author.Rules.{rules}
 use Rattle.reads.proofs.fill_block.Goals as goal
 
--- where the chunk lies
-lies : (c : goal.In-Chunk-2)
-    → Located c.args.settings (decode (words c.args.store.now)) c.args.proxy c.args.block c.in-Chunk.key.0 c.in-Chunk.place
-    c.in-Chunk.row
-lies c = rw c.in-Chunk.is at c.look_up.ensures
-
--- its row has the block's bytes
-same_bytes : (c : goal.After-chunk)
-    → c.chunk.result.now ≡ get_bytes (decode (words c.args.store.now)) c.args.block
-same_bytes c =
-    c.chunk.ensures ∙ located_bytes _ c.args.store.now c.requires.0 c.args.proxy c.args.block (lies c.before.before.before.before)
-
 pub returns-in-Refused : goal.returns-in-Refused
 returns-in-Refused c =
     let s = decode (words c.args.store.now) in
@@ -47,8 +35,9 @@ pub copy_bytes-requires : goal.copy_bytes-requires
 copy_bytes-requires c =
     let lies : Located c.args.settings (decode (words c.args.store.now)) c.args.proxy c.args.block c.in-Chunk.key.0 c.in-Chunk.place
     c.in-Chunk.row = rw c.in-Chunk.is at c.look_up.ensures in
+    let same_bytes : c.chunk.result.now ≡ get_bytes (decode (words c.args.store.now)) c.args.block = c.chunk.ensures ∙ located_bytes _ c.args.store.now c.requires.0 c.args.proxy c.args.block (lies) in
 
-    c.requires.1 ∙ sym (ap length (same_bytes c) ∙ bytes_size _ c.args.store.now c.requires.0 c.args.proxy c.args.block (lies).accepted)
+    c.requires.1 ∙ sym (ap length (same_bytes) ∙ bytes_size _ c.args.store.now c.requires.0 c.args.proxy c.args.block (lies).accepted)
 
 pub returns-in-Chunk : goal.returns-in-Chunk
 returns-in-Chunk c =

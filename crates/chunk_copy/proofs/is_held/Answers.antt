@@ -1,0 +1,30 @@
+use mathlib.Core.Path.{◌≡◌, sym, ap, ◌∙◌}
+use Prim.Native.Nat.{ℕ}
+use Rattle.words.specs.Words.{words}
+use Rattle.rules.specs.Chunks.{held}
+use Rattle.layout.specs.Contents.{blank_brick}
+use Rattle.layout.specs.Store.{brick_in, decode}
+use Rattle.lent.specs.Places.{Stands}
+use Rattle.chunk_copy.proofs.Copies.{none_held}
+use borrow.Author.Rules.{rules}
+use Rattle.chunk_copy.proofs.is_held.Goals as goal
+
+pub holds_at-requires : goal.holds_at-requires
+holds_at-requires c =
+    let found : Stands c.args.settings (decode (words c.args.store.now)) c.args.id c.in-At.place = rw c.in-At.is at c.place_of.ensures in
+
+    let at = found in
+    (c.requires, at.inside, rw at.here at.some)
+
+pub returns-in-At : goal.returns-in-At
+returns-in-At c =
+    let found : Stands c.args.settings (decode (words c.args.store.now)) c.args.id c.in-At.place = rw c.in-At.is at c.place_of.ensures in
+
+    let s = decode (words c.args.store.now) in
+    c.holds_at.ensures ∙ ap (λ (i : ℕ). held (s.bricks.log i) c.args.key.0) (found).here
+
+pub returns-in-Nowhere : goal.returns-in-Nowhere
+returns-in-Nowhere c =
+    let s = decode (words c.args.store.now) in
+    let blank : brick_in s c.args.id ≡ blank_brick = rw c.in-Nowhere.is at c.place_of.ensures in
+    sym (none_held c.args.settings s c.args.key.0 c.args.id blank)

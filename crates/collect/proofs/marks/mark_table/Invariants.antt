@@ -1,0 +1,18 @@
+use mathlib.Core.Path.{◌≡◌, refl, ap, ◌∙◌}
+use Prim.Native.Nat.{ℕ, ◌-◌, ◌≤◌}
+use native.Mathlib.Omega.{arith}
+use lib.ListN.{length, get_or}
+use Rattle.words.specs.Words.{words}
+use Rattle.words.proofs.Laws.{room}
+use Rattle.named.specs.Tables.{names_first}
+use Rattle.collect.specs.Marked.{marks}
+use Rattle.collect.proofs.Marking.{marks_log, rows_start, rows_turn}
+use borrow.Author.Rules.{rules}
+use Rattle.collect.proofs.marks.mark_table.Given as goal
+
+abbrev pub invariant-loop-i : goal.invariant-loop-i
+invariant-loop-i l =
+    (l.i ≤ l.n) × (length l.store ≡ length l.initial.store) × (words l.store ≡ marks l.settings l.at (names_first (words l.initial.store) l.from l.i) (words l.initial.store))
+
+abbrev pub decreases-loop-i : goal.decreases-loop-i
+decreases-loop-i l = l.n - l.i

@@ -1,0 +1,41 @@
+use mathlib.Core.Path.{◌≡◌, sym, ap, subst, ◌∙◌}
+use mathlib.Core.List.{[]}
+use Prim.Native.Nat.{ℕ, ◌<◌}
+use Rattle.words.specs.Words.{words}
+use Rattle.rules.specs.Sound.{same_entries}
+use Rattle.layout.specs.Contents.{Brick, blank_brick}
+use Rattle.layout.specs.Store.{brick_in, decode}
+use Rattle.lent.specs.Places.{Stands}
+use Rattle.entries.proofs.Sorted.{same_self}
+use Rattle.collect.proofs.Questions.{lent_same}
+use borrow.Author.Rules.{rules}
+use Rattle.collect.proofs.pending.settled.Goals as goal
+
+pub memory-requires : goal.memory-requires
+memory-requires c =
+    let a = c.args in
+    let h : Stands a.settings (decode (words a.store.now)) a.id c.in-At.place =
+    rw c.in-At.is at c.place_of.ensures in
+    (c.requires.0, h.inside, subst (λ (n : ℕ). 0 < n) (sym h.here) h.some, c.requires.1)
+
+pub disk-requires : goal.disk-requires
+disk-requires c =
+    let a = c.args in
+    let h : Stands a.settings (decode (words a.store.now)) a.id c.in-At.place =
+    rw c.in-At.is at c.place_of.ensures in
+    (c.requires.0, h.inside, subst (λ (n : ℕ). 0 < n) (sym h.here) h.some, c.requires.1)
+
+pub returns-in-At : goal.returns-in-At
+returns-in-At c =
+    let a = c.args in
+    let h : Stands a.settings (decode (words a.store.now)) a.id c.in-At.place =
+    rw c.in-At.is at c.place_of.ensures in
+    let k = (decode (words a.store.now)).bucket a.bucket in
+    lent_same _ _ _ (k.memory a.id) (k.disk a.id) c.same.ensures (c.memory.ensures.same ∙ ap k.memory h.here)
+    (c.disk.ensures.same ∙ ap k.disk h.here)
+
+pub returns-in-Nowhere : goal.returns-in-Nowhere
+returns-in-Nowhere c =
+    let a = c.args in
+    let h : brick_in (decode (words a.store.now)) a.id ≡ blank_brick = rw c.in-Nowhere.is at c.place_of.ensures in
+    sym (ap (λ (b : Brick). same_entries (b.copies a.bucket).memory (b.copies a.bucket).disk) h ∙ same_self [])

@@ -1,0 +1,21 @@
+use mathlib.Core.Path.{◌≡◌, sym, ◌∙◌}
+use Prim.Native.Nat.{◌+◌, ◌*◌, ◌-◌, ◌≤◌}
+use native.Mathlib.Omega.{arith}
+use Rattle.rules.proofs.Limits.{few_buckets}
+use Rattle.words.specs.Words.{words}
+use Rattle.rules.specs.Limits.{buckets}
+use Rattle.layout.specs.Store.{decode}
+use Rattle.mend.specs.Keys.{before}
+use Rattle.mend.specs.Flags.{Met}
+use Rattle.mend.specs.Counts.{InAll}
+use Rattle.mend.proofs.Counting.{sum_start, bucket_turn, all_few}
+use borrow.Author.Rules.{rules}
+use Rattle.mend.proofs.room.count_all.Given as goal
+
+abbrev pub invariant-loop-bucket : goal.invariant-loop-bucket
+invariant-loop-bucket l =
+    (l.bucket ≤ l.n) × (l.n ≡ buckets l.settings) × InAll (decode (words l.store)) ((decode (words l.store)).ids l.place) l.base l.bucket l.inside l.beyond
+    × Met l.settings (decode (words l.store)) ((decode (words l.store)).ids l.place) l.base (before (decode (words l.store)) l.bucket 0) l.flags
+
+abbrev pub decreases-loop-bucket : goal.decreases-loop-bucket
+decreases-loop-bucket l = l.n - l.bucket

@@ -1,0 +1,43 @@
+use mathlib.Core.Path.{◌≡◌, ap}
+use Prim.Native.Nat.{ℕ, ◌+◌, ◌*◌, ◌-◌}
+use native.Mathlib.Omega.{arith}
+use Rattle.layout.specs.Layout.{place_words}
+use Rattle.lent.proofs.AllPlaces.{Changed, none_changed, all_changed, next_place, one_more}
+use Rattle.recovery.specs.Ready.{dropped_copies}
+use borrow.Author.Rules.{rules}
+use Rattle.recovery.proofs.others.drop_all.Goals as goal
+
+pub loop-place-init : goal.loop-place-init
+loop-place-init c =
+    (
+      ap (λ (k : ℕ). c.args.settings.places * k) c.place_words-size.ensures,
+      none_changed (dropped_copies c.args.bucket c.args.primary c.args.backup) c.args.settings c.args.part.now c.requires.0,
+    )
+
+pub drop_at-requires : goal.drop_at-requires
+drop_at-requires c =
+    let l = c.loop-place in
+    let size = c.place_words-size in
+    let o = 8 * c.offset-at.result in
+    let product = ap (λ (k : ℕ). l.place * k) size.ensures in (
+      next_place (dropped_copies c.args.bucket c.args.primary c.args.backup) c.args.settings c.args.part.now c.requires.0 l.place
+          (omega arith) l.part l.invariant.1 o (o + 8 * size.result - o) (omega arith) (omega arith),
+      c.requires.1,
+    )
+
+pub loop-place-preserved : goal.loop-place-preserved
+loop-place-preserved c =
+    let l = c.loop-place in
+    let size = c.place_words-size in
+    let o = 8 * c.offset-at.result in
+    let product = ap (λ (k : ℕ). l.place * k) size.ensures in (
+      l.invariant.0,
+      one_more (dropped_copies c.args.bucket c.args.primary c.args.backup) c.args.settings c.args.part.now c.requires.0 l.place
+          (omega arith) l.part l.invariant.1 o (o + 8 * size.result - o) (omega arith) (omega arith) c.drop_at.new.part (omega arith)
+          c.drop_at.ensures,
+    )
+
+pub returns : goal.returns
+returns c =
+    all_changed (dropped_copies c.args.bucket c.args.primary c.args.backup) c.args.settings c.args.part.now c.requires.0
+    c.loop-place.place c.loop-place.part (omega arith) c.loop-place.invariant.1

@@ -1,0 +1,27 @@
+use mathlib.Core.Path.{◌≡◌, ap, ◌∙◌}
+use Prim.Native.Nat.{ℕ, ◌+◌, ◌*◌, ◌-◌, ◌≤◌}
+use native.Mathlib.Omega.{arith}
+use lib.ListN.{length}
+use borrow.Author.Rules.{rules}
+use Rattle.lists.proofs.Runs.{run_length}
+use Rattle.rules.specs.Pairs.{id_in}
+use Rattle.words.specs.Words.{words}
+use Rattle.words.proofs.Laws.{length_words}
+use Rattle.codec.specs.Codec.{enc_many}
+use Rattle.codec.proofs.Loops.{written, loop_start, loop_end}
+use Rattle.layout.specs.Contents.{Agreed, blank_agreed}
+use Rattle.layout.specs.Layout.{agreed_codec}
+use Rattle.layout.proofs.Codecs.{agreed_law}
+use Rattle.layout.proofs.Lent.{each_changed, change_turn}
+use Rattle.views.specs.Begin.{renewed}
+use Rattle.views.proofs.record.renew_all.Given as goal
+
+abbrev pub invariant-loop-bucket : goal.invariant-loop-bucket
+invariant-loop-bucket l =
+    (l.bucket ≤ l.count) × (length l.part ≡ length l.initial.part)
+    × (words l.part ≡ written agreed_codec l.bucket (each_changed agreed_codec l.count blank_agreed (λ g. renewed (id_in l.assigned (2 * g)) (id_in l.assigned (2 * g + 1)))
+    (words l.initial.part))
+    (words l.initial.part))
+
+abbrev pub decreases-loop-bucket : goal.decreases-loop-bucket
+decreases-loop-bucket l = l.count - l.bucket

@@ -1,0 +1,56 @@
+use mathlib.Core.Path.{◌≡◌, refl, ap, ◌∙◌}
+use native.Mathlib.Omega.{arith}
+use Rattle.words.specs.Words.{words}
+use Rattle.layout.specs.Contents.{Status, Place}
+use Rattle.layout.specs.Layout.{place_codec}
+use Rattle.records.specs.Records.{status_of, with_status}
+use Rattle.writes.specs.Logs.{with_chunk}
+use Rattle.writes.specs.Puts.{counted}
+use Rattle.writes.proofs.Logs.{append_fits, log_grown}
+use Rattle.writes.proofs.Puts.{status_counted}
+use borrow.Author.Rules.{rules}
+use Rattle.writes.proofs.put.put_place.Goals as goal
+
+pub read_status-old-requires : goal.read_status-old-requires
+read_status-old-requires c = (c.requires.brick.size, c.requires.brick.filled)
+
+pub overflow_add-new : goal.overflow_add-new
+overflow_add-new c =
+    omega (arith, ap (λ (s : Status). s.next) c.read_status-old.ensures, c.requires.next, c.requires.ceiling)
+
+pub raised-requires : goal.raised-requires
+raised-requires c =
+    omega (arith, ap (λ (s : Status). s.ceiling) c.read_status-old.ensures, c.requires.ceiling)
+
+pub write_status-requires : goal.write_status-requires
+write_status-requires c =
+    (c.requires.brick.size, c.requires.brick.filled, c.requires.brick.clean)
+
+pub append-requires : goal.append-requires
+append-requires c =
+    let new : Place = let old = (place_codec c.args.settings).dec (words c.args.part.now) in with_status (counted old.snd.status) old in
+    let same : words c.write_status.new.part ≡ (place_codec c.args.settings).enc (new) (words c.args.part.now) = let codec = place_codec c.args.settings in
+    let w = words c.args.part.now in
+    let old = codec.dec w in
+    let read = c.read_status-old in
+    c.write_status.ensures
+    ∙ ap (λ (r : Status). codec.enc (with_status r old) w)
+    (status_counted (status_of read.result) old.snd.status _ _ read.ensures refl c.raised.ensures) in
+
+    append_fits c.args.settings c.args.part.now c.requires.brick (new) c.requires.brick.filled refl _ (same) c.write_status.auto.part
+    c.args.bytes.now c.requires.room c.requires.size
+
+pub returns : goal.returns
+returns c =
+    let new : Place = let old = (place_codec c.args.settings).dec (words c.args.part.now) in with_status (counted old.snd.status) old in
+    let same : words c.write_status.new.part ≡ (place_codec c.args.settings).enc (new) (words c.args.part.now) = let codec = place_codec c.args.settings in
+    let w = words c.args.part.now in
+    let old = codec.dec w in
+    let read = c.read_status-old in
+    c.write_status.ensures
+    ∙ ap (λ (r : Status). codec.enc (with_status r old) w)
+    (status_counted (status_of read.result) old.snd.status _ _ read.ensures refl c.raised.ensures) in
+
+    c.append.ensures
+    ∙ log_grown c.args.settings c.args.part.now c.requires.brick (new) c.requires.brick.filled refl _ (same) c.write_status.auto.part
+    (with_chunk c.args.key.0 c.args.bytes.now)
