@@ -28,7 +28,7 @@ module _ {M : Type 1} {𝓤 : Ura M} (𝓛 : Logic 𝓤) (R : RattleType) where
   pub as_passed : (ℓ : Lifetime) (κ : Lft) (γ : GName) (ys : List R.Denot) → ent 𝓤 (A.obs γ ((coded_holeys R).code (heres R ys))) (sem 𝓛 (finally R γ ys))
   as_passed ℓ κ γ ys =
       qed 𝓛 (‵ (fobs γ ((coded_holeys R).code (heres R ys))) ∷ []) ∵ use1 𝓛 (‵ (fres γ ((coded_holeys R).code (heres R ys))))
-      (𝓛.names.obs_res γ ((coded_holeys R).code (heres R ys))) $
+      (𝓛.names.obs-res γ ((coded_holeys R).code (heres R ys))) $
       by ! (res-finally 𝓛 ℓ κ R γ ys)
 
 -- what a call that requires nothing asks
