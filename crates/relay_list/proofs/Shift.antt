@@ -3,6 +3,7 @@ use mathlib.Core.Path.{◌≡◌, refl, ◌∙◌, ap, subst}
 use mathlib.Core.List.{List, [], ◌∷◌}
 use Prim.Native.Nat.{ℕ, zero, suc, ◌+◌, ◌-◌, ◌<◌, ◌≤◌}
 use native.Mathlib.Omega.{arith}
+use Rattle.std.proofs.Math.Numerals.{add-one}
 use lib.ListN.{length, get_or, set}
 use Rattle.rules.specs.State.{Relay as Held}
 use Rattle.rules.specs.Maps.{remove_at}
@@ -13,6 +14,10 @@ use Rattle.relay_list.proofs.Elements.{blank}
 abbrev pub shift : ℕ → ℕ → List Relay → List Relay
 shift zero i l = l
 shift (suc t) i l = shift t (suc i) (set l i (get_or l (suc i) blank))
+
+-- a turn
+pub one_turn : (last i : ℕ) (l : List Relay) → i < last → shift (last - (i + 1)) (i + 1) (set l i (get_or l (i + 1) blank)) ≡ shift (last - i) i l
+one_turn last i l h = let left : last - i ≡ suc (last - (i + 1)) = omega (arith, h) in rw (left, add-one)
 
 behind : (t i : ℕ) (x : Relay) (l : List Relay) → shift t (suc i) (x ∷ l) ≡ x ∷ shift t i l
 behind zero i x l = refl

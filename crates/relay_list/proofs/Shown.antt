@@ -1,13 +1,13 @@
 -- What is asked before a bag is handed out, and what is promised then.
-use mathlib.Core.Path.{◌≡◌, sym, ◌∙◌, ap}
+use Rattle.std.proofs.Common.{◌≡◌, ◌≢◌, sym, ◌∙◌, ap}
 use mathlib.Core.Bool.{true, false}
 use mathlib.Core.List.{List}
 use Prim.Native.Nat.{ℕ, ◌<◌, ◌≤◌}
-use lib.Dec.{leb, eqb}
+use lib.Dec.{leb}
 use lib.ListN.{length}
 use native.Mathlib.Omega.{arith}
-use borrow.Author.Tests.{le-leb, lt-leb, leb-true, eqb-true}
-use Rattle.lists.proofs.Tests.{by, both, and_l, and_r, impossible}
+use borrow.Author.Tests.{le-leb, lt-leb, leb-true}
+use Rattle.lists.proofs.Tests.{by, both, and_l, and_r}
 use Rattle.rules.specs.Question.{first_no}
 use Rattle.rules.specs.State.{Relay as Held}
 use Rattle.words.specs.Words.{words}
@@ -38,16 +38,16 @@ module _ (store : List ℕ) where
 
   -- ---- what is promised
   module _ (list : List Relay) (code : ℕ) (asked : code ≡ first_no (show_asks store (length list))) where
-    pub sound_one : eqb code 0 ≡ true → sound_bytes store ≡ true
-    sound_one none = (both_yes (length list) (sym asked ∙ eqb-true code 0 none)).0
+    pub sound_one : code ≡ 0 → sound_bytes store ≡ true
+    sound_one none = (both_yes (length list) (sym asked ∙ none)).0
 
-    pub has_records : eqb code 0 ≡ true → length (stored_bag store) ≤ length list
-    has_records none = leb-true _ _ (both_yes (length list) (sym asked ∙ eqb-true code 0 none)).1
+    pub has_records : code ≡ 0 → length (stored_bag store) ≤ length list
+    has_records none = leb-true _ _ (both_yes (length list) (sym asked ∙ none)).1
 
-    pub handed : (part : List ℕ) (count : ℕ) (after : List Relay) → eqb code 0 ≡ true → BagPart (stored_bag store) part → Loads (words part) list count after
+    pub handed : (part : List ℕ) (count : ℕ) (after : List Relay) → code ≡ 0 → BagPart (stored_bag store) part → Loads (words part) list count after
         → Shows store list (record { code = code; count = count }) after
     handed part count after none bag loads =
-        let yes_both = both_yes (length list) (sym asked ∙ eqb-true code 0 none) in
+        let yes_both = both_yes (length list) (sym asked ∙ none) in
         let all = both (sound_bytes store) (leb (length (stored_bag store)) (length list)) yes_both.0 yes_both.1 in
         record {
           code = asked;
@@ -55,8 +55,8 @@ module _ (store : List ℕ) where
           records = rw all (loads.records ∙ ap (λ (l : List Held). over l list) bag.same);
         }
 
-    pub hidden : eqb code 0 ≡ false → Shows store list (record { code = code; count = 0 }) list
+    pub hidden : code ≢ 0 → Shows store list (record { code = code; count = 0 }) list
     unfolding first_no
     hidden some = by (is_shown store list)
-        (λ all. impossible (sym some ∙ ap (λ (c : ℕ). eqb c 0) (asked ∙ sym (all_yes (length list) (and_l _ _ all) (leb-true _ _ (and_r _ _ all))))))
+        (λ all. absurd (some (asked ∙ sym (all_yes (length list) (and_l _ _ all) (leb-true _ _ (and_r _ _ all))))))
         (λ none. record { code = asked; count = rw none; records = rw none })
