@@ -20,16 +20,16 @@ settings-settings-requires c =
 
 pub set_answers-requires : goal.set_answers-requires
 set_answers-requires c =
-    let after-fits : goal.After-fits2 = search in (c.settings-settings.ensures, fits-room _ _ _ (sym after-fits.fits2.ensures ∙ c.if-fits.true))
+    (c.settings-settings.ensures, fits-room _ _ _ (sym c.fits.ensures ∙ c.if-fits.true))
 
 pub returns-then-fits : goal.returns-then-fits
 unfolding decode_bytes
 returns-then-fits c =
     let passed : sound_bytes c.args.store.now ≡ true = sym c.is_sound.ensures ∙ not-false _ c.if-not-is_sound.false-raw in
 
-    let after-fits : goal.After-fits2 = search in let s = c.args in
+    let s = c.args in
     read_all s.store.now s.proxy s.blocks.now s.answers.now (passed) c.settings-settings.result.size
-    (size_is c.settings-settings.result s.store.now c.settings-settings.ensures) (sym after-fits.fits2.ensures ∙ c.if-fits.true) _
+    (size_is c.settings-settings.result s.store.now c.settings-settings.ensures) (sym c.fits.ensures ∙ c.if-fits.true) _
     c.set_answers.ensures
 
 pub returns : goal.returns
@@ -37,6 +37,6 @@ unfolding decode_bytes
 returns c =
     let passed : sound_bytes c.args.store.now ≡ true = sym c.is_sound.ensures ∙ not-false _ c.if-not-is_sound.false-raw in
 
-    let after-fits : goal.After-fits2 = search in let s = c.args in
+    let s = c.args in
     read_none s.store.now s.proxy s.blocks.now s.answers.now (passed) c.settings-settings.result.size
-    (size_is c.settings-settings.result s.store.now c.settings-settings.ensures) (sym after-fits.fits2.ensures ∙ c.if-fits.false)
+    (size_is c.settings-settings.result s.store.now c.settings-settings.ensures) (sym c.fits.ensures ∙ c.if-fits.false)

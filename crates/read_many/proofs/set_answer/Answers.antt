@@ -34,12 +34,12 @@ returns-in-Yes c =
 
 pub returns-in-No : goal.returns-in-No
 returns-in-No c =
-    let refused : let s = c.args in
+    let refused : let s' = c.args in
     let code = c.in-No.code in
-    (code < 256) × (head code 0 ++ zeros s.settings.size ≡ get_answer s.settings.size s.store.now s.proxy s.block) = let s = c.args in
-    let f : Fills (decode (words s.store.now)) (Event.get s.proxy s.block) _ (No c.in-No.code) _ =
+    (code < 256) × (head code 0 ++ zeros s'.settings.size ≡ get_answer s'.settings.size s'.store.now s'.proxy s'.block) = let s' = c.args in
+    let f : Fills (decode (words s'.store.now)) (Event.get s'.proxy s'.block) _ (No c.in-No.code) _ =
     rw c.in-No.is at c.fill_block-answered.ensures in
-    answer_no s.settings s.store.now c.requires.0 s.proxy s.block _ _ _ f in
+    answer_no s'.settings s'.store.now c.requires.0 s'.proxy s'.block _ _ _ f in
 
     let s = c.args in
     let filled : List ℕ = with_rest s.answer.now c.fill_block-answered.new.area in

@@ -23,23 +23,23 @@ pub returns-in-9 : goal.returns-in-9
 unfolding kinds_open
 returns-in-9 c =
     let store : List ℕ = c.args.store.now in
-    let call : Call = let s = c.args in
-    call_with c.kind c.a c.b c.c c.before.before.before.before.before.before.«data».now c.blank.now c.area.now in
+    let call : Call = let s' = c.args in
+    call_with s'.kind s'.a s'.b s'.c s'.«data».now s'.blank.now s'.area.now in
     let event : Event = let k = call in event_from k.kind k.a k.b k.c k.bytes in
-    let other : ((call).kind ≡ get_kind → ⊥) → {e : Event} → event ≡ e → (r : Answer) (after : List ℕ)
-    → ((i : ℕ) → get_or after i 0 < 256) → length after ≡ length (store) → Performs e (words (store)) r (words after)
-    → outcome_of r (call).area after ≡ outcome (store) (call) = λ u q r after b h p. other_steps (call) (store) (sound_store _ (store) c.requires) u r after (below_of 256 _ b) h e q p in
+    let other : (e : Event) → ((call).kind ≡ get_kind → ⊥) → event ≡ e → (r' : Answer) (after : List ℕ)
+    → ((i : ℕ) → get_or after i 0 < 256) → length after ≡ length (store) → Performs e (words (store)) r' (words after)
+    → outcome_of r' (call).area after ≡ outcome (store) (call) = λ e u q r' after b h p. other_steps (call) (store) (sound_store _ (store) c.requires) u r' after (below_of 256 _ b) h e q p in
 
     let r = c.done in
-    other (λ z. omega arith) (rw c.in-9.is refl) r.result _
+    other _ (λ z. omega arith) (rw c.in-9.is refl) r.result _
     (λ i. omega (arith, c.type_inv.store i)) r.auto.store r.ensures
 
 pub returns-in-10 : goal.returns-in-10
 unfolding decode_bytes
 returns-in-10 c =
     let store : List ℕ = c.args.store.now in
-    let call : Call = let s = c.args in
-    call_with c.kind c.a c.b c.c c.before.before.before.before.before.before.«data».now c.blank.now c.area-1.now in
+    let call : Call = let s' = c.args in
+    call_with s'.kind s'.a s'.b s'.c s'.«data».now s'.blank.now s'.area.now in
 
     get_steps (store) (sound_store _ (store) c.requires) (below_of 256 _ (λ i. omega (arith, c.slice_known-1.given i))) (call)
     c.in-10.is c.get_into.result _ c.get_into.ensures
@@ -48,111 +48,111 @@ pub returns-in-11 : goal.returns-in-11
 unfolding kinds_open
 returns-in-11 c =
     let store : List ℕ = c.args.store.now in
-    let call : Call = let s = c.args in
-    call_with c.kind c.a c.b c.c c.before.before.before.before.before.before.«data».now c.blank.now c.area.now in
+    let call : Call = let s' = c.args in
+    call_with s'.kind s'.a s'.b s'.c s'.«data».now s'.blank.now s'.area.now in
     let event : Event = let k = call in event_from k.kind k.a k.b k.c k.bytes in
-    let other : ((call).kind ≡ get_kind → ⊥) → {e : Event} → event ≡ e → (r : Answer) (after : List ℕ)
-    → ((i : ℕ) → get_or after i 0 < 256) → length after ≡ length (store) → Performs e (words (store)) r (words after)
-    → outcome_of r (call).area after ≡ outcome (store) (call) = λ u q r after b h p. other_steps (call) (store) (sound_store _ (store) c.requires) u r after (below_of 256 _ b) h e q p in
+    let other : (e : Event) → ((call).kind ≡ get_kind → ⊥) → event ≡ e → (r' : Answer) (after : List ℕ)
+    → ((i : ℕ) → get_or after i 0 < 256) → length after ≡ length (store) → Performs e (words (store)) r' (words after)
+    → outcome_of r' (call).area after ≡ outcome (store) (call) = λ e u q r' after b h p. other_steps (call) (store) (sound_store _ (store) c.requires) u r' after (below_of 256 _ b) h e q p in
 
     let r = c.abandon in
-    other (λ z. omega arith) (rw c.in-11.is refl) r.result _
+    other _ (λ z. omega arith) (rw c.in-11.is refl) r.result _
     (λ i. omega (arith, c.type_inv.store i)) r.auto.store r.ensures
 
 pub returns-in-1-to-3 : goal.returns-in-1-to-3
 returns-in-1-to-3 c =
     let store : List ℕ = c.args.store.now in
-    let call : Call = let s = c.args in
-    call_with c.kind c.a c.b c.c c.before.before.before.before.before.before.before.before.«data».now c.blank.now c.area.now in
+    let call : Call = let s' = c.args in
+    call_with s'.kind s'.a s'.b s'.c s'.«data».now s'.blank.now s'.area.now in
     let event : Event = let k = call in event_from k.kind k.a k.b k.c k.bytes in
-    let other : ((call).kind ≡ get_kind → ⊥) → {e : Event} → event ≡ e → (r : Answer) (after : List ℕ)
-    → ((i : ℕ) → get_or after i 0 < 256) → length after ≡ length (store) → Performs e (words (store)) r (words after)
-    → outcome_of r (call).area after ≡ outcome (store) (call) = λ u q r after b h p. other_steps (call) (store) (sound_store _ (store) c.requires) u r after (below_of 256 _ b) h e q p in
+    let other : (e : Event) → ((call).kind ≡ get_kind → ⊥) → event ≡ e → (r' : Answer) (after : List ℕ)
+    → ((i : ℕ) → get_or after i 0 < 256) → length after ≡ length (store) → Performs e (words (store)) r' (words after)
+    → outcome_of r' (call).area after ≡ outcome (store) (call) = λ e u q r' after b h p. other_steps (call) (store) (sound_store _ (store) c.requires) u r' after (below_of 256 _ b) h e q p in
 
     let r = c.write in
-    other (λ z. omega arith) refl r.result _ (λ i. omega (arith, c.type_inv.store i)) r.auto.store r.ensures
+    other _ (λ z. omega arith) refl r.result _ (λ i. omega (arith, c.type_inv.store i)) r.auto.store r.ensures
 
 pub returns-in-4-to-8 : goal.returns-in-4-to-8
 returns-in-4-to-8 c =
     let store : List ℕ = c.args.store.now in
-    let call : Call = let s = c.args in
-    call_with c.kind c.a c.b c.c c.before.before.before.before.before.before.before.before.before.«data».now c.blank.now c.area.now in
+    let call : Call = let s' = c.args in
+    call_with s'.kind s'.a s'.b s'.c s'.«data».now s'.blank.now s'.area.now in
     let event : Event = let k = call in event_from k.kind k.a k.b k.c k.bytes in
-    let other : ((call).kind ≡ get_kind → ⊥) → {e : Event} → event ≡ e → (r : Answer) (after : List ℕ)
-    → ((i : ℕ) → get_or after i 0 < 256) → length after ≡ length (store) → Performs e (words (store)) r (words after)
-    → outcome_of r (call).area after ≡ outcome (store) (call) = λ u q r after b h p. other_steps (call) (store) (sound_store _ (store) c.requires) u r after (below_of 256 _ b) h e q p in
+    let other : (e : Event) → ((call).kind ≡ get_kind → ⊥) → event ≡ e → (r' : Answer) (after : List ℕ)
+    → ((i : ℕ) → get_or after i 0 < 256) → length after ≡ length (store) → Performs e (words (store)) r' (words after)
+    → outcome_of r' (call).area after ≡ outcome (store) (call) = λ e u q r' after b h p. other_steps (call) (store) (sound_store _ (store) c.requires) u r' after (below_of 256 _ b) h e q p in
     let two : 4 ≤ (call).kind → (call).kind ≤ 8 → event ≡ event_from (call).kind (call).a (call).b 0 [] = λ l h. let k = call in two_numbers k.a k.b k.c k.bytes k.kind l h in
 
     let r = c.map in
-    other (λ z. omega arith) (two (omega arith) (omega arith)) r.result _ (λ i. omega (arith, c.type_inv.store i)) r.auto.store r.ensures
+    other _ (λ z. omega arith) (two (omega arith) (omega arith)) r.result _ (λ i. omega (arith, c.type_inv.store i)) r.auto.store r.ensures
 
 pub returns-in-12-to-13 : goal.returns-in-12-to-13
 returns-in-12-to-13 c =
     let store : List ℕ = c.args.store.now in
-    let call : Call = let s = c.args in
-    call_with c.kind c.a c.b c.c c.before.before.before.before.before.before.before.before.before.before.«data».now c.blank.now c.area.now in
+    let call : Call = let s' = c.args in
+    call_with s'.kind s'.a s'.b s'.c s'.«data».now s'.blank.now s'.area.now in
     let event : Event = let k = call in event_from k.kind k.a k.b k.c k.bytes in
-    let other : ((call).kind ≡ get_kind → ⊥) → {e : Event} → event ≡ e → (r : Answer) (after : List ℕ)
-    → ((i : ℕ) → get_or after i 0 < 256) → length after ≡ length (store) → Performs e (words (store)) r (words after)
-    → outcome_of r (call).area after ≡ outcome (store) (call) = λ u q r after b h p. other_steps (call) (store) (sound_store _ (store) c.requires) u r after (below_of 256 _ b) h e q p in
+    let other : (e : Event) → ((call).kind ≡ get_kind → ⊥) → event ≡ e → (r' : Answer) (after : List ℕ)
+    → ((i : ℕ) → get_or after i 0 < 256) → length after ≡ length (store) → Performs e (words (store)) r' (words after)
+    → outcome_of r' (call).area after ≡ outcome (store) (call) = λ e u q r' after b h p. other_steps (call) (store) (sound_store _ (store) c.requires) u r' after (below_of 256 _ b) h e q p in
     let one : 12 ≤ (call).kind → (call).kind ≤ 22 → event ≡ event_from (call).kind (call).a 0 0 [] = λ l h. let k = call in one_number k.a k.b k.c k.bytes k.kind l h in
 
     let r = c.follow in
-    other (λ z. omega arith) (one (omega arith) (omega arith)) r.result _ (λ i. omega (arith, c.type_inv.store i)) r.auto.store r.ensures
+    other _ (λ z. omega arith) (one (omega arith) (omega arith)) r.result _ (λ i. omega (arith, c.type_inv.store i)) r.auto.store r.ensures
 
 pub returns-in-14-to-17 : goal.returns-in-14-to-17
 returns-in-14-to-17 c =
     let store : List ℕ = c.args.store.now in
-    let call : Call = let s = c.args in
-    call_with c.kind c.a c.b c.c c.before.before.before.before.before.before.before.before.before.before.before.«data».now c.blank.now c.area.now in
+    let call : Call = let s' = c.args in
+    call_with s'.kind s'.a s'.b s'.c s'.«data».now s'.blank.now s'.area.now in
     let event : Event = let k = call in event_from k.kind k.a k.b k.c k.bytes in
-    let other : ((call).kind ≡ get_kind → ⊥) → {e : Event} → event ≡ e → (r : Answer) (after : List ℕ)
-    → ((i : ℕ) → get_or after i 0 < 256) → length after ≡ length (store) → Performs e (words (store)) r (words after)
-    → outcome_of r (call).area after ≡ outcome (store) (call) = λ u q r after b h p. other_steps (call) (store) (sound_store _ (store) c.requires) u r after (below_of 256 _ b) h e q p in
+    let other : (e : Event) → ((call).kind ≡ get_kind → ⊥) → event ≡ e → (r' : Answer) (after : List ℕ)
+    → ((i : ℕ) → get_or after i 0 < 256) → length after ≡ length (store) → Performs e (words (store)) r' (words after)
+    → outcome_of r' (call).area after ≡ outcome (store) (call) = λ e u q r' after b h p. other_steps (call) (store) (sound_store _ (store) c.requires) u r' after (below_of 256 _ b) h e q p in
     let one : 12 ≤ (call).kind → (call).kind ≤ 22 → event ≡ event_from (call).kind (call).a 0 0 [] = λ l h. let k = call in one_number k.a k.b k.c k.bytes k.kind l h in
 
     let r = c.change_brick in
-    other (λ z. omega arith) (one (omega arith) (omega arith)) r.result _ (λ i. omega (arith, c.type_inv.store i)) r.auto.store r.ensures
+    other _ (λ z. omega arith) (one (omega arith) (omega arith)) r.result _ (λ i. omega (arith, c.type_inv.store i)) r.auto.store r.ensures
 
 pub returns-in-18-to-20 : goal.returns-in-18-to-20
 returns-in-18-to-20 c =
     let store : List ℕ = c.args.store.now in
-    let call : Call = let s = c.args in
-    call_with c.kind c.a c.b c.c c.before.before.before.before.before.before.before.before.before.before.before.before.«data».now c.blank.now c.area.now in
+    let call : Call = let s' = c.args in
+    call_with s'.kind s'.a s'.b s'.c s'.«data».now s'.blank.now s'.area.now in
     let event : Event = let k = call in event_from k.kind k.a k.b k.c k.bytes in
-    let other : ((call).kind ≡ get_kind → ⊥) → {e : Event} → event ≡ e → (r : Answer) (after : List ℕ)
-    → ((i : ℕ) → get_or after i 0 < 256) → length after ≡ length (store) → Performs e (words (store)) r (words after)
-    → outcome_of r (call).area after ≡ outcome (store) (call) = λ u q r after b h p. other_steps (call) (store) (sound_store _ (store) c.requires) u r after (below_of 256 _ b) h e q p in
+    let other : (e : Event) → ((call).kind ≡ get_kind → ⊥) → event ≡ e → (r' : Answer) (after : List ℕ)
+    → ((i : ℕ) → get_or after i 0 < 256) → length after ≡ length (store) → Performs e (words (store)) r' (words after)
+    → outcome_of r' (call).area after ≡ outcome (store) (call) = λ e u q r' after b h p. other_steps (call) (store) (sound_store _ (store) c.requires) u r' after (below_of 256 _ b) h e q p in
     let one : 12 ≤ (call).kind → (call).kind ≤ 22 → event ≡ event_from (call).kind (call).a 0 0 [] = λ l h. let k = call in one_number k.a k.b k.c k.bytes k.kind l h in
 
     let r = c.change_view in
-    other (λ z. omega arith) (one (omega arith) (omega arith)) r.result _ (λ i. omega (arith, c.type_inv.store i)) r.auto.store r.ensures
+    other _ (λ z. omega arith) (one (omega arith) (omega arith)) r.result _ (λ i. omega (arith, c.type_inv.store i)) r.auto.store r.ensures
 
 pub returns-in-21-to-22 : goal.returns-in-21-to-22
 returns-in-21-to-22 c =
     let store : List ℕ = c.args.store.now in
-    let call : Call = let s = c.args in
-    call_with c.kind c.a c.b c.c c.before.before.before.before.before.before.before.before.before.before.before.before.before.«data».now c.blank.now c.area.now in
+    let call : Call = let s' = c.args in
+    call_with s'.kind s'.a s'.b s'.c s'.«data».now s'.blank.now s'.area.now in
     let event : Event = let k = call in event_from k.kind k.a k.b k.c k.bytes in
-    let other : ((call).kind ≡ get_kind → ⊥) → {e : Event} → event ≡ e → (r : Answer) (after : List ℕ)
-    → ((i : ℕ) → get_or after i 0 < 256) → length after ≡ length (store) → Performs e (words (store)) r (words after)
-    → outcome_of r (call).area after ≡ outcome (store) (call) = λ u q r after b h p. other_steps (call) (store) (sound_store _ (store) c.requires) u r after (below_of 256 _ b) h e q p in
+    let other : (e : Event) → ((call).kind ≡ get_kind → ⊥) → event ≡ e → (r' : Answer) (after : List ℕ)
+    → ((i : ℕ) → get_or after i 0 < 256) → length after ≡ length (store) → Performs e (words (store)) r' (words after)
+    → outcome_of r' (call).area after ≡ outcome (store) (call) = λ e u q r' after b h p. other_steps (call) (store) (sound_store _ (store) c.requires) u r' after (below_of 256 _ b) h e q p in
     let one : 12 ≤ (call).kind → (call).kind ≤ 22 → event ≡ event_from (call).kind (call).a 0 0 [] = λ l h. let k = call in one_number k.a k.b k.c k.bytes k.kind l h in
 
     let r = c.keep_up in
-    other (λ z. omega arith) (one (omega arith) (omega arith)) r.result _ (λ i. omega (arith, c.type_inv.store i)) r.auto.store r.ensures
+    other _ (λ z. omega arith) (one (omega arith) (omega arith)) r.result _ (λ i. omega (arith, c.type_inv.store i)) r.auto.store r.ensures
 
 pub returns-in_default : goal.returns-in_default
 returns-in_default c =
     let store : List ℕ = c.args.store.now in
-    let call : Call = let s = c.args in
-    call_with c.kind c.a c.b c.c c.before.before.before.«data».now c.blank.now c.area.now in
+    let call : Call = let s' = c.args in
+    call_with s'.kind s'.a s'.b s'.c s'.«data».now s'.blank.now s'.area.now in
     let event : Event = let k = call in event_from k.kind k.a k.b k.c k.bytes in
-    let other : ((call).kind ≡ get_kind → ⊥) → {e : Event} → event ≡ e → (r : Answer) (after : List ℕ)
+    let other : (e : Event) → ((call).kind ≡ get_kind → ⊥) → event ≡ e → (r : Answer) (after : List ℕ)
     → ((i : ℕ) → get_or after i 0 < 256) → length after ≡ length (store) → Performs e (words (store)) r (words after)
-    → outcome_of r (call).area after ≡ outcome (store) (call) = λ u q r after b h p. other_steps (call) (store) (sound_store _ (store) c.requires) u r after (below_of 256 _ b) h e q p in
+    → outcome_of r (call).area after ≡ outcome (store) (call) = λ e u q r after b h p. other_steps (call) (store) (sound_store _ (store) c.requires) u r after (below_of 256 _ b) h e q p in
     let none : ((call).kind ≡ get_kind → ⊥) → event ≡ Event.unknown
-    → outcome_of (No 3) (call).area (store) ≡ outcome (store) (call) = λ u q. other u q (No 3) (store) (λ i. omega (arith, c.type_inv.store i)) refl
+    → outcome_of (No 3) (call).area (store) ≡ outcome (store) (call) = λ u q. other _ u q (No 3) (store) (λ i. omega (arith, c.type_inv.store i)) refl
     (unknown_refused _ c.requires.sound) in
 
     none (λ z. omega arith) (kind_none (call).a (call).b (call).c (call).bytes (call).kind (omega arith))
@@ -160,14 +160,14 @@ returns-in_default c =
 pub returns-in_default-2 : goal.returns-in_default-2
 returns-in_default-2 c =
     let store : List ℕ = c.args.store.now in
-    let call : Call = let s = c.args in
-    call_with c.kind c.a c.b c.c c.before.before.before.before.before.before.before.before.before.«data».now c.blank.now c.area.now in
+    let call : Call = let s' = c.args in
+    call_with s'.kind s'.a s'.b s'.c s'.«data».now s'.blank.now s'.area.now in
     let event : Event = let k = call in event_from k.kind k.a k.b k.c k.bytes in
-    let other : ((call).kind ≡ get_kind → ⊥) → {e : Event} → event ≡ e → (r : Answer) (after : List ℕ)
+    let other : (e : Event) → ((call).kind ≡ get_kind → ⊥) → event ≡ e → (r : Answer) (after : List ℕ)
     → ((i : ℕ) → get_or after i 0 < 256) → length after ≡ length (store) → Performs e (words (store)) r (words after)
-    → outcome_of r (call).area after ≡ outcome (store) (call) = λ u q r after b h p. other_steps (call) (store) (sound_store _ (store) c.requires) u r after (below_of 256 _ b) h e q p in
+    → outcome_of r (call).area after ≡ outcome (store) (call) = λ e u q r after b h p. other_steps (call) (store) (sound_store _ (store) c.requires) u r after (below_of 256 _ b) h e q p in
     let none : ((call).kind ≡ get_kind → ⊥) → event ≡ Event.unknown
-    → outcome_of (No 3) (call).area (store) ≡ outcome (store) (call) = λ u q. other u q (No 3) (store) (λ i. omega (arith, c.type_inv.store i)) refl
+    → outcome_of (No 3) (call).area (store) ≡ outcome (store) (call) = λ u q. other _ u q (No 3) (store) (λ i. omega (arith, c.type_inv.store i)) refl
     (unknown_refused _ c.requires.sound) in
 
     none (λ z. omega arith) (kind_past (call).a (call).b (call).c (call).bytes (call).kind (omega arith))

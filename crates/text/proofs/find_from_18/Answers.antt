@@ -11,21 +11,6 @@ use Rattle.text.proofs.find_from_18.Goals as goal
 
 -- `text::find_from_18` meets its contract.
 
-slice-aggregate-pack : goal.Need-slice-aggregate-pack
-slice-aggregate-pack c = search rules
-
-slice-aggregate-pack-2 : goal.Need-slice-aggregate-pack-2
-slice-aggregate-pack-2 c = search rules
-
-slice-aggregate-pack-3 : goal.Need-slice-aggregate-pack-3
-slice-aggregate-pack-3 c = search rules
-
-slice-aggregate-pack-4 : goal.Need-slice-aggregate-pack-4
-slice-aggregate-pack-4 c = search rules
-
-slice-aggregate-pack-5 : goal.Need-slice-aggregate-pack-5
-slice-aggregate-pack-5 c = search rules
-
 pub returns-then-word-pack : goal.returns-then-word-pack
 unfolding ascii kinds packed_upto packed packed_from kind_of_packed kind_number
 returns-then-word-pack c =

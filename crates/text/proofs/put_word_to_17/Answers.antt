@@ -7,24 +7,6 @@ use Rattle.text.proofs.put_word_to_17.Goals as goal
 
 -- `text::put_word_to_17` meets its contract.
 
-slice-aggregate-put-front : goal.Need-slice-aggregate-put-front
-slice-aggregate-put-front c = search rules
-
-slice-aggregate-put-front-2 : goal.Need-slice-aggregate-put-front-2
-slice-aggregate-put-front-2 c = search rules
-
-slice-aggregate-put-front-3 : goal.Need-slice-aggregate-put-front-3
-slice-aggregate-put-front-3 c = search rules
-
-slice-aggregate-put-front-4 : goal.Need-slice-aggregate-put-front-4
-slice-aggregate-put-front-4 c = search rules
-
-slice-aggregate-put-front-5 : goal.Need-slice-aggregate-put-front-5
-slice-aggregate-put-front-5 c = search rules
-
-slice-aggregate-put-front-6 : goal.Need-slice-aggregate-put-front-6
-slice-aggregate-put-front-6 c = search rules
-
 pub put_front-requires : goal.put_front-requires
 unfolding ascii kinds kind_at
 put_front-requires c =
@@ -88,10 +70,10 @@ returns-in-16 c =
 pub put_front-requires-in_default : goal.put_front-requires-in_default
 unfolding ascii kinds kind_at Passed
 put_front-requires-in_default c =
-    word_fits 17 c.args.kind (length c.args.area.now) (last_kind 11 _ 5 c.requires.0 c.requires.1 c.in_default.rest) c.requires.2
+    word_fits 17 c.args.kind (length c.args.area.now) (last_kind 11 _ 5 c.requires.0 c.requires.1 c.in_default.in_default-own.rest) c.requires.2
 
 pub returns-in_default : goal.returns-in_default
 unfolding ascii kinds kind_at Passed
 returns-in_default c =
     let p = c.put_front-in_default in
-    word_is 17 c.args.kind _ c.args.area.now _ (last_kind 11 _ 5 c.requires.0 c.requires.1 c.in_default.rest) p.ensures
+    word_is 17 c.args.kind _ c.args.area.now _ (last_kind 11 _ 5 c.requires.0 c.requires.1 c.in_default.in_default-own.rest) p.ensures

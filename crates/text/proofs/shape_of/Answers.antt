@@ -95,4 +95,4 @@ pub returns-in_default : goal.returns-in_default
 unfolding ascii kinds kind_at shape_of Passed
 returns-in_default c =
     row_is 22 c.args.kind c.row-in_default.result
-    (last_kind 0 _ 21 c.requires.0 c.requires.1 c.in_default.rest) c.row-in_default.ensures
+    (last_kind 0 _ 21 c.requires.0 c.requires.1 c.in_default.in_default-own.rest) c.row-in_default.ensures
