@@ -1,0 +1,26 @@
+use mathlib.Core.Path.{subst}
+use mathlib.Core.List.{[], ◌∷◌}
+use types.Run.{OneOf, miss}
+use denote.Enum.Declared.{tag_of}
+use Rattle.pieces.specs.declared.Stage.{Stage}
+use Rattle.pieces.specs.contracts.Stage.{the_type}
+use Rattle.pieces.proofs.Stages.{open_quiet, open_refused}
+use borrow.Author.Rules.{rules}
+use Rattle.pieces.proofs.open.Goals as goal
+
+-- `pieces::open` meets its contract.
+
+pub returns-in-Stopped : goal.returns-in-Stopped
+returns-in-Stopped c =
+    let a = c.args in
+    let o = c.open_line-stage in
+    let w = c.write_answer-written in
+    open_refused a.line.now o.new.room a.out.now o.result o.ensures c.in-Stopped.is w.result w.new.area
+    w.ensures.0 w.ensures.1
+
+pub returns : goal.returns
+returns c =
+    let a = c.args in
+    let o = c.open_line-stage in
+    open_quiet a.line.now o.new.room a.out.now o.result o.ensures
+    (λ e. miss (0 ∷ 1 ∷ []) 2 tt (subst (λ (x : Stage). OneOf (0 ∷ 1 ∷ []) (tag_of the_type x)) e c.in_default.in_default-own.keys2))

@@ -1,0 +1,26 @@
+use borrow.Author.Rules.{rules}
+use Rattle.replies.proofs.Outcomes.{of_kind, yes_written, no_written}
+use Rattle.replies.proofs.answer_event.Goals as goal
+
+pub returns-then-kind-eq-GET : goal.returns-then-kind-eq-GET
+returns-then-kind-eq-GET c =
+    let a = c.args in
+    of_kind c.if-kind-eq-GET.true a.a a.b a.c a.«data».now c.answer_get.ensures
+
+pub returns-in-Yes : goal.returns-in-Yes
+returns-in-Yes c =
+    let w = c.write_answer in
+    let a = c.args in
+    let r = c.perform-answer in
+    yes_written a.settings a.store.now c.requires.0 a.kind a.a a.b a.c a.«data».now c.if-kind-eq-GET.false r.result _ _ r.ensures
+    r.auto.area c.in-Yes.key c.in-Yes.is a.number _ a.area.now _ w.ensures.0
+    w.ensures.1
+
+pub returns-in-No : goal.returns-in-No
+returns-in-No c =
+    let w = c.write_answer-in-No in
+    let a = c.args in
+    let r = c.perform-answer in
+    no_written a.settings a.store.now c.requires.0 a.kind a.a a.b a.c a.«data».now c.if-kind-eq-GET.false r.result _ _ r.ensures
+    r.auto.area c.in-No.code c.in-No.is a.number _ a.area.now _ w.ensures.0
+    w.ensures.1
