@@ -24,7 +24,7 @@ pub returns-then-held-eq0 : goal.returns-then-held-eq0
 returns-then-held-eq0 c =
     let a = c.args in
     closes_quiet a.trace a.room.now a.line.now a.out.now c.if-held-eq0.true
-    (λ e. miss (1 ∷ 2 ∷ []) 0 tt (subst (λ (x : Stage). OneOf (1 ∷ 2 ∷ []) (tag_of the_type x)) e c.in_default.in_default-own.keys2))
+    c.in_default.not-Opening
 
 pub slice_bounds-take_line-end : goal.slice_bounds-take_line-end
 slice_bounds-take_line-end c =

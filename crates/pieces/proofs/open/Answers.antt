@@ -23,4 +23,4 @@ returns c =
     let a = c.args in
     let o = c.open_line-stage in
     open_quiet a.line.now o.new.room a.out.now o.result o.ensures
-    (λ e. miss (0 ∷ 1 ∷ []) 2 tt (subst (λ (x : Stage). OneOf (0 ∷ 1 ∷ []) (tag_of the_type x)) e c.in_default.in_default-own.keys2))
+    c.in_default.not-Stopped

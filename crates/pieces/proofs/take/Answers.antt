@@ -91,7 +91,7 @@ overflow_add-written c =
     p.ensures in
 
     let good = c.well_formed in
-    record { fits = omega (arith, (turned).ranges) }
+    record { fits = omega (arith, (turned).fits) }
 
 pub loop-read-smaller : goal.loop-read-smaller
 loop-read-smaller c =
