@@ -23,7 +23,7 @@ use Rattle.lent.proofs.Stores as stores
 use Rattle.calls.specs.Outcome.{Outcome, call_with, outcome, outcome_of}
 use Rattle.calls.proofs.Calls.{Kept, call_keeps}
 use Rattle.reads.specs.Get.{Fills}
-use Rattle.reads.proofs.Outcomes.{size_is, not_lent, lent as LentBoth}
+use Rattle.reads.proofs.Outcomes.{size_is, not_lent, lent as lent_both}
 use Rattle.reads.proofs.Zeros.{zeros_test}
 use Rattle.step.proofs.Areas.{over, other_areas}
 use Rattle.step.proofs.Outcomes.{get_steps}
@@ -82,7 +82,7 @@ module _ (c : Settings) (bs : List ℕ) (v : StoreOf c bs) (kind a b d at : ℕ)
         let size = size_is c bs v in
         steps_at c.size at call bs area r bs part area_after
         (get_steps bs (stores.sound_store c bs v) b256 call g r part
-        (LentBoth (decode (words bs)) a b (zeros c.size) (block_at c.size at area)
+        (lent_both (decode (words bs)) a b (zeros c.size) (block_at c.size at area)
         (both _ _ (ap (λ (n : ℕ). is_zero_block n (zeros c.size)) (sym size) ∙ zeros_test c.size) (eq-eqb _ _ (block_size c.size at area y ∙ size)))
         (subst (λ (x : List ℕ). Fills (decode (words bs)) (Event.get a b) x r part) q f)))
         w

@@ -91,17 +91,17 @@ module _ (line room out : List ℕ) (r : Stage) (h : OpensLine (read_settings li
       }
 
 -- ---- the line of an event
-module _ (number size : ℕ) (room line out : List ℕ) (w : ℕ) (after store_after RoomAfter : List ℕ) (small : size ≤ most_bytes)
-    (b : Below 256 (take size room)) (y : sound_bytes (take size room) ≡ true) (lent : take size RoomAfter ≡ store_after)
+module _ (number size : ℕ) (room line out : List ℕ) (w : ℕ) (after store_after room_after : List ℕ) (small : size ≤ most_bytes)
+    (b : Below 256 (take size room)) (y : sound_bytes (take size room) ≡ true) (lent : take size room_after ≡ store_after)
     (p : Replies number (outcome (decode_bytes (take size room)) line) out w after (take size room) store_after) where
-  held : Holds (take size RoomAfter) (outcome (decode_bytes (take size room)) line).after
+  held : Holds (take size room_after) (outcome (decode_bytes (take size room)) line).after
   held =
       let s = decode_bytes (take size room) in
       subst (λ (x : List ℕ). Holds x (outcome s line).after) (sym (lent ∙ p.leaves))
       (holds_step (holds_own (take size room) b y) (event_in s.settings.size line))
 
   pub answer_taken : TakesLine (running number (decode_bytes (take size room))) number line out (record { stage = Running (number + 1) size; written = w })
-      RoomAfter after
+      room_after after
   unfolding line_said line_next
   answer_taken =
       record { phase = ap (running (number + 1)) held.state; fits = (small, held.passes); number = omega arith; size = p.size; said = p.said }
@@ -112,7 +112,7 @@ unfolding line_said line_next
 silent_taken n line out room = record { phase = refl; fits = tt; number = omega arith; size = refl; said = sym (onto_nothing 0 out) }
 
 -- ---- a stage by its variant
-pub in_stage : (s t : Stage) (room line out : List ℕ) (r : Said) (RoomAfter after : List ℕ) → s ≡ t
-    → TakesLine (phase_of t room) (line_number t) line out r RoomAfter after → TakesLine (phase_of s room) (line_number s) line out r RoomAfter after
-in_stage s t room line out r RoomAfter after e h =
-    subst (λ (x : Stage). TakesLine (phase_of x room) (line_number x) line out r RoomAfter after) (sym e) h
+pub in_stage : (s t : Stage) (room line out : List ℕ) (r : Said) (room_after after : List ℕ) → s ≡ t
+    → TakesLine (phase_of t room) (line_number t) line out r room_after after → TakesLine (phase_of s room) (line_number s) line out r room_after after
+in_stage s t room line out r room_after after e h =
+    subst (λ (x : Stage). TakesLine (phase_of x room) (line_number x) line out r room_after after) (sym e) h
