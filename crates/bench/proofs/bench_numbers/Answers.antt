@@ -7,8 +7,7 @@ use Rattle.rules.specs.Limits.{buckets}
 use Rattle.rules.specs.Numbers.{proxy_of, bucket_of}
 use Rattle.rules.proofs.Limits.{few_buckets}
 use Rattle.rules.proofs.Derived.{bucket_below}
-use Rattle.bench.proofs.bench_numbers.Statement.{statement}
-use Rattle.bench.proofs.bench_numbers.Tie as tie
+use Rattle.bench.proofs.bench_numbers.Goals as goal
 
 -- no bit of a proxy is shifted out
 joined : (settings : Settings) (block proxy bucket : ℕ) → block < 2 ^ 64 → proxy ≡ proxy_of block → bucket ≡ bucket_of (buckets settings) block
@@ -21,18 +20,9 @@ joined-fits : (settings : Settings) (block proxy bucket : ℕ) → block < 2 ^ 6
 unfolding proxy_of
 joined-fits settings block proxy bucket low e e' = omega (arith, bucket_below settings block, few_buckets settings)
 
-proxy-requires : tie.Need-proxy-requires
-proxy-requires c κs = search rules
+pub overflow_add-result : goal.overflow_add-result
+overflow_add-result c =
+    record { fits = joined-fits _ c.args.block _ _ (omega arith) c.proxy.ensures c.bucket.ensures }
 
-bucket-requires : tie.Need-bucket-requires
-bucket-requires c κs = search rules
-
-add-result : tie.Need-overflow-add-result
-add-result c =
-    record { fits = joined-fits _ c.before.before.args.block _ _ (omega arith) c.before.proxy.ensures c.bucket.ensures }
-
-returns : tie.Need-returns
-returns c = joined _ c.before.before.args.block _ _ (omega arith) c.before.proxy.ensures c.bucket.ensures
-
-pub bench-numbers-spec : {M : Type 1} → statement M
-bench-numbers-spec = tie.close (tie.spec proxy-requires bucket-requires add-result returns)
+pub returns : goal.returns
+returns c = joined _ c.args.block _ _ (omega arith) c.proxy.ensures c.bucket.ensures
