@@ -8,7 +8,7 @@ use lib.Dec.{eqb}
 use borrow.Author.Tests.{eq-eqb, ne_eqb}
 use Rattle.lists.specs.Tests.{◌and◌, ◌or◌}
 use Rattle.lists.proofs.Tests.{by, by_eq, by_lt, either, eqb_self, impossible, clash}
-use Rattle.rules.specs.Pairs.{Assignments, id_in, among, load, preferred, choose, least_loaded}
+use Rattle.rules.specs.Pairs.{Assignments, among, load, preferred, choose, least_loaded}
 use Rattle.pairs.specs.Claims.{Members}
 
 -- ---- membership

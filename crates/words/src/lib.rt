@@ -1,4 +1,6 @@
 // 64-bit words in a byte slice, the least byte first. A slice is seen as the list of its words.
+#![tactic(auto)]
+
 ghost use Rattle.std.specs.Prelude.{◌≡◌, ◌+◌, ◌*◌, ◌/◌, ◌%◌, ◌^◌, ◌<◌, ◌≤◌, length, take, drop, get_or, set};
 ghost use Rattle.words.specs.Words.{le_bytes, words};
 

@@ -1,5 +1,4 @@
 use native.Mathlib.Omega.{arith}
-use borrow.Author.Rules.{rules}
 use Rattle.rules.proofs.Limits.{some_buckets, power_of_two}
 use Rattle.rules.proofs.Derived.{bucket_bits}
 use Rattle.rules.proofs.numbers.BlockNumber.bucket.Goals as goal
