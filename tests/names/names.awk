@@ -1,7 +1,7 @@
 # Reads the paths of the project's files, collects what they define, and looks up each name that the documents cite.
 #
 # A name stands between two backticks on one line. What is looked up, by its form:
-#   crates/log/src/lib.rt         a path from the project's root; a star stands for any characters but a slash
+#   crates/text/src/lib.rt        a path from the project's root; a star stands for any characters but a slash
 #   rules/show_pending            a mistake: a line 'mistake: show_pending in ..' of an edit in crates/rules/must-fail
 #   Views.source                  a definition in crates/rules/specs/Views.antt; Views.A.b asks for both there
 #   history.proofs.Claim.claim    a definition in crates/history/proofs/Claim.antt; a folder is one more name before the file's
@@ -10,8 +10,8 @@
 #   settings, disk_step           a word: it is defined somewhere, or is the name of a crate or of a file of definitions
 # Of several words the first is looked up, others that have one of the forms with a sign in them, and the crates of a command of rt. What has another
 # form, and a word of one letter, is left. `word` in `path`, `word` (`path`) and `path`: `word` ask besides that the path defines the word, and each of
-# several that a comma or "and" joins. In a fenced block paths and the crates of commands of rt alone are looked up. Paths in target/ are left: a run
-# makes them.
+# several that a comma or "and" joins. In a fenced block paths and the crates of commands of rt alone are looked up. Paths in target/ and in the out/ of a
+# crate are left: a run makes them.
 
 BEGIN {
     # words that are not the project's: commands, the kit's, C's
@@ -173,10 +173,10 @@ function check_fenced(line, number,   n, i, word) {
     check_command(word, n, number)
 }
 
-# rt, what it is to do, and crates; in a fenced block a remark may follow
+# rt, what it is to do, as check or all check, and crates; in a fenced block a remark may follow
 function check_command(word, n, number,   i) {
     if (word[1] != "rt") return
-    for (i = 3; i <= n && word[i] != "#"; i++) {
+    for (i = word[2] == "all" ? 4 : 3; i <= n && word[i] != "#"; i++) {
         checked++
         if (!(word[i] in crate)) report(number, word[i], "no such crate")
     }
@@ -244,7 +244,7 @@ function is_there(path,   i) {
 }
 
 function look_up(word, number,   why) {
-    if (word ~ /^target\//) return
+    if (word ~ /^target\// || is_made(word)) return
     if (is_path(word)) why = is_there(word) ? "" : "no such file or folder"
     else if (word ~ /^[a-z_0-9]+\/[a-z_0-9]+::[a-z_0-9]+$/) why = test(word)
     else if (word ~ /^[a-z_0-9]+::[A-Za-z_0-9:]+$/) why = code(word)
@@ -255,6 +255,11 @@ function look_up(word, number,   why) {
     else return
     checked++
     if (why != "") report(number, word, why)
+}
+
+# a file that rt makes beside a crate's own
+function is_made(word,   at) {
+    return split(word, at, "/") > 3 && at[1] == "crates" && at[2] in crate && at[3] == "out"
 }
 
 function known(word) {
