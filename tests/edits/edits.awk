@@ -1,15 +1,16 @@
-# Reads a must-fail edit and then what the prover said of it, and tells of each mistake of the edit whether it was refused for itself.
+# Reads a must-fail edit and then what rt check said of its crate with the edit in it, and tells of each mistake of the edit whether it was refused for itself.
 #
 # A mistake begins with a line 'mistake: NAME in PLACE ..'. A place is where its refusal is to be seen, below proofs/ of the crate:
 #   views/fetch           a function, by the folder of its proof, which it need not have
 #   Derived               a file of laws
-#   Derived:agree-all     one law there
-# A fact that fails is an error in a proof, or a need that search does not close. It is none where a proof is not admitted because a part of it, or a function
-# that it calls, was refused; where a need's name is gone (then the change made the proof unfit for the code, and shows nothing); or where the changed file
-# itself has an error.
+#   Derived:agree_all     one law there
+# A fact that fails is an error in a proof, or a goal that search does not prove. It is none where a proof was not checked because a part of it, or a function
+# that it calls, was refused; where a name is gone that a proof cites (then the change made the proof unfit for the code, and shows nothing); or where the
+# changed file itself has an error.
 # Where several mistakes share a run, nothing may fail but in their places, since what fails elsewhere could hide that one of them is harmless.
+# A run that ends with no verdict, because the check was killed or met a limit, shows nothing.
 #
-# Given: edit, the name to print; copy, what stands in the prover's paths before those of the crate's copy.
+# Given: edit, the name to print.
 
 FNR == NR {
     if ($1 == "mistake:") begin_mistake()
@@ -17,7 +18,10 @@ FNR == NR {
     next
 }
 
-/ no proof: .* does not close / && $1 == "fn" {
+/^logic=not-proved/ { verdict = 1; next }
+
+# a function whose proof search was to find, whole or in part: 'fn CRATE::PATH: no proof: expected answers in FILE; `search` did not prove `returns`'
+/ no proof: .*`search` did not prove / && $1 == "fn" {
     path = $2
     sub(/:$/, "", path)
     sub(/^[^:]*::/, "", path)
@@ -26,20 +30,22 @@ FNR == NR {
     next
 }
 
-(at = index($0, copy)) {
-    line = substr($0, at + length(copy))
-    if (!match(line, /^(src|specs|proofs)\/[^ :]*:[0-9]+:[0-9]+: error: /)) next
-    said = substr(line, RLENGTH + 1)
+# an error in a file of the crate: './proofs/PATH.antt:LINE:COLUMN: error: `DECLARATION`: ..'
+match($0, /^(\.\/)?(src|specs|proofs)\/[^ :]*:[0-9]+:[0-9]+: error/) {
+    said = substr($0, RLENGTH + 1)
+    line = $0
+    sub(/^\.\//, "", line)
     path = substr(line, 1, index(line, ":") - 1)
-    if (said ~ /was not admitted/) next
+    if (said ~ /which (was|were) rejected, (was|were) not checked|was not admitted/) next
     if (path !~ /^proofs\//) fault("the changed file has an error: " line)
-    else if (said ~ /that can be named from here/) fault("a name is gone, and no fact fails: " line)
-    else failed_in(substr(path, 8), said)
+    else if (said ~ /that can be named from here|has no field|is not in scope/) fault("a name is gone, and no fact fails: " line)
+    else { sub(/^: /, "", said); failed_in(substr(path, 8), said) }
 }
 
 END {
     if (count == 0) fault("it names no mistake")
     if (changes < count) fault("a mistake without a change")
+    if (!verdict) fault("the check ended with no verdict")
     for (i = 1; i <= count; i++) {
         if (names[i] in refused) print "passed: " edit ", " names[i] ": " refused[names[i]]
         else fault("no fact fails in " places[names[i]] ": " names[i])
