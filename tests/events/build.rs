@@ -1,10 +1,10 @@
 fn main() {
-    let folder = std::env::var("DISK_LIBRARY").unwrap_or_else(|_| {
-        let here = std::env::var("CARGO_MANIFEST_DIR").unwrap();
-        format!("{here}/../../target/staticlib")
-    });
-    println!("cargo:rustc-link-search=native={folder}");
+    let here = std::env::var("CARGO_MANIFEST_DIR").unwrap();
+    let given = std::env::var("DISK_LIBRARY");
     for library in ["disk", "bench"] {
+        let built = || format!("{here}/../../crates/{library}/out");
+        let folder = given.clone().unwrap_or_else(|_| built());
+        println!("cargo:rustc-link-search=native={folder}");
         println!("cargo:rustc-link-lib=static={library}");
         println!("cargo:rerun-if-changed={folder}/lib{library}.a");
     }

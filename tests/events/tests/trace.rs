@@ -16,7 +16,7 @@ use std::process::{Child, Command, Stdio};
 const LIMIT: &str = "65536";
 
 fn program() -> PathBuf {
-    let default = || PathBuf::from(env!("CARGO_MANIFEST_DIR")).join("../../target/bin/trace");
+    let default = || PathBuf::from(env!("CARGO_MANIFEST_DIR")).join("../../crates/trace/out/trace");
     std::env::var_os("TRACE").map_or_else(default, PathBuf::from)
 }
 
