@@ -39,7 +39,11 @@ function read_file(path,   line) {
     count[path] = 0
     while ((getline line < path) > 0) lines[path, ++count[path]] = line
     close(path)
-    if (count[path] == 0) refuse("there is no file " path)
+    if (count[path] == 0) refuse("there is no file " inside(path))
+}
+
+function inside(path) {
+    return substr(path, length(crate) + 2)
 }
 
 function replace(path, old, new,   i, at, found, rest) {
@@ -47,7 +51,7 @@ function replace(path, old, new,   i, at, found, rest) {
         rest = lines[path, i]
         while ((at = index(rest, old)) > 0) { found++; where = i; rest = substr(rest, at + 1) }
     }
-    if (found != 1) refuse("an 'old:' text is in " path " " found + 0 " times, and not once")
+    if (found != 1) refuse("an 'old:' text is in " inside(path) " " found + 0 " times, and not once")
     at = index(lines[path, where], old)
     lines[path, where] = substr(lines[path, where], 1, at - 1) new substr(lines[path, where], at + length(old))
 }

@@ -8,7 +8,7 @@
 # that it calls, was refused; where a name is gone that a proof cites (then the change made the proof unfit for the code, and shows nothing); or where the
 # changed file itself has an error.
 # Where several mistakes share a run, nothing may fail but in their places, since what fails elsewhere could hide that one of them is harmless.
-# A run that ends with no verdict, because the check was killed or met a limit, shows nothing.
+# A run that ends with no verdict, because the check was killed or met a limit, or since a library below was not built, shows nothing.
 #
 # Given: edit, the name to print.
 
@@ -19,6 +19,8 @@ FNR == NR {
 }
 
 /^logic=not-proved/ { verdict = 1; next }
+
+/^rt: the library .* did not build/ { fault("nothing was checked: " $0); next }
 
 # a function whose proof search was to find, whole or in part: 'fn CRATE::PATH: no proof: expected answers in FILE; `search` did not prove `returns`'
 / no proof: .*`search` did not prove / && $1 == "fn" {
