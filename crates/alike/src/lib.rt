@@ -1,4 +1,7 @@
 // Are two lent stores alike? Same settings, view and members and, for each bucket, the same entries in the primary's memory.
+
+#![tactic(auto)]
+
 ghost use Rattle.std.specs.Prelude.{[], ◌≡◌, ◌<◌};
 ghost use Rattle.lists.specs.Tests.{all_below};
 ghost use Rattle.words.specs.Words.{words};

@@ -1,4 +1,7 @@
 // The text of answers.
+
+#![tactic(auto)]
+
 ghost use Rattle.std.specs.Prelude.{◌≡◌, [], ◌∷◌, ◌++◌, ◌+◌, ◌*◌, ◌≤◌, length};
 ghost use Rattle.area.specs.Area.{onto};
 ghost use Rattle.decimal.specs.Decimal.{decimal};

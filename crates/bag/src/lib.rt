@@ -1,4 +1,7 @@
 // The bag in a lent slice, in 64-bit words: a count, then at most 64 relays (view, bucket, order number, block, key), oldest first.
+
+#![tactic(auto)]
+
 ghost use Rattle.std.specs.Prelude.{◌≡◌, [], ◌∷◌, ◌++◌, ◌<◌, length, get_or};
 ghost use Rattle.words.specs.Words.{words};
 ghost use Rattle.rules.specs.Limits.{max_relays};

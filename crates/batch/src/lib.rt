@@ -1,4 +1,7 @@
 // A list of events in one call: question 2 once, and then each event on what the ones before left.
+
+#![tactic(auto)]
+
 ghost use Rattle.std.specs.Prelude.{◌≡◌, [], ◌+◌, ◌≤◌, leb, length, set};
 ghost use Rattle.rules.specs.Reads.{zeros};
 ghost use Rattle.lent.specs.Stores.{StoreOf};

@@ -1,4 +1,7 @@
 // What the benchmarks measure and the library does not export.
+
+#![tactic(auto)]
+
 ghost use Rattle.std.specs.Prelude.{◌≡◌, ◌+◌, ◌*◌, ◌^◌};
 ghost use Rattle.rules.specs.Numbers.{proxy_of, bucket_of};
 ghost use Rattle.rules.specs.Limits.{buckets};

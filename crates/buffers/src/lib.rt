@@ -1,4 +1,7 @@
 // Append buffers: entries in arrival order. A bucket's entries leave a buffer, or move into a copy.
+
+#![tactic(auto)]
+
 ghost use Rattle.std.specs.Prelude.{◌≡◌, not, ◌+◌, ◌*◌, ◌≤◌, ◌<◌, eqb, length};
 ghost use Rattle.lists.specs.Tests.{only};
 ghost use Rattle.lists.specs.Runs.{run};

@@ -1,4 +1,7 @@
 // copy,key: from the home brick to the next other member by id, circularly, unsaved; no change if it is held there or if there is none.
+
+#![tactic(auto)]
+
 ghost use Rattle.std.specs.Prelude.{◌≡◌};
 ghost use Rattle.words.specs.Words.{words};
 ghost use Rattle.rules.specs.Chunks.{held};

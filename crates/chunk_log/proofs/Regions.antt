@@ -9,7 +9,6 @@ use lib.ListN.{length, take, drop, get_or, set, length-append, length-drop, leng
 use lib.Seq.{paste, get_or-take, get_or-drop, take-append-add, drop-append-add, get_or-append-add, take-append-le, drop-append-le, take_at, drop_at}
 use lib.Seq.{drop-drop, drop-paste, drop-cons, length-take-le, take-suc, set_at, set-append_left, drop-set-add}
 use Rattle.chunk_log.specs.Log.{rows_in, positions_in, cells_in, lay, over, position_at}
-use Rattle.chunk_log.proofs.Positions as order
 
 -- ---- a region's front
 

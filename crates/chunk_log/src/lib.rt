@@ -1,5 +1,7 @@
 // A brick's chunk log in a lent slice, in 64-bit words: a count; `chunks` rows (key, saved) in arrival order; `chunks` positions, of which those in use
 // list the rows by ascending key; `chunks` cells of `width` words, cell i of row i. What lies past the count keeps its words.
+#![tactic(auto)]
+
 ghost use Rattle.std.specs.Prelude.{◌≡◌, [], ◌+◌, ◌*◌, ◌<◌, ◌≤◌, length, get_or};
 ghost use Rattle.words.specs.Words.{words};
 ghost use Rattle.rules.specs.Chunks.{new_chunk, append, held, saved_in, save_all, save_key};

@@ -1,4 +1,7 @@
 // collect: the chunks of a place's log that no pair's copy names go.
+
+#![tactic(auto)]
+
 ghost use Rattle.std.specs.Prelude.{◌≡◌, ◌<◌, eqb, length};
 ghost use Rattle.lists.specs.Tests.{◌or◌, all_below};
 ghost use Rattle.words.specs.Words.{words};

@@ -1,4 +1,7 @@
 // The calls for the network layer in C; include/disk.h describes them. A slice is passed as a pointer and a length.
+
+#![tactic(auto)]
+
 ghost use Rattle.std.specs.Prelude.{◌≡◌, length};
 ghost use Rattle.text.specs.Lines.{read_settings};
 ghost use Rattle.area.specs.Area.{onto};

@@ -1,5 +1,8 @@
 // Entries (block, key) in a lent slice, in 64-bit words: a count, then at most `most` rows. Bucket copies and items are sorted by block; an append buffer
 // is in arrival order. Rows past the count keep what they hold.
+
+#![tactic(auto)]
+
 ghost use Rattle.std.specs.Prelude.{◌≡◌, true, [], ◌∷◌, ◌++◌, ◌+◌, ◌*◌, ◌<◌, length, get_or};
 ghost use Rattle.words.specs.Words.{words};
 ghost use Rattle.rules.specs.Entries.{entry, key_for, has, insert, remove, takes, insert_if_room};

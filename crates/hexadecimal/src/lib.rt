@@ -1,4 +1,7 @@
 // Bytes in hexadecimal text, read and written.
+
+#![tactic(auto)]
+
 ghost use Rattle.std.specs.Prelude.{◌≡◌, true, [], ◌∷◌, ◌+◌, ◌*◌, ◌≤◌, ◌<◌, length, get_or};
 ghost use Rattle.lists.specs.Tests.{◌and◌};
 ghost use Rattle.area.specs.Area.{onto};

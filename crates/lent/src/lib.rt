@@ -1,4 +1,6 @@
 // A sound store with its settings, lent as bytes: its parts, each read as the rules' state has it, and what the code of an event promises.
+#![tactic(auto)]
+
 pub mod brick;
 pub mod bucket;
 pub mod copies;

@@ -1,4 +1,7 @@
 // What the tests call and the library does not export: send, deliver and drop on records.
+
+#![tactic(auto)]
+
 ghost use Rattle.relay_list.specs.Relays.{relay_of, Sends, Delivers, Drops};
 
 use relay_list::Relay;

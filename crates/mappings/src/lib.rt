@@ -1,4 +1,7 @@
 // What the copies of a bucket, and the append buffers, say of a block; and what events ask of it.
+
+#![tactic(auto)]
+
 pub mod asks;
 pub mod block;
 pub mod buffer;

@@ -1,4 +1,7 @@
 // mend: a place gets saved every chunk that a primary of a ready bucket names in memory, where it is one of the first two members from the home id upward.
+
+#![tactic(auto)]
+
 ghost use Rattle.std.specs.Prelude.{◌≡◌, cond, leb, length};
 ghost use Rattle.words.specs.Words.{words};
 ghost use Rattle.rules.specs.Limits.{buckets};

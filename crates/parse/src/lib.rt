@@ -1,4 +1,7 @@
 // The event that a line of text gives.
+
+#![tactic(auto)]
+
 ghost use Rattle.std.specs.Prelude.{◌≡◌, ◌≤◌, ◌<◌, length};
 ghost use Rattle.area.specs.Area.{onto};
 ghost use Rattle.text.specs.Fields.{fields};

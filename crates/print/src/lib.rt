@@ -1,4 +1,7 @@
 // The line of text of an event.
+
+#![tactic(auto)]
+
 ghost use Rattle.std.specs.Prelude.{◌≡◌, ◌∷◌, ◌+◌, ◌*◌, ◌≤◌, length};
 ghost use Rattle.rules.specs.Event.{kind_count, fields_brought};
 ghost use Rattle.area.specs.Area.{onto};

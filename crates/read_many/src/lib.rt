@@ -1,4 +1,7 @@
 // Many blocks of one proxy in one call: question 2 once, and then each block as a get answers it.
+
+#![tactic(auto)]
+
 ghost use Rattle.std.specs.Prelude.{◌≡◌, ◌++◌, reverse, ◌*◌, ◌≤◌, ◌<◌, length, drop};
 ghost use Rattle.words.specs.Words.{bytes_of};
 ghost use Rattle.rules.specs.Limits.{max_size};

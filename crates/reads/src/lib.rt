@@ -1,4 +1,7 @@
 // get on a lent store: the key of a block and its bytes, which are a part of the store, or of a block of zeros that the caller lends.
+
+#![tactic(auto)]
+
 ghost use Rattle.std.specs.Prelude.{◌≡◌, ◌%◌, length};
 ghost use Rattle.words.specs.Words.{words};
 ghost use Rattle.rules.specs.Call.{is_zero_block};

@@ -1,5 +1,8 @@
 // The bag of relays as a lent slice of records, of which the first `count` are in use, oldest first. A slice of structs is proved by hand: what works on one is
 // thin, and leaves the rest to `flat` and `stored`.
+
+#![tactic(auto)]
+
 ghost use Rattle.std.specs.Prelude.{◌≡◌, ◌*◌, ◌≤◌, length, get_or};
 ghost use Rattle.words.specs.Words.{words};
 ghost use Rattle.rules.specs.Limits.{max_relays};

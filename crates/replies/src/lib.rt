@@ -1,4 +1,7 @@
 // The answer to a line, on a lent store.
+
+#![tactic(auto)]
+
 ghost use Rattle.std.specs.Prelude.{◌≡◌, ◌≤◌, length};
 ghost use Rattle.rules.specs.Event.{Event, event_from};
 ghost use Rattle.rules.specs.Limits.{max_size};

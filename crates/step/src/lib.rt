@@ -1,4 +1,7 @@
 // The step on a lent store: the event is told by its kind, a number 1 to 22, and kinds that share a shape share a case.
+
+#![tactic(auto)]
+
 ghost use Rattle.std.specs.Prelude.{◌≡◌, [], ◌≤◌};
 ghost use Rattle.words.specs.Words.{words};
 ghost use Rattle.rules.specs.Event.{event_from};

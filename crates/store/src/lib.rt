@@ -1,4 +1,6 @@
 // The calls on a lent store.
+#![tactic(auto)]
+
 ghost use Rattle.std.specs.Prelude.{◌≡◌};
 ghost use Rattle.store.specs.Calls.{settings, length_answer, Formatted, check_answer};
 

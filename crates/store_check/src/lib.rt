@@ -1,4 +1,7 @@
 // The check of a store in lent bytes: exactly the one definition of sound, on any bytes of any length. Its cost grows with what is in use.
+
+#![tactic(auto)]
+
 ghost use Rattle.std.specs.Prelude.{◌≡◌, length, get_or};
 ghost use Rattle.words.specs.Words.{words};
 ghost use Rattle.rules.specs.Sound.{sound_header, sound_key};

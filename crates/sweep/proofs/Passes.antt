@@ -12,7 +12,6 @@ use Rattle.lists.proofs.Runs.{fits_in}
 use Rattle.chunk_log.specs.Log.{Stored, row_of, cell_of, stored_at, key_at, saved_of, rows_in, positions_in, cells_in, lay, over, read_log}
 use Rattle.chunk_log.specs.Log.{row_key, row_saved, position_at}
 use Rattle.chunk_log.specs.Steps.{tag}
-use Rattle.chunk_log.proofs.Positions as order
 use Rattle.chunk_log.proofs.Regions.{length_over, over_at, over_two, over_set, drop_over, over_past, over_set_past, over_one, over_run, lay_row, lay_row_at}
 use Rattle.chunk_log.proofs.Regions.{lay_position_at, lay_position, lay_rows, lay_positions, lay_past, lay_cells, lay_paste, length_rows, length_positions}
 use Rattle.chunk_log.proofs.Regions.{length_cells, regions, row_word, position_word}

@@ -2,14 +2,13 @@
 use mathlib.Core.Path.{◌≡◌, refl, sym, ap, ◌∙◌}
 use mathlib.Core.Bool.{true, false}
 use mathlib.Core.List.{List, append_assoc, map}
-use Prim.Native.Nat.{ℕ, suc, ◌+◌, ◌*◌, ◌-◌, ◌/◌, ◌%◌, ◌≤◌, ◌<◌}
+use Prim.Native.Nat.{ℕ, suc, ◌+◌, ◌*◌, ◌/◌, ◌%◌, ◌≤◌, ◌<◌}
 use native.Mathlib.Nat.{le_refl}
 use lib.ListN.{length, take, drop, get_or, set, take-append-drop}
 use lib.Seq.{paste, drop-drop}
 use borrow.Author.Tests.{eq-eqb, ne_eqb}
 use Rattle.chunk_log.specs.Log.{Stored, stored_at, saved_of, cells_in, write_log, read_log, row_key, row_saved, position_at, LogWith, Fits}
 use Rattle.chunk_log.specs.Steps.{tag}
-use Rattle.chunk_log.proofs.Positions as order
 use Rattle.chunk_log.proofs.Chunks.{length_read, read_saved, read_cell, sized_read, fits_read, write_saved}
 use Rattle.chunk_log.proofs.Changes.{tag_length, tag_fits}
 use Rattle.chunk_log.proofs.Steps.{sizes, count_is, tagged, tag_start}

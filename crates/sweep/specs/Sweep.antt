@@ -1,6 +1,6 @@
 -- Chunks that leave a log, by marks in the saved words: of a saved word s below 4, s / 2 is 1 where the chunk stays, and s % 2 says whether it is saved.
 -- First each row's rank among those that stay joins its saved word (above the two bits); then the positions, and then rows and cells, are gone through once.
-use Rattle.std.specs.Prelude.{◌≡◌, Bool, cond, List, [], ◌∷◌, ◌++◌, ℕ, zero, suc, ◌+◌, ◌*◌, ◌-◌, ◌/◌, ◌%◌, eqb, length, get_or, set, drop}
+use Rattle.std.specs.Prelude.{◌≡◌, Bool, cond, List, [], ◌∷◌, ◌++◌, ℕ, zero, suc, ◌+◌, ◌*◌, ◌/◌, ◌%◌, eqb, length, get_or, set, drop}
 use Rattle.std.proofs.Math.Seq.{paste}
 use Rattle.lists.specs.Runs.{enc_all}
 use Rattle.chunk_log.specs.Log.{Stored, row_of, cell_of, stored_at, saved_of, rows_in, positions_in, cells_in, lay, over, row_key, row_saved, position_at}

@@ -1,5 +1,7 @@
 // Chunks leave a log: those without a mark, or those that are not saved. Rows and cells close up in their order, and the positions are filtered and
 // numbered anew, all in one pass each. Rows past those that stay get their words back.
+#![tactic(auto)]
+
 ghost use Rattle.std.specs.Prelude.{◌≡◌, ℕ, ◌+◌, ◌*◌, ◌<◌, ◌≤◌, eqb, length, get_or, drop};
 ghost use Rattle.std.proofs.Math.Seq.{paste};
 ghost use Rattle.words.specs.Words.{words};

@@ -1,5 +1,8 @@
 // Tables in a lent slice, in 64-bit words: a count, then at most `most` rows of `width` words. Rows past the count keep what they hold. A table may be
 // sorted by the first words of its rows, or be a queue in arrival order.
+
+#![tactic(auto)]
+
 ghost use Rattle.std.specs.Prelude.{◌≡◌, true, ◌+◌, ◌*◌, ◌≤◌, ◌<◌, length, get_or};
 ghost use Rattle.lists.specs.Tests.{all_below};
 ghost use Rattle.words.specs.Words.{words};

@@ -1,4 +1,7 @@
 // The kinds of event and their words: looked up and written.
+
+#![tactic(auto)]
+
 ghost use Rattle.std.specs.Prelude.{◌≡◌, ◌≤◌, ◌<◌, length, drop};
 ghost use Rattle.area.specs.Area.{onto};
 ghost use Rattle.rules.specs.Event.{kind_count, kinds, kind_at};

@@ -1,4 +1,7 @@
 // A chunk goes from the log of the brick at one place to that of the brick at another: its bytes by one move within the store.
+
+#![tactic(auto)]
+
 ghost use Rattle.std.specs.Prelude.{◌≡◌, ◌+◌, ◌/◌, ◌<◌, ◌≤◌, length};
 ghost use Rattle.lists.specs.Runs.{on_run};
 ghost use Rattle.words.specs.Words.{words};

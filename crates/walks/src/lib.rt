@@ -1,1 +1,3 @@
 // What proofs share that walk a function's code by hand: this crate is in proofs/, and has no code.
+
+#![tactic(auto)]

@@ -4,7 +4,6 @@ use Rattle.lists.proofs.Tests.{both, no_first, no_second}
 use Rattle.layout.specs.Store.{decode_bytes}
 use Rattle.layout.proofs.Bytes.{bytes_sound, bytes_size}
 use Rattle.alike.specs.Alike.{alike_answer}
-use borrow.Author.Rules.{rules}
 use Rattle.alike.proofs.alike.Goals as goal
 
 pub returns-then-not-is_sound : goal.returns-then-not-is_sound

@@ -2,7 +2,6 @@ use mathlib.Core.Path.{sym, ap₂, ◌∙◌}
 use Rattle.rules.specs.Alike.{same_settings}
 use Rattle.lent.proofs.Stores.{settings_are}
 use Rattle.alike.proofs.Differences.{other_settings, two_stores}
-use borrow.Author.Rules.{rules}
 use Rattle.alike.proofs.are_alike.Goals as goal
 
 pub same_parts-requires : goal.same_parts-requires

@@ -5,7 +5,6 @@ use Rattle.lists.proofs.Tests.{or_l, or_no}
 use Rattle.words.specs.Words.{words}
 use Rattle.layout.specs.Store.{decode}
 use Rattle.lent.proofs.Places.{member_up}
-use borrow.Author.Rules.{rules}
 use Rattle.alike.proofs.member_in.Goals as goal
 
 pub returns-then-is_member : goal.returns-then-is_member

@@ -1,14 +1,10 @@
-use mathlib.Core.Path.{◌≡◌, sym, ◌∙◌}
-use mathlib.Core.Bool.{true}
-use Prim.Native.Nat.{ℕ, ◌-◌, ◌≤◌, ◌<◌}
+use mathlib.Core.Path.{sym, ◌∙◌}
+use Prim.Native.Nat.{◌-◌}
 use native.Mathlib.Omega.{arith}
 use borrow.Author.Count.{below_more, below_none}
 use borrow.Author.Rules.{rules}
 use borrow.Author.Tests.{not-true, not-false}
 use Rattle.lists.proofs.Tests.{all_true, all_false}
-use Rattle.words.specs.Words.{words}
-use Rattle.layout.specs.Store.{decode}
-use Rattle.alike.specs.Alike.{member_in}
 use borrow.Author.Rules.{rules}
 use borrow.Author.Rules.{rules}
 use borrow.Author.Rules.{rules}
@@ -24,11 +20,10 @@ returns-then-not-member_in c =
     sym (all_false _ _ c.loop-p.p (search rules) (sym c.member_in.ensures ∙ not-true _ c.if-not-member_in.true-raw))
 
 pub loop-p-preserved : goal.loop-p-preserved
-loop-p-preserved c =
-    (
-      search rules,
-      below_more _ c.loop-p.p c.loop-p.invariant.1 (sym c.member_in.ensures ∙ not-false _ c.if-not-member_in.false-raw),
-    )
+loop-p-preserved c = (
+  search rules,
+  below_more _ c.loop-p.p c.loop-p.invariant.1 (sym c.member_in.ensures ∙ not-false _ c.if-not-member_in.false-raw),
+)
 
 pub returns : goal.returns
 returns c =

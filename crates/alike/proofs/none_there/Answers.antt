@@ -2,7 +2,6 @@ use mathlib.Core.Path.{ap, ◌∙◌}
 use Prim.Native.Nat.{ℕ}
 use lib.Dec.{eqb}
 use Rattle.alike.proofs.Memories.{count_none}
-use borrow.Author.Rules.{rules}
 use Rattle.alike.proofs.none_there.Goals as goal
 
 pub returns : goal.returns

@@ -4,7 +4,6 @@ use Rattle.words.specs.Words.{words}
 use Rattle.layout.specs.Contents.{Agreed}
 use Rattle.layout.specs.Store.{decode}
 use Rattle.lent.specs.Places.{PlaceOf}
-use borrow.Author.Rules.{rules}
 use Rattle.alike.proofs.primary_place.Goals as goal
 
 pub returns : goal.returns

@@ -3,7 +3,6 @@ use Rattle.words.specs.Words.{words}
 use Rattle.layout.specs.Store.{decode}
 use Rattle.rules.specs.Sound.{same_entries}
 use Rattle.alike.proofs.Memories.{stands, nowhere, holds, both_stand, first_stands, second_stands, none_stand}
-use borrow.Author.Rules.{rules}
 use Rattle.alike.proofs.same_memory.Goals as goal
 
 pub memory-requires : goal.memory-requires

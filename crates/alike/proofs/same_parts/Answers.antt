@@ -2,7 +2,6 @@ use mathlib.Core.Path.{sym, ◌∙◌}
 use borrow.Author.Tests.{not-true, not-false}
 use Rattle.lists.proofs.Tests.{no_first, no_second}
 use Rattle.alike.proofs.Differences.{other_view, other_members, same_else}
-use borrow.Author.Rules.{rules}
 use Rattle.alike.proofs.same_parts.Goals as goal
 
 pub returns-then-view : goal.returns-then-view

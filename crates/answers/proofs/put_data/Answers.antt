@@ -6,7 +6,6 @@ use lib.ListN.{length}
 use Rattle.area.specs.Area.{onto}
 use Rattle.hexadecimal.proofs.Laws.{hex_length}
 use Rattle.answers.proofs.Laws.{no_data, some_data}
-use borrow.Author.Rules.{rules}
 use Rattle.answers.proofs.put_data.Goals as goal
 
 -- `answers::put_data` meets its contract.

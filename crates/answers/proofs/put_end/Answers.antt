@@ -6,7 +6,6 @@ use Rattle.text.specs.Fields.{comma}
 use Rattle.area.proofs.Laws.{onto_then}
 use Rattle.answers.specs.Answers.{data_text}
 use Rattle.answers.proofs.Laws.{data_short}
-use borrow.Author.Rules.{rules}
 use Rattle.answers.proofs.put_end.Goals as goal
 
 -- `answers::put_end` meets its contract.

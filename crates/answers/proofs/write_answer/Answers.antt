@@ -9,7 +9,6 @@ use Rattle.decimal.specs.Decimal.{decimal}
 use Rattle.decimal.proofs.Laws.{decimal_most}
 use Rattle.text.specs.Fields.{comma}
 use Rattle.answers.proofs.Laws.{end_text, in_order, line_length}
-use borrow.Author.Rules.{rules}
 use Rattle.answers.proofs.write_answer.Goals as goal
 
 -- `answers::write_answer` meets its contract.

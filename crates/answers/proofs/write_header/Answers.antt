@@ -4,7 +4,6 @@ use lib.Seq.{length-take-le}
 use Rattle.rules.specs.Event.{ascii}
 use Rattle.answers.specs.Answers.{header}
 use Rattle.answers.proofs.Laws.{header_written}
-use borrow.Author.Rules.{rules}
 use Rattle.answers.proofs.write_header.Goals as goal
 
 pub slice_bounds-copy_bytes-end-2 : goal.slice_bounds-copy_bytes-end-2

@@ -1,4 +1,3 @@
-use borrow.Author.Rules.{rules}
 use native.Mathlib.Omega.{arith}
 use Rattle.area.proofs.Laws.{onto_byte}
 use Rattle.area.proofs.put.Goals as goal

@@ -4,7 +4,6 @@ use Rattle.words.specs.Words.{words}
 use Rattle.words.proofs.Laws.{length_words}
 use Rattle.layout.specs.Contents.{relay}
 use Rattle.bag.proofs.Laws.{append_leaves}
-use borrow.Author.Rules.{rules}
 use Rattle.bag.proofs.append.Goals as goal
 
 pub returns : goal.returns

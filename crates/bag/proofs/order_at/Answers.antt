@@ -6,7 +6,6 @@ use lib.ListN.{get_or}
 use Rattle.words.specs.Words.{words}
 use Rattle.words.proofs.Laws.{length_words}
 use Rattle.bag.proofs.Laws.{row_is}
-use borrow.Author.Rules.{rules}
 use Rattle.bag.proofs.order_at.Goals as goal
 
 pub returns : goal.returns

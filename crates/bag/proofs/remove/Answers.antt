@@ -3,7 +3,6 @@ use native.Mathlib.Omega.{arith}
 use Rattle.words.specs.Words.{words}
 use Rattle.words.proofs.Laws.{length_words}
 use Rattle.bag.proofs.Laws.{remove_leaves}
-use borrow.Author.Rules.{rules}
 use Rattle.bag.proofs.remove.Goals as goal
 
 pub returns : goal.returns

@@ -4,7 +4,6 @@ use mathlib.Core.Path.{refl, sym, ◌∙◌}
 use native.Mathlib.Omega.{arith}
 use borrow.Author.Tests.{leb-true}
 use Rattle.batch.proofs.Blocks.{block_there, block_none}
-use borrow.Author.Rules.{rules}
 use Rattle.batch.proofs.block_at.Goals as goal
 
 pub overflow_add-end : goal.overflow_add-end

@@ -1,4 +1,3 @@
-use borrow.Author.Rules.{rules}
 use mathlib.Core.Path.{◌≡◌, sym, ◌∙◌}
 use mathlib.Core.Bool.{true}
 use native.Mathlib.Omega.{arith}
@@ -19,14 +18,12 @@ returns-then-not-is_sound c =
 pub returns-then-events-n : goal.returns-then-events-n
 returns-then-events-n c =
     let passed : sound_bytes c.args.store.now ≡ true = sym c.is_sound.ensures ∙ not-false _ c.if-not-is_sound.false-raw in
-
     let s = c.args in
     odd_runs (batch_with s.events.now s.«data».now) (lent s.store.now s.area.now s.answers.now) (passed) c.if-events-n.true
 
 pub returns-then-answers-n : goal.returns-then-answers-n
 returns-then-answers-n c =
     let passed : sound_bytes c.args.store.now ≡ true = sym c.is_sound.ensures ∙ not-false _ c.if-not-is_sound.false-raw in
-
     let s = c.args in
     short_runs (batch_with s.events.now s.«data».now) (lent s.store.now s.area.now s.answers.now) (passed)
     c.if-answers-n.true
@@ -34,7 +31,6 @@ returns-then-answers-n c =
 pub settings-settings-requires : goal.settings-settings-requires
 settings-settings-requires c =
     let passed : sound_bytes c.args.store.now ≡ true = sym c.is_sound.ensures ∙ not-false _ c.if-not-is_sound.false-raw in
-
     store_sound _ (passed)
 
 pub run_all-requires : goal.run_all-requires
@@ -45,7 +41,6 @@ pub returns : goal.returns
 unfolding decode_bytes
 returns c =
     let passed : sound_bytes c.args.store.now ≡ true = sym c.is_sound.ensures ∙ not-false _ c.if-not-is_sound.false-raw in
-
     let s = c.args in
     let settings = c.settings-settings in
     all_runs (batch_with s.events.now s.«data».now) (lent s.store.now s.area.now s.answers.now) (passed) settings.result.size

@@ -4,7 +4,7 @@ use native.Mathlib.Omega.{arith}
 use Rattle.lists.proofs.Runs.{below_of}
 use Rattle.calls.proofs.Calls.{kept_of}
 use Rattle.batch.specs.Batch.{Batch, batch_with, Lent, lent, turns}
-use Rattle.batch.proofs.Turns.{turn_keeps, turns_more, Running}
+use Rattle.batch.proofs.Turns.{turn_keeps, turns_more}
 use Rattle.batch.proofs.run_all.Goals as goal
 
 pub loop-i-init : goal.loop-i-init

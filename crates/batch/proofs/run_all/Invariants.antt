@@ -1,10 +1,6 @@
-use mathlib.Core.Path.{◌≡◌, refl, subst, ◌∙◌}
-use Prim.Native.Nat.{ℕ, ◌-◌}
-use native.Mathlib.Omega.{arith}
-use Rattle.lists.proofs.Runs.{below_of}
-use Rattle.calls.proofs.Calls.{kept_of}
-use Rattle.batch.specs.Batch.{Batch, batch_with, Lent, lent, turns}
-use Rattle.batch.proofs.Turns.{turn_keeps, turns_more, Running}
+use Prim.Native.Nat.{◌-◌}
+use Rattle.batch.specs.Batch.{batch_with, lent}
+use Rattle.batch.proofs.Turns.{Running}
 use Rattle.batch.proofs.run_all.Given as goal
 
 abbrev pub invariant-loop-i : goal.invariant-loop-i

@@ -1,6 +1,5 @@
 use Rattle.batch.specs.Batch.{batch_with, lent}
 use Rattle.batch.proofs.Turns.{turned}
-use borrow.Author.Rules.{rules}
 use Rattle.batch.proofs.run_one.Goals as goal
 
 pub returns : goal.returns

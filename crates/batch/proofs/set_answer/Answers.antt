@@ -5,7 +5,6 @@ use native.Mathlib.Omega.{arith}
 use lib.ListN.{set, length-set}
 use Rattle.lent.specs.declared.Answer.{Answer}
 use Rattle.calls.specs.Outcome.{outcome_of}
-use borrow.Author.Rules.{rules}
 use Rattle.batch.proofs.set_answer.Goals as goal
 
 pub bounds-answers-to-in-Yes : goal.bounds-answers-to-in-Yes

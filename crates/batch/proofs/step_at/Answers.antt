@@ -7,7 +7,6 @@ use Rattle.lists.proofs.Runs.{below_of}
 use Rattle.batch.specs.Batch.{block_at}
 use Rattle.batch.proofs.Blocks.{block_there, with_there}
 use Rattle.batch.proofs.Turns.{other_at, get_nowhere, get_there}
-use borrow.Author.Rules.{rules}
 use Rattle.batch.proofs.step_at.Goals as goal
 
 pub overflow_add-end : goal.overflow_add-end

@@ -1,7 +1,6 @@
 use mathlib.Core.Path.{refl}
 use native.Mathlib.Omega.{arith}
 use Rattle.bench.specs.Moved.{done, refused}
-use borrow.Author.Rules.{rules}
 use Rattle.bench.proofs.bench_move.Goals as goal
 
 pub returns-then-count-n : goal.returns-then-count-n

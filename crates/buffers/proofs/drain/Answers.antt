@@ -1,34 +1,33 @@
-use mathlib.Core.Path.{◌≡◌, refl, ◌∙◌}
-use Prim.Native.Nat.{◌+◌, ◌*◌, ◌-◌, ◌≤◌}
+use mathlib.Core.Path.{refl, ◌∙◌}
+use Prim.Native.Nat.{◌+◌, ◌*◌, ◌-◌}
 use native.Mathlib.Omega.{arith}
-use lib.ListN.{length, get_or}
-use Rattle.lists.specs.Runs.{on_run}
+use lib.ListN.{length}
 use Rattle.words.specs.Words.{words}
 use Rattle.words.proofs.Laws.{room}
-use Rattle.entries.specs.Entries.{entries_words}
 use Rattle.rules.specs.Limits.{buckets}
-use Rattle.buffers.proofs.Drained.{drained, drain_start, still_sorted, drain_turn, drain_end}
+use Rattle.buffers.proofs.Drained.{drain_start, still_sorted, drain_turn, drain_end}
 use native.Mathlib.Numerals.{add-one}
-use Rattle.layout.specs.Layout.{entries_codec}
 use borrow.Author.Rules.{rules}
 use Rattle.buffers.proofs.drain.Goals as goal
 
 pub loop-i-init : goal.loop-i-init
-loop-i-init c =
-    (
-      search rules,
-      search rules,
-      search rules,
-      drain_start (buckets c.args.settings) c.args.g c.args.buffer c.args.waiting c.args.copy
-          c.args.most (words c.args.s.now) (length c.args.s.now) c.requires
-          (room c.args.s.now (c.args.copy + (1 + c.args.most * 2)) c.requires.room),
-    )
+loop-i-init c = (
+  search rules,
+  search rules,
+  search rules,
+  drain_start (buckets c.args.settings) c.args.g c.args.buffer c.args.waiting c.args.copy
+      c.args.most (words c.args.s.now) (length c.args.s.now) c.requires
+      (room c.args.s.now (c.args.copy + (1 + c.args.most * 2)) c.requires.room),
+)
 
 pub drain_at-requires : goal.drain_at-requires
 drain_at-requires c =
-    let l = c.loop-i in record { at_in_bounds = (omega arith, omega arith); sorted = still_sorted (buckets c.args.settings) c.args.g c.args.buffer c.args.waiting c.args.copy
+    let l = c.loop-i in record {
+      at_in_bounds = (omega arith, omega arith);
+      sorted = still_sorted (buckets c.args.settings) c.args.g c.args.buffer c.args.waiting c.args.copy
           c.args.most (words c.args.s.now) (length c.args.s.now) c.requires
-          (room c.args.s.now (c.args.copy + (1 + c.args.most * 2)) c.requires.room) l.i (words l.s) l.invariant.3 }
+          (room c.args.s.now (c.args.copy + (1 + c.args.most * 2)) c.requires.room) l.i (words l.s) l.invariant.3;
+    }
 
 pub loop-i-preserved : goal.loop-i-preserved
 loop-i-preserved c =

@@ -1,16 +1,12 @@
-use mathlib.Core.Path.{◌≡◌, refl, ◌∙◌}
-use Prim.Native.Nat.{◌+◌, ◌*◌, ◌-◌, ◌≤◌}
-use native.Mathlib.Omega.{arith}
+use mathlib.Core.Path.{◌≡◌}
+use Prim.Native.Nat.{◌-◌, ◌≤◌}
 use lib.ListN.{length, get_or}
 use Rattle.lists.specs.Runs.{on_run}
 use Rattle.words.specs.Words.{words}
-use Rattle.words.proofs.Laws.{room}
 use Rattle.entries.specs.Entries.{entries_words}
 use Rattle.rules.specs.Limits.{buckets}
-use Rattle.buffers.proofs.Drained.{drained, drain_start, still_sorted, drain_turn, drain_end}
-use native.Mathlib.Numerals.{add-one}
+use Rattle.buffers.proofs.Drained.{drained}
 use Rattle.layout.specs.Layout.{entries_codec}
-use borrow.Author.Rules.{rules}
 use Rattle.buffers.proofs.drain.Given as goal
 
 abbrev pub invariant-loop-i : goal.invariant-loop-i

@@ -8,7 +8,6 @@ use Rattle.words.proofs.Laws.{words_part, lent_run}
 use Rattle.buffers.specs.Steps.{drained_at}
 use Rattle.codec.specs.Codec.{change}
 use Rattle.layout.specs.Layout.{entries_codec}
-use borrow.Author.Rules.{rules}
 use Rattle.buffers.proofs.drain_at.Goals as goal
 
 pub insert_or_drop-requires : goal.insert_or_drop-requires

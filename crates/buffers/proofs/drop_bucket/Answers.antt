@@ -1,12 +1,11 @@
-use mathlib.Core.Path.{◌≡◌, ap, ◌∙◌}
+use mathlib.Core.Path.{ap, ◌∙◌}
 use mathlib.Core.List.{List}
-use Prim.Native.Nat.{ℕ, ◌-◌, ◌≤◌, ◌<◌}
+use Prim.Native.Nat.{ℕ, ◌-◌, ◌<◌}
 use native.Mathlib.Omega.{arith}
-use lib.ListN.{length, get_or, set}
+use lib.ListN.{get_or, set}
 use Rattle.words.specs.Words.{words}
 use Rattle.words.proofs.Laws.{length_words}
 use Rattle.rules.specs.Limits.{buckets}
-use Rattle.tables.specs.Tables.{kept_rows, sifting}
 use Rattle.tables.proofs.Changes.{sift_start, no_kept}
 use Rattle.buffers.specs.Steps.{row_stays}
 use Rattle.buffers.proofs.Sifted.{buffer_low, buffer_turn, buffer_next, buffer_end}

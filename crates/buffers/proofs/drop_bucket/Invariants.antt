@@ -1,17 +1,10 @@
-use mathlib.Core.Path.{◌≡◌, ap, ◌∙◌}
-use mathlib.Core.List.{List}
-use Prim.Native.Nat.{ℕ, ◌-◌, ◌≤◌, ◌<◌}
-use native.Mathlib.Omega.{arith}
-use lib.ListN.{length, get_or, set}
+use mathlib.Core.Path.{◌≡◌}
+use Prim.Native.Nat.{◌-◌, ◌≤◌}
+use lib.ListN.{length, get_or}
 use Rattle.words.specs.Words.{words}
-use Rattle.words.proofs.Laws.{length_words}
 use Rattle.rules.specs.Limits.{buckets}
 use Rattle.tables.specs.Tables.{kept_rows, sifting}
-use Rattle.tables.proofs.Changes.{sift_start, no_kept}
 use Rattle.buffers.specs.Steps.{row_stays}
-use Rattle.buffers.proofs.Sifted.{buffer_low, buffer_turn, buffer_next, buffer_end}
-use native.Mathlib.Numerals.{add-one}
-use borrow.Author.Rules.{rules}
 use Rattle.buffers.proofs.drop_bucket.Given as goal
 
 abbrev pub invariant-loop-i : goal.invariant-loop-i

@@ -1,5 +1,3 @@
-use Prim.Native.Nat.{◌-◌}
-use borrow.Author.Rules.{rules}
 use Rattle.buffers.proofs.of_bucket.Goals as goal
 
 pub returns : goal.returns

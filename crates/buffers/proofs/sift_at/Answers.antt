@@ -1,7 +1,6 @@
 use mathlib.Core.Path.{sym, ◌∙◌}
 use Prim.Native.Nat.{◌-◌}
 use Rattle.buffers.specs.Steps.{sifted}
-use borrow.Author.Rules.{rules}
 use Rattle.buffers.proofs.sift_at.Goals as goal
 
 pub returns-then-of_bucket : goal.returns-then-of_bucket

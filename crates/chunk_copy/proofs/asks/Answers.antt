@@ -14,7 +14,6 @@ use Rattle.rules.specs.Writes.{copy_asks}
 use Rattle.rules.proofs.Questions.{first_yes, first_stop, none_asked}
 use Rattle.layout.specs.Store.{decode}
 use Rattle.chunk_copy.proofs.Copies.{no_home, is_home}
-use borrow.Author.Rules.{rules}
 use Rattle.chunk_copy.proofs.asks.Goals as goal
 
 pub returns-then-home-eq0 : goal.returns-then-home-eq0
@@ -26,7 +25,7 @@ returns-then-not-up_member c =
     let questions : List Question = copy_asks (state) c.args.key.0 in
     let live : c.up_member.result ≡ up_member (state) (home_of c.args.key.0) = c.up_member.ensures ∙ ap (up_member (state)) c.home-home.ensures in
     let past-home : let qs = questions in first_no qs ≡ first_no (drop 1 qs) = first_yes 3 _ (is_home c.args.key.0 (omega arith) (λ z. c.if-home-eq0.false (c.home-home.ensures ∙ z))) in
- sym (past-home ∙ first_stop 6 _ (sym (live) ∙ not-true _ c.if-not-up_member.true-raw))
+    sym (past-home ∙ first_stop 6 _ (sym (live) ∙ not-true _ c.if-not-up_member.true-raw))
 
 pub returns-then-not-has_room : goal.returns-then-not-has_room
 returns-then-not-has_room c =
@@ -35,7 +34,7 @@ returns-then-not-has_room c =
     let live : c.up_member.result ≡ up_member (state) (home_of c.args.key.0) = c.up_member.ensures ∙ ap (up_member (state)) c.home-home.ensures in
     let past-home : let qs = questions in first_no qs ≡ first_no (drop 1 qs) = first_yes 3 _ (is_home c.args.key.0 (omega arith) (λ z. c.if-home-eq0.false (c.home-home.ensures ∙ z))) in
     let past-member : let qs = questions in first_no qs ≡ first_no (drop 2 qs) = past-home ∙ first_yes 6 _ (sym (live) ∙ not-false _ c.if-not-up_member.false-raw) in
- sym (past-member ∙ first_stop 10 _ (sym c.has_room.ensures ∙ not-true _ c.if-not-has_room.true-raw))
+    sym (past-member ∙ first_stop 10 _ (sym c.has_room.ensures ∙ not-true _ c.if-not-has_room.true-raw))
 
 pub returns-then-is_held : goal.returns-then-is_held
 returns-then-is_held c =
@@ -46,7 +45,7 @@ returns-then-is_held c =
     let past-home : let qs = questions in first_no qs ≡ first_no (drop 1 qs) = first_yes 3 _ (is_home c.args.key.0 (omega arith) (λ z. c.if-home-eq0.false (c.home-home.ensures ∙ z))) in
     let past-member : let qs = questions in first_no qs ≡ first_no (drop 2 qs) = past-home ∙ first_yes 6 _ (sym (live) ∙ not-false _ c.if-not-up_member.false-raw) in
     let past_room : let qs = questions in first_no qs ≡ first_no (drop 3 qs) = past-member ∙ first_yes 10 _ (sym c.has_room.ensures ∙ not-false _ c.if-not-has_room.false-raw) in
- sym (past_room ∙ first_yes 11 _ (sym (kept) ∙ c.if-is_held.true) ∙ none_asked)
+    sym (past_room ∙ first_yes 11 _ (sym (kept) ∙ c.if-is_held.true) ∙ none_asked)
 
 pub returns : goal.returns
 returns c =
@@ -57,4 +56,4 @@ returns c =
     let past-home : let qs = questions in first_no qs ≡ first_no (drop 1 qs) = first_yes 3 _ (is_home c.args.key.0 (omega arith) (λ z. c.if-home-eq0.false (c.home-home.ensures ∙ z))) in
     let past-member : let qs = questions in first_no qs ≡ first_no (drop 2 qs) = past-home ∙ first_yes 6 _ (sym (live) ∙ not-false _ c.if-not-up_member.false-raw) in
     let past_room : let qs = questions in first_no qs ≡ first_no (drop 3 qs) = past-member ∙ first_yes 10 _ (sym c.has_room.ensures ∙ not-false _ c.if-not-has_room.false-raw) in
- sym (past_room ∙ first_stop 11 _ (sym (kept) ∙ c.if-is_held.false))
+    sym (past_room ∙ first_stop 11 _ (sym (kept) ∙ c.if-is_held.false))

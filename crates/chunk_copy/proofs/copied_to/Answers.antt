@@ -4,7 +4,6 @@ use Rattle.rules.specs.Writes.{target}
 use Rattle.layout.specs.Store.{decode}
 use Rattle.lent.specs.Places.{Stands}
 use Rattle.chunk_copy.proofs.Copies.{no_target, target_holds}
-use borrow.Author.Rules.{rules}
 use Rattle.chunk_copy.proofs.copied_to.Goals as goal
 
 pub target-requires : goal.target-requires
@@ -14,7 +13,6 @@ pub holds_at-requires : goal.holds_at-requires
 holds_at-requires c =
     let found : let s = decode (words c.args.store.now) in
     Stands c.args.settings s (target s c.args.key.0) c.in-At.target = rw c.in-At.is at c.target.ensures in
-
     let at = found in
     (c.requires, at.inside, rw at.here at.some)
 
@@ -22,7 +20,6 @@ pub returns-then-holds_at : goal.returns-then-holds_at
 returns-then-holds_at c =
     let found : let s = decode (words c.args.store.now) in
     Stands c.args.settings s (target s c.args.key.0) c.in-At.target = rw c.in-At.is at c.target.ensures in
-
     target_holds c.args.settings (decode (words c.args.store.now)) c.args.key.0 _ (found)
     (sym c.holds_at.ensures ∙ c.if-holds_at.true)
 
@@ -30,7 +27,6 @@ pub returns-else-holds_at : goal.returns-else-holds_at
 returns-else-holds_at c =
     let found : let s = decode (words c.args.store.now) in
     Stands c.args.settings s (target s c.args.key.0) c.in-At.target = rw c.in-At.is at c.target.ensures in
-
     let at = found in
     record { at = at; lacks = rw at.here at (sym c.holds_at.ensures ∙ c.if-holds_at.false) }
 

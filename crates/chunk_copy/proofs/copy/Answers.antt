@@ -8,7 +8,6 @@ use Rattle.rules.specs.Step.{rule}
 use Rattle.rules.proofs.Questions.{all_yes}
 use Rattle.layout.specs.Store.{decode}
 use Rattle.lent.proofs.Performs.{refused, accepted}
-use borrow.Author.Rules.{rules}
 use Rattle.chunk_copy.proofs.copy.Goals as goal
 
 pub returns-then-no-ne0 : goal.returns-then-no-ne0
@@ -20,12 +19,10 @@ pub effect-requires : goal.effect-requires
 unfolding ◌and◌
 effect-requires c =
     let asked : first_no (copy_asks (decode (words c.args.store.now)) c.args.key) ≡ 0 = sym c.asks-no.ensures ∙ c.if-no-ne0.false in
-
     (c.requires, all_yes (copy_asks (decode (words c.args.store.now)) c.args.key) refl (asked))
 
 pub returns : goal.returns
 unfolding rule
 returns c =
     let asked : first_no (copy_asks (decode (words c.args.store.now)) c.args.key) ≡ 0 = sym c.asks-no.ensures ∙ c.if-no-ne0.false in
-
     accepted (Event.copy c.args.key) (words c.args.store.now) _ (asked) c.effect.ensures

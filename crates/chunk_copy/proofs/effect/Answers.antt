@@ -13,20 +13,17 @@ use Rattle.layout.specs.Store.{brick_in, decode}
 use Rattle.lent.specs.Places.{Stands}
 use Rattle.chunk_copy.specs.Copies.{Lacking}
 use Rattle.chunk_copy.proofs.Copies.{none_up, none_copied, home_holds, copy_fits, one_copied}
-use borrow.Author.Rules.{rules}
 use Rattle.chunk_copy.proofs.effect.Goals as goal
 
 pub returns-in_default : goal.returns-in_default
 returns-in_default c =
     let state : State = decode (words c.args.store.now) in
-
     let nothing : nothing_to_copy (state) c.args.key.0 ≡ true = rw c.in_default.is at c.copied_to.ensures in
     none_copied c.args.settings c.args.store.now c.requires.0 c.args.key.0 nothing
 
 pub returns-in_default-place_of : goal.returns-in_default-place_of
 returns-in_default-place_of c =
     let state : State = decode (words c.args.store.now) in
-
     let home = c.home in
     let blank : brick_in (state) home.result ≡ blank_brick = rw c.in_default-place_of.is at c.place_of.ensures in
     none_up c.args.settings (state) c.args.key.0 _ (ap (brick_in (state)) (sym home.ensures) ∙ blank) c.requires.1.1.0
@@ -38,7 +35,6 @@ find_at-requires c =
     let home = c.home in
     let at : Stands c.args.settings (state) home.result place = rw c.in-At-place_of.is at c.place_of.ensures in
     subst (λ (i : ℕ). Stands c.args.settings (state) i place) home.ensures at in
-
     (c.requires.0, (source).inside, rw (source).here (source).some)
 
 pub returns-in_default-find_at : goal.returns-in_default-find_at
@@ -49,7 +45,6 @@ returns-in_default-find_at c =
     let home = c.home in
     let at : Stands c.args.settings (state) home.result place = rw c.in-At-place_of.is at c.place_of.ensures in
     subst (λ (i : ℕ). Stands c.args.settings (state) i place) home.ensures at in
-
     let none : held ((state).bricks.log ((state).ids c.in-At-place_of.home)) c.args.key.0 ≡ false =
     rw c.in_default-find_at.is at c.find_at.ensures in
     clash none (home_holds c.args.settings c.args.store.now c.requires.0 c.args.key.0 _ (lacking) c.requires.1 _ (source))
@@ -62,7 +57,6 @@ bring-requires c =
     let home = c.home in
     let at : Stands c.args.settings (state) home.result place = rw c.in-At-place_of.is at c.place_of.ensures in
     subst (λ (i : ℕ). Stands c.args.settings (state) i place) home.ensures at in
-
     let row = c.in-At-find_at.row in
     let f : FoundAt ((state).bricks.log ((state).ids c.in-At-place_of.home)) c.args.key.0 row = rw c.in-At-find_at.is at c.find_at.ensures in
     copy_fits c.args.settings c.args.store.now c.requires.0 c.args.key.0 _ (lacking) c.requires.1 _ (source) row f
@@ -75,6 +69,5 @@ returns c =
     let home = c.home in
     let at : Stands c.args.settings (state) home.result place = rw c.in-At-place_of.is at c.place_of.ensures in
     subst (λ (i : ℕ). Stands c.args.settings (state) i place) home.ensures at in
-
     c.bring.ensures
     ∙ one_copied c.args.settings c.args.store.now c.requires.0 c.args.key.0 _ (lacking) c.requires.1 _ (source)

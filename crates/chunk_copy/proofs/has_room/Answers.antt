@@ -8,14 +8,12 @@ use Rattle.rules.specs.Writes.{target, nothing_to_copy}
 use Rattle.layout.specs.Store.{decode}
 use Rattle.chunk_copy.specs.Copies.{Lacking}
 use Rattle.chunk_copy.proofs.Copies.{room_is}
-use borrow.Author.Rules.{rules}
 use Rattle.chunk_copy.proofs.has_room.Goals as goal
 
 pub chunk_count-requires : goal.chunk_count-requires
 chunk_count-requires c =
     let found : let s = decode (words c.args.store.now) in
     Lacking c.args.settings s (target s c.args.key.0) c.args.key.0 c.in-At.place = rw c.in-At.is at c.copied_to.ensures in
-
     let at = found in
     (c.requires, at.at.inside, rw at.at.here at.at.some)
 
@@ -23,7 +21,6 @@ pub returns-in-At : goal.returns-in-At
 returns-in-At c =
     let found : let s = decode (words c.args.store.now) in
     Lacking c.args.settings s (target s c.args.key.0) c.args.key.0 c.in-At.place = rw c.in-At.is at c.copied_to.ensures in
-
     let chunks = c.args.settings.chunks in
     ap (λ (n : ℕ). ltb n chunks) c.chunk_count.ensures
     ∙ room_is c.args.settings c.args.store.now c.requires c.args.key.0 _ (found)

@@ -6,20 +6,17 @@ use Rattle.layout.specs.Contents.{blank_brick}
 use Rattle.layout.specs.Store.{brick_in, decode}
 use Rattle.lent.specs.Places.{Stands}
 use Rattle.chunk_copy.proofs.Copies.{none_held}
-use borrow.Author.Rules.{rules}
 use Rattle.chunk_copy.proofs.is_held.Goals as goal
 
 pub holds_at-requires : goal.holds_at-requires
 holds_at-requires c =
     let found : Stands c.args.settings (decode (words c.args.store.now)) c.args.id c.in-At.place = rw c.in-At.is at c.place_of.ensures in
-
     let at = found in
     (c.requires, at.inside, rw at.here at.some)
 
 pub returns-in-At : goal.returns-in-At
 returns-in-At c =
     let found : Stands c.args.settings (decode (words c.args.store.now)) c.args.id c.in-At.place = rw c.in-At.is at c.place_of.ensures in
-
     let s = decode (words c.args.store.now) in
     c.holds_at.ensures ∙ ap (λ (i : ℕ). held (s.bricks.log i) c.args.key.0) (found).here
 

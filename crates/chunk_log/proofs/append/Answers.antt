@@ -3,7 +3,6 @@ use Prim.Native.Nat.{◌+◌, ◌*◌, ◌-◌}
 use native.Mathlib.Omega.{arith}
 use Rattle.lists.proofs.Runs.{below_of}
 use Rattle.chunk_log.proofs.Steps.{copied_fits, copied_leaves}
-use borrow.Author.Rules.{rules}
 use Rattle.chunk_log.proofs.append.Goals as goal
 
 pub append_in_place-requires : goal.append_in_place-requires

@@ -3,7 +3,6 @@ use native.Mathlib.Omega.{arith}
 use Rattle.lists.proofs.Runs.{below_of}
 use Rattle.lists.proofs.Tests.{flag_word}
 use Rattle.chunk_log.proofs.Steps.{append_leaves}
-use borrow.Author.Rules.{rules}
 use Rattle.chunk_log.proofs.append_in_place.Goals as goal
 
 pub lower_bound-p-requires : goal.lower_bound-p-requires

@@ -3,7 +3,6 @@ use Prim.Native.Nat.{◌+◌, ◌*◌, ◌-◌}
 use native.Mathlib.Omega.{arith}
 use Rattle.lists.proofs.Runs.{below_of}
 use Rattle.chunk_log.proofs.Steps.{part_bytes}
-use borrow.Author.Rules.{rules}
 use Rattle.chunk_log.proofs.bytes_at.Goals as goal
 
 pub returns : goal.returns

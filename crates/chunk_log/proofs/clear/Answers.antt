@@ -1,5 +1,4 @@
 use mathlib.Core.Path.{◌∙◌}
-use borrow.Author.Rules.{rules}
 use Rattle.chunk_log.proofs.Steps.{no_chunks}
 use Rattle.chunk_log.proofs.clear.Goals as goal
 

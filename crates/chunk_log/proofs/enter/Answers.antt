@@ -1,6 +1,5 @@
 use Rattle.words.specs.Words.{words}
 use Rattle.chunk_log.proofs.Steps.{enter_steps}
-use borrow.Author.Rules.{rules}
 use Rattle.chunk_log.proofs.enter.Goals as goal
 
 pub returns : goal.returns

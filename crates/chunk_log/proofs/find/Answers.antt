@@ -1,7 +1,6 @@
 use mathlib.Core.Path.{sym, ◌∙◌}
 use native.Mathlib.Omega.{arith}
 use Rattle.chunk_log.proofs.Steps.{found, missing}
-use borrow.Author.Rules.{rules}
 use Rattle.chunk_log.proofs.find.Goals as goal
 
 pub lower_bound-p-requires : goal.lower_bound-p-requires

@@ -3,7 +3,6 @@ use Rattle.words.specs.Words.{words}
 use Rattle.chunk_log.specs.Log.{log_dec}
 use Rattle.chunk_log.specs.Answers.{FoundAt}
 use Rattle.chunk_log.proofs.Steps.{found_held}
-use borrow.Author.Rules.{rules}
 use Rattle.chunk_log.proofs.holds.Goals as goal
 
 pub returns-in-At : goal.returns-in-At

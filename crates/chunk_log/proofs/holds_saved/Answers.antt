@@ -8,7 +8,6 @@ use Rattle.chunk_log.specs.Log.{log_dec}
 use Rattle.chunk_log.specs.Answers.{FoundAt}
 use Rattle.chunk_log.proofs.Check.{looser}
 use Rattle.chunk_log.proofs.Steps.{found_row, holds_saved}
-use borrow.Author.Rules.{rules}
 use Rattle.chunk_log.proofs.Rules.{none_saved}
 use Rattle.chunk_log.proofs.holds_saved.Goals as goal
 

@@ -2,7 +2,6 @@ use mathlib.Core.Path.{◌∙◌, ap}
 use Prim.Native.Nat.{ℕ, ◌+◌, ◌*◌}
 use lib.ListN.{get_or}
 use Rattle.words.specs.Words.{words}
-use borrow.Author.Rules.{rules}
 use Rattle.chunk_log.proofs.key_by.Goals as goal
 
 pub returns : goal.returns

@@ -1,7 +1,7 @@
 use Rattle.words.specs.Words.{words}
 use Rattle.chunk_log.specs.Log.{key_by}
 use Rattle.lists.proofs.Ascending.{lower, upper}
-use Prim.Native.Nat.{ℕ, ◌+◌, ◌-◌, ◌/◌, ◌≤◌, ◌<◌}
+use Prim.Native.Nat.{◌+◌, ◌-◌, ◌/◌}
 use native.Mathlib.Omega.{arith}
 use borrow.Author.Rules.{rules}
 use Rattle.chunk_log.proofs.lower_bound.Goals as goal

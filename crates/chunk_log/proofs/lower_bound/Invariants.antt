@@ -1,9 +1,6 @@
 use Rattle.words.specs.Words.{words}
 use Rattle.chunk_log.specs.Log.{key_by}
-use Rattle.lists.proofs.Ascending.{lower, upper}
-use Prim.Native.Nat.{ℕ, ◌+◌, ◌-◌, ◌/◌, ◌≤◌, ◌<◌}
-use native.Mathlib.Omega.{arith}
-use borrow.Author.Rules.{rules}
+use Prim.Native.Nat.{ℕ, ◌-◌, ◌≤◌, ◌<◌}
 use Rattle.chunk_log.proofs.lower_bound.Given as goal
 
 abbrev pub invariant-loop-lo : goal.invariant-loop-lo

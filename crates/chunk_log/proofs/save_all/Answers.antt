@@ -1,11 +1,8 @@
-use lib.ListN.{length}
 use Rattle.words.specs.Words.{words}
-use Rattle.chunk_log.specs.Log.{write_log, read_log}
-use Rattle.chunk_log.specs.Steps.{tag}
 use Rattle.lists.proofs.Runs.{below_of}
 use Rattle.chunk_log.proofs.Steps.{tag_start, tagged, save_all_leaves}
-use mathlib.Core.Path.{◌≡◌, refl, ◌∙◌}
-use Prim.Native.Nat.{◌+◌, ◌*◌, ◌-◌, ◌≤◌}
+use mathlib.Core.Path.{refl, ◌∙◌}
+use Prim.Native.Nat.{◌+◌, ◌*◌}
 use native.Mathlib.Omega.{arith}
 use native.Mathlib.Numerals.{add-one}
 use borrow.Author.Rules.{rules}

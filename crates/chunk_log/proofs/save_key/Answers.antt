@@ -8,7 +8,6 @@ use Rattle.chunk_log.specs.Log.{log_dec}
 use Rattle.chunk_log.specs.Answers.{FoundAt}
 use Rattle.chunk_log.proofs.Check.{looser}
 use Rattle.chunk_log.proofs.Steps.{found_row, save_leaves, save_none}
-use borrow.Author.Rules.{rules}
 use Rattle.chunk_log.proofs.save_key.Goals as goal
 
 -- the chunk found, and so a row in use

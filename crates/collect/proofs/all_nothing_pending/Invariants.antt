@@ -1,15 +1,10 @@
-use mathlib.Core.Path.{◌≡◌, sym, ◌∙◌}
+use mathlib.Core.Path.{◌≡◌}
 use mathlib.Core.Bool.{true}
 use Prim.Native.Nat.{ℕ, ◌-◌, ◌≤◌, ◌<◌}
-use native.Mathlib.Omega.{arith}
-use borrow.Author.Count.{below_more, below_none}
-use borrow.Author.Tests.{not-true, not-false}
 use Rattle.rules.specs.Limits.{buckets}
-use Rattle.lists.proofs.Tests.{all_true, all_false}
 use Rattle.words.specs.Words.{words}
 use Rattle.rules.specs.Derived.{nothing_pending}
 use Rattle.layout.specs.Store.{decode}
-use borrow.Author.Rules.{rules}
 use Rattle.collect.proofs.all_nothing_pending.Given as goal
 
 abbrev pub invariant-loop-bucket : goal.invariant-loop-bucket

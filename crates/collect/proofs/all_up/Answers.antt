@@ -1,14 +1,10 @@
-use mathlib.Core.Path.{◌≡◌, sym, ◌∙◌}
-use mathlib.Core.Bool.{true}
-use Prim.Native.Nat.{ℕ, ◌-◌, ◌≤◌, ◌<◌}
+use mathlib.Core.Path.{sym, ◌∙◌}
+use Prim.Native.Nat.{◌-◌}
 use native.Mathlib.Omega.{arith}
 use borrow.Author.Count.{below_more, below_none}
 use borrow.Author.Tests.{not-true, not-false}
 use Rattle.lists.specs.Tests.{◌or◌}
 use Rattle.lists.proofs.Tests.{all_true, all_false}
-use Rattle.words.specs.Words.{words}
-use Rattle.rules.specs.Derived.{is_empty, up_member}
-use Rattle.layout.specs.Store.{decode}
 use borrow.Author.Rules.{rules}
 use Rattle.collect.proofs.all_up.Goals as goal
 
@@ -20,12 +16,11 @@ returns-then-not-empty_or_up c =
     sym (all_false _ _ c.loop-place.place (omega arith) (sym c.empty_or_up.ensures ∙ not-true _ c.if-not-empty_or_up.true-raw))
 
 pub loop-place-preserved : goal.loop-place-preserved
-loop-place-preserved c =
-    (
-      search rules,
-      below_more _ c.loop-place.place c.loop-place.invariant.1
-          (sym c.empty_or_up.ensures ∙ not-false _ c.if-not-empty_or_up.false-raw),
-    )
+loop-place-preserved c = (
+  search rules,
+  below_more _ c.loop-place.place c.loop-place.invariant.1
+      (sym c.empty_or_up.ensures ∙ not-false _ c.if-not-empty_or_up.false-raw),
+)
 
 pub returns : goal.returns
 returns c =

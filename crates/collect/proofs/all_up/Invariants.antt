@@ -1,15 +1,10 @@
-use mathlib.Core.Path.{◌≡◌, sym, ◌∙◌}
+use mathlib.Core.Path.{◌≡◌}
 use mathlib.Core.Bool.{true}
 use Prim.Native.Nat.{ℕ, ◌-◌, ◌≤◌, ◌<◌}
-use native.Mathlib.Omega.{arith}
-use borrow.Author.Count.{below_more, below_none}
-use borrow.Author.Tests.{not-true, not-false}
 use Rattle.lists.specs.Tests.{◌or◌}
-use Rattle.lists.proofs.Tests.{all_true, all_false}
 use Rattle.words.specs.Words.{words}
 use Rattle.rules.specs.Derived.{is_empty, up_member}
 use Rattle.layout.specs.Store.{decode}
-use borrow.Author.Rules.{rules}
 use Rattle.collect.proofs.all_up.Given as goal
 
 abbrev pub invariant-loop-place : goal.invariant-loop-place

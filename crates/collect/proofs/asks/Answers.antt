@@ -4,7 +4,6 @@ use Rattle.words.specs.Words.{words}
 use Rattle.rules.proofs.Questions.{stops_there, goes_on}
 use Rattle.layout.specs.Store.{decode}
 use Rattle.lent.specs.Asks.{place_asks}
-use borrow.Author.Rules.{rules}
 use Rattle.collect.proofs.asks.Goals as goal
 
 pub returns-then-no-ne0 : goal.returns-then-no-ne0

@@ -13,7 +13,6 @@ use Rattle.lent.specs.Asks.{place_asks}
 use Rattle.lent.proofs.Performs.{refused, accepted}
 use Rattle.lent.proofs.Places.{place_yes}
 use Rattle.lent.proofs.Stores.{settings_are}
-use borrow.Author.Rules.{rules}
 use Rattle.collect.proofs.collect.Goals as goal
 
 pub returns-then-no-ne0 : goal.returns-then-no-ne0

@@ -3,7 +3,6 @@ use Prim.Native.Nat.{◌+◌}
 use Rattle.lists.proofs.Runs.{below_of}
 use Rattle.layout.proofs.Bounds.{store_small}
 use Rattle.collect.proofs.Collecting.{Lies, log_in, tables_in, log_still, collected}
-use borrow.Author.Rules.{rules}
 use Rattle.collect.proofs.collect_in.Goals as goal
 
 pub overflow_add-at : goal.overflow_add-at
@@ -18,7 +17,6 @@ mark_tables-requires c =
       known = c.all_named.ensures;
       begins = omega (arith, c.place_at.ensures.0, c.log_at.ensures);
     } in
-
     let o = lies in record { log_in = log_in _ _ _ _ _ o; tables_in = tables_in _ _ _ _ _ o }
 
 pub sweep_log-requires : goal.sweep_log-requires
@@ -29,7 +27,6 @@ sweep_log-requires c =
       known = c.all_named.ensures;
       begins = omega (arith, c.place_at.ensures.0, c.log_at.ensures);
     } in
-
     log_still _ _ _ _ _ (lies) _ _ _ c.mark_tables.ensures (omega arith)
 
 pub returns : goal.returns
@@ -40,6 +37,5 @@ returns c =
       known = c.all_named.ensures;
       begins = omega (arith, c.place_at.ensures.0, c.log_at.ensures);
     } in
-
     let o = lies in
     collected _ _ _ _ _ o (below_of 256 _ (λ i. (c.slice_known-1.given i).fits)) _ _ c.mark_tables.ensures c.sweep_log.ensures

@@ -1,5 +1,4 @@
 use native.Mathlib.Omega.{arith}
-use borrow.Author.Rules.{rules}
 use Rattle.rules.proofs.Limits.{few_buckets}
 use Rattle.collect.proofs.collect_log.Goals as goal
 

@@ -1,7 +1,6 @@
 use mathlib.Core.Path.{sym, ◌∙◌}
 use borrow.Author.Tests.{eq-eqb, ne_eqb}
 use Rattle.lists.proofs.Tests.{or_l, or_no}
-use borrow.Author.Rules.{rules}
 use Rattle.collect.proofs.empty_or_up.Goals as goal
 
 pub returns-then-id-eq0 : goal.returns-then-id-eq0

@@ -9,7 +9,6 @@ use Rattle.rules.specs.Derived.{is_empty, up_member, nothing_pending}
 use Rattle.rules.proofs.Questions.{first_yes, first_stop, none_asked}
 use Rattle.layout.specs.Store.{decode}
 use Rattle.lent.proofs.Stores.{settings_are}
-use borrow.Author.Rules.{rules}
 use Rattle.collect.proofs.idle_asks.Goals as goal
 
 pub returns-then-not-all_up : goal.returns-then-not-all_up
@@ -18,7 +17,7 @@ returns-then-not-all_up c =
     → let s = decode (words c.args.store.now) in all_below s.settings.places (λ p. is_empty s p or up_member s (s.ids p)) ≡ x = λ x q. let s = decode (words c.args.store.now) in
     ap (λ (d : Settings). all_below d.places (λ p. is_empty s p or up_member s (s.ids p))) (settings_are c.args.settings c.args.store.now c.requires)
     ∙ sym c.all_up.ensures ∙ q in
- sym (first_stop 13 _ (ups _ (not-true _ c.if-not-all_up.true-raw)))
+    sym (first_stop 13 _ (ups _ (not-true _ c.if-not-all_up.true-raw)))
 
 pub returns-then-not-all_nothing_pending : goal.returns-then-not-all_nothing_pending
 returns-then-not-all_nothing_pending c =
@@ -30,7 +29,6 @@ returns-then-not-all_nothing_pending c =
     → let s = decode (words c.args.store.now) in all_below (buckets s.settings) (λ g. nothing_pending (s.bucket g)) ≡ x = λ x q. let s = decode (words c.args.store.now) in
     ap (λ (d : Settings). all_below (buckets d) (λ g. nothing_pending (s.bucket g))) (settings_are c.args.settings c.args.store.now c.requires)
     ∙ sym c.all_nothing_pending.ensures ∙ q in
-
     sym (first_yes 13 _ (ups _ (not-false _ c.if-not-all_up.false-raw)) ∙ first_stop 13 _ (calms _ (not-true _ c.if-not-all_nothing_pending.true-raw)))
 
 pub returns-then-no_items : goal.returns-then-no_items
@@ -43,7 +41,6 @@ returns-then-no_items c =
     → let s = decode (words c.args.store.now) in all_below (buckets s.settings) (λ g. nothing_pending (s.bucket g)) ≡ x = λ x q. let s = decode (words c.args.store.now) in
     ap (λ (d : Settings). all_below (buckets d) (λ g. nothing_pending (s.bucket g))) (settings_are c.args.settings c.args.store.now c.requires)
     ∙ sym c.all_nothing_pending.ensures ∙ q in
-
     sym (first_yes 13 _ (ups _ (not-false _ c.if-not-all_up.false-raw)) ∙ first_yes 13 _ (calms _ (not-false _ c.if-not-all_nothing_pending.false-raw))
     ∙ first_yes 13 _ (sym c.no_items.ensures ∙ c.if-no_items.true) ∙ none_asked)
 
@@ -57,6 +54,5 @@ returns c =
     → let s = decode (words c.args.store.now) in all_below (buckets s.settings) (λ g. nothing_pending (s.bucket g)) ≡ x = λ x q. let s = decode (words c.args.store.now) in
     ap (λ (d : Settings). all_below (buckets d) (λ g. nothing_pending (s.bucket g))) (settings_are c.args.settings c.args.store.now c.requires)
     ∙ sym c.all_nothing_pending.ensures ∙ q in
-
     sym (first_yes 13 _ (ups _ (not-false _ c.if-not-all_up.false-raw)) ∙ first_yes 13 _ (calms _ (not-false _ c.if-not-all_nothing_pending.false-raw))
     ∙ first_stop 13 _ (sym c.no_items.ensures ∙ c.if-no_items.false))

@@ -1,16 +1,11 @@
-use mathlib.Core.Path.{◌≡◌, sym, ◌∙◌}
-use mathlib.Core.Bool.{true}
-use Prim.Native.Nat.{ℕ, ◌+◌, ◌-◌, ◌≤◌, ◌<◌}
+use mathlib.Core.Path.{sym, ◌∙◌}
+use Prim.Native.Nat.{◌+◌, ◌-◌}
 use native.Mathlib.Omega.{arith}
 use borrow.Author.Count.{below_more, below_none}
-use lib.Dec.{eqb}
-use lib.ListN.{length}
 use borrow.Author.Tests.{eq-eqb, ne_eqb}
 use Rattle.rules.proofs.Limits.{few_buckets}
 use Rattle.collect.proofs.Questions.{items_count}
 use Rattle.lists.proofs.Tests.{all_true, all_false}
-use Rattle.words.specs.Words.{words}
-use Rattle.layout.specs.Store.{decode}
 use borrow.Author.Rules.{rules}
 use Rattle.collect.proofs.no_items.Goals as goal
 

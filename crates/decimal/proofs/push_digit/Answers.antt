@@ -1,7 +1,6 @@
 use native.Mathlib.Omega.{arith}
 use Rattle.decimal.specs.Decimal.{answer}
 use Rattle.decimal.proofs.Laws.{push_under, push_over, push_wide, push_fits}
-use borrow.Author.Rules.{rules}
 use Rattle.decimal.proofs.push_digit.Goals as goal
 
 -- `decimal::push_digit` meets its contract.

@@ -2,7 +2,6 @@ use mathlib.Core.Path.{◌∙◌}
 use native.Mathlib.Omega.{arith}
 use Rattle.decimal.specs.Decimal.{answer}
 use Rattle.decimal.proofs.Laws.{no_text, one_digit, leading_zero, no_leading_zero}
-use borrow.Author.Rules.{rules}
 use Rattle.decimal.proofs.whole.Goals as goal
 
 -- `decimal::whole` meets its contract.

@@ -1,9 +1,5 @@
-use mathlib.Core.Path.{◌≡◌}
-use Prim.Native.Nat.{◌+◌, ◌^◌, ◌<◌}
 use native.Mathlib.Omega.{arith}
-use lib.ListN.{length}
 use borrow.Author.Rules.{rules}
-use Rattle.decimal.specs.Decimal.{decimal}
 use Rattle.decimal.proofs.Laws.{width_four, decimal_most}
 use Rattle.decimal.proofs.width.Goals as goal
 

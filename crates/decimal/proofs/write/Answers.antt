@@ -1,7 +1,6 @@
 use native.Mathlib.Omega.{arith}
 use Rattle.area.proofs.Laws.{onto_part}
 use Rattle.decimal.specs.Decimal.{decimal}
-use borrow.Author.Rules.{rules}
 use Rattle.decimal.proofs.write.Goals as goal
 
 -- `decimal::write` meets its contract.

@@ -4,7 +4,6 @@ use Prim.Native.Nat.{ℕ}
 use Rattle.lent.specs.declared.Answer.{Answer}
 use Rattle.lent.specs.declared.Answer.TheVariants.{Yes, No}
 use Rattle.calls.specs.Outcome.{Outcome, outcome_of}
-use borrow.Author.Rules.{rules}
 use Rattle.disk.proofs.disk_step.Goals as goal
 
 -- `disk::disk_step` meets its contract.

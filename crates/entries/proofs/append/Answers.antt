@@ -4,7 +4,6 @@ use native.Mathlib.Omega.{arith}
 use Rattle.words.specs.Words.{words}
 use Rattle.words.proofs.Laws.{length_words}
 use Rattle.entries.proofs.Words.{append_leaves}
-use borrow.Author.Rules.{rules}
 use Rattle.entries.proofs.append.Goals as goal
 
 pub returns : goal.returns

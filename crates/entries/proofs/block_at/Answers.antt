@@ -1,10 +1,8 @@
 use mathlib.Core.Path.{sym, ◌∙◌}
-use Prim.Native.Nat.{◌-◌}
 use native.Mathlib.Omega.{arith}
 use Rattle.words.specs.Words.{words}
 use Rattle.words.proofs.Laws.{length_words}
 use Rattle.entries.proofs.Words.{block_at}
-use borrow.Author.Rules.{rules}
 use Rattle.entries.proofs.block_at.Goals as goal
 
 pub returns : goal.returns

@@ -1,11 +1,9 @@
 use mathlib.Core.Path.{sym, ◌∙◌}
-use Prim.Native.Nat.{◌-◌}
 use native.Mathlib.Omega.{arith}
 use Rattle.words.specs.Words.{words}
 use Rattle.words.proofs.Laws.{length_words}
 use Rattle.codec.proofs.Loops.{table_cleared}
 use Rattle.layout.specs.Contents.{entry_row}
-use borrow.Author.Rules.{rules}
 use Rattle.entries.proofs.clear.Goals as goal
 
 pub returns : goal.returns

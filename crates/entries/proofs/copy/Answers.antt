@@ -1,9 +1,8 @@
 use mathlib.Core.Path.{◌∙◌}
-use Prim.Native.Nat.{◌+◌, ◌*◌, ◌-◌}
+use Prim.Native.Nat.{◌+◌, ◌*◌}
 use Rattle.words.specs.Words.{words}
 use Rattle.words.proofs.Laws.{room}
 use Rattle.entries.proofs.Words.{copy_leaves}
-use borrow.Author.Rules.{rules}
 use Rattle.entries.proofs.copy.Goals as goal
 
 pub returns : goal.returns

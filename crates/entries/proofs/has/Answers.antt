@@ -6,7 +6,6 @@ use Rattle.words.specs.Words.{words}
 use Rattle.words.proofs.Laws.{length_words}
 use Rattle.tables.specs.Tables.{HereAt, GapAt}
 use Rattle.entries.proofs.Words.{has_here, has_gap}
-use borrow.Author.Rules.{rules}
 use Rattle.entries.proofs.has.Goals as goal
 
 pub returns-in-Here : goal.returns-in-Here

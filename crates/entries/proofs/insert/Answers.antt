@@ -6,7 +6,6 @@ use Rattle.words.specs.Words.{words}
 use Rattle.words.proofs.Laws.{length_words}
 use Rattle.tables.specs.Tables.{HereAt, GapAt}
 use Rattle.entries.proofs.Words.{gap_room, put_here, put_gap}
-use borrow.Author.Rules.{rules}
 use Rattle.entries.proofs.insert.Goals as goal
 
 pub set_cell-requires : goal.set_cell-requires

@@ -3,9 +3,7 @@ use Prim.Native.Nat.{◌-◌}
 use native.Mathlib.Omega.{arith}
 use Rattle.words.specs.Words.{words}
 use Rattle.words.proofs.Laws.{length_words}
-use Rattle.rules.specs.Entries.{takes, insert}
 use Rattle.entries.proofs.Words.{entries_clean}
-use borrow.Author.Rules.{rules}
 use Rattle.entries.proofs.insert_or_drop.Goals as goal
 
 pub insert-requires : goal.insert-requires

@@ -1,10 +1,8 @@
 use mathlib.Core.Path.{sym, ◌∙◌}
-use Prim.Native.Nat.{◌-◌}
 use native.Mathlib.Omega.{arith}
 use Rattle.words.specs.Words.{words}
 use Rattle.words.proofs.Laws.{length_words}
 use Rattle.entries.proofs.Words.{key_word}
-use borrow.Author.Rules.{rules}
 use Rattle.entries.proofs.key_at.Goals as goal
 
 pub returns : goal.returns

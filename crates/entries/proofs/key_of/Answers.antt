@@ -5,7 +5,6 @@ use Rattle.words.specs.Words.{words}
 use Rattle.words.proofs.Laws.{length_words}
 use Rattle.tables.specs.Tables.{HereAt, GapAt}
 use Rattle.entries.proofs.Words.{key_for_found, key_for_gap}
-use borrow.Author.Rules.{rules}
 use Rattle.entries.proofs.key_of.Goals as goal
 
 pub key_at-requires : goal.key_at-requires

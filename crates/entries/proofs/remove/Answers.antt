@@ -6,7 +6,6 @@ use Rattle.words.specs.Words.{words}
 use Rattle.words.proofs.Laws.{length_words}
 use Rattle.tables.specs.Tables.{HereAt, GapAt}
 use Rattle.entries.proofs.Words.{remove_leaves, remove_gap}
-use borrow.Author.Rules.{rules}
 use Rattle.entries.proofs.remove.Goals as goal
 
 pub remove_row-requires : goal.remove_row-requires

@@ -1,10 +1,8 @@
 use mathlib.Core.Path.{◌∙◌}
-use Prim.Native.Nat.{◌-◌}
 use native.Mathlib.Omega.{arith}
 use Rattle.words.specs.Words.{words}
 use Rattle.words.proofs.Laws.{length_words}
 use Rattle.entries.proofs.Words.{same_is_rows}
-use borrow.Author.Rules.{rules}
 use Rattle.entries.proofs.same.Goals as goal
 
 pub returns : goal.returns

@@ -3,9 +3,7 @@ use Prim.Native.Nat.{◌-◌}
 use native.Mathlib.Omega.{arith}
 use Rattle.words.specs.Words.{words}
 use Rattle.words.proofs.Laws.{length_words}
-use Rattle.rules.specs.Entries.{has}
 use Rattle.entries.proofs.Words.{entries, entries_length, takes_room, takes_has}
-use borrow.Author.Rules.{rules}
 use Rattle.entries.proofs.takes.Goals as goal
 
 pub returns-then-has : goal.returns-then-has

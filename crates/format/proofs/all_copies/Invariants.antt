@@ -1,16 +1,10 @@
-use mathlib.Core.Path.{◌≡◌, ap, ap₂, ◌∙◌}
-use Prim.Native.Nat.{ℕ, ◌+◌, ◌*◌, ◌-◌, ◌≤◌}
-use native.Mathlib.Omega.{arith}
+use mathlib.Core.Path.{◌≡◌}
+use Prim.Native.Nat.{◌*◌, ◌-◌, ◌≤◌}
 use lib.ListN.{length}
-use borrow.Author.Rules.{rules}
-use Rattle.lists.proofs.Runs.{run_length}
 use Rattle.words.specs.Words.{words}
-use Rattle.words.proofs.Laws.{length_words}
-use Rattle.codec.proofs.Loops.{written, loop_start, loop_end}
+use Rattle.codec.proofs.Loops.{written}
 use Rattle.rules.specs.Limits.{buckets}
 use Rattle.layout.specs.Layout.{copies_codec, copies_words}
-use Rattle.layout.proofs.Codecs.{copies_law}
-use Rattle.layout.proofs.Lent.{lent_turn}
 use Rattle.layout.specs.Contents.{blank_copies}
 use Rattle.format.proofs.all_copies.Given as goal
 

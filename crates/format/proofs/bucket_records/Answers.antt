@@ -1,13 +1,13 @@
 use mathlib.Core.Path.{◌≡◌, ap, ◌∙◌}
-use Prim.Native.Nat.{ℕ, ◌+◌, ◌*◌, ◌-◌, ◌≤◌}
+use Prim.Native.Nat.{ℕ, ◌+◌, ◌*◌, ◌-◌}
 use native.Mathlib.Omega.{arith}
-use lib.ListN.{length, take, drop}
+use lib.ListN.{take, drop}
 use borrow.Author.Rules.{rules}
 use Rattle.lists.proofs.Runs.{run_length}
 use Rattle.words.specs.Words.{words}
 use Rattle.words.proofs.Laws.{length_words}
 use Rattle.codec.specs.Codec.{enc_many}
-use Rattle.codec.proofs.Loops.{written, loop_start, loop_end}
+use Rattle.codec.proofs.Loops.{loop_start, loop_end}
 use Rattle.layout.specs.Contents.{Agreed}
 use Rattle.layout.specs.Layout.{agreed_codec, agreed_words}
 use Rattle.layout.proofs.Codecs.{agreed_law}

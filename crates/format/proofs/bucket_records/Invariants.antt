@@ -1,17 +1,9 @@
-use mathlib.Core.Path.{◌≡◌, ap, ◌∙◌}
-use Prim.Native.Nat.{ℕ, ◌+◌, ◌*◌, ◌-◌, ◌≤◌}
-use native.Mathlib.Omega.{arith}
-use lib.ListN.{length, take, drop}
-use borrow.Author.Rules.{rules}
-use Rattle.lists.proofs.Runs.{run_length}
+use mathlib.Core.Path.{◌≡◌}
+use Prim.Native.Nat.{◌-◌, ◌≤◌}
+use lib.ListN.{length}
 use Rattle.words.specs.Words.{words}
-use Rattle.words.proofs.Laws.{length_words}
-use Rattle.codec.specs.Codec.{enc_many}
-use Rattle.codec.proofs.Loops.{written, loop_start, loop_end}
-use Rattle.layout.specs.Contents.{Agreed}
-use Rattle.layout.specs.Layout.{agreed_codec, agreed_words}
-use Rattle.layout.proofs.Codecs.{agreed_law}
-use Rattle.layout.proofs.Lent.{lent_turn}
+use Rattle.codec.proofs.Loops.{written}
+use Rattle.layout.specs.Layout.{agreed_codec}
 use Rattle.format.specs.First.{agreed_in}
 use Rattle.format.proofs.bucket_records.Given as goal
 

@@ -3,7 +3,6 @@ use native.Mathlib.Omega.{arith}
 use Rattle.words.specs.Words.{words}
 use Rattle.words.proofs.Laws.{length_words}
 use Rattle.format.proofs.First.{copies_written}
-use borrow.Author.Rules.{rules}
 use Rattle.format.proofs.copies.Goals as goal
 
 pub returns : goal.returns

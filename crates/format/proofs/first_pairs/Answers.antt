@@ -5,7 +5,6 @@ use lib.ListN.{length, length-replicate}
 use Rattle.rules.specs.Limits.{buckets}
 use Rattle.rules.proofs.Limits.{few_buckets}
 use Rattle.format.proofs.Pairs.{ids_few, first_pairs_are}
-use borrow.Author.Rules.{rules}
 use Rattle.format.proofs.first_pairs.Goals as goal
 
 pub assign-requires : goal.assign-requires

@@ -1,5 +1,4 @@
 use native.Mathlib.Omega.{arith}
-use borrow.Author.Rules.{rules}
 use Rattle.rules.proofs.Limits.{few_buckets}
 use Rattle.format.proofs.Pairs.{no_pairs}
 use Rattle.format.proofs.first_state.Goals as goal

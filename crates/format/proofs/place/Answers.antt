@@ -8,7 +8,6 @@ use Rattle.layout.specs.Contents.{blank_copies}
 use Rattle.layout.specs.Layout.{status_codec, all_copies_codec, status_words, all_copies_at}
 use Rattle.records.specs.Records.{status_of}
 use Rattle.format.proofs.First.{place_steps}
-use borrow.Author.Rules.{rules}
 use Rattle.format.proofs.place.Goals as goal
 
 pub returns : goal.returns

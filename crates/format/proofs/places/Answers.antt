@@ -1,13 +1,12 @@
 use mathlib.Core.Path.{◌≡◌, ap, ◌∙◌}
-use Prim.Native.Nat.{ℕ, ◌+◌, ◌*◌, ◌-◌, ◌≤◌}
+use Prim.Native.Nat.{ℕ, ◌+◌, ◌*◌, ◌-◌}
 use native.Mathlib.Omega.{arith}
-use lib.ListN.{length}
 use borrow.Author.Rules.{rules}
 use Rattle.lists.proofs.Runs.{run_length}
 use Rattle.words.specs.Words.{words}
 use Rattle.words.proofs.Laws.{length_words}
-use Rattle.codec.proofs.Loops.{written, loop_start, loop_end}
-use Rattle.layout.specs.Layout.{place_codec, place_words}
+use Rattle.codec.proofs.Loops.{loop_start, loop_end}
+use Rattle.layout.specs.Layout.{place_codec}
 use Rattle.layout.proofs.Codecs.{place_law}
 use Rattle.layout.proofs.Lent.{lent_turn}
 use Rattle.format.specs.First.{first_place}

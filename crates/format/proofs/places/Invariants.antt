@@ -1,15 +1,9 @@
-use mathlib.Core.Path.{◌≡◌, ap, ◌∙◌}
-use Prim.Native.Nat.{ℕ, ◌+◌, ◌*◌, ◌-◌, ◌≤◌}
-use native.Mathlib.Omega.{arith}
+use mathlib.Core.Path.{◌≡◌}
+use Prim.Native.Nat.{◌*◌, ◌-◌, ◌≤◌}
 use lib.ListN.{length}
-use borrow.Author.Rules.{rules}
-use Rattle.lists.proofs.Runs.{run_length}
 use Rattle.words.specs.Words.{words}
-use Rattle.words.proofs.Laws.{length_words}
-use Rattle.codec.proofs.Loops.{written, loop_start, loop_end}
+use Rattle.codec.proofs.Loops.{written}
 use Rattle.layout.specs.Layout.{place_codec, place_words}
-use Rattle.layout.proofs.Codecs.{place_law}
-use Rattle.layout.proofs.Lent.{lent_turn}
 use Rattle.format.specs.First.{first_place}
 use Rattle.format.proofs.places.Given as goal
 

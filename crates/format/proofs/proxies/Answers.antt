@@ -1,12 +1,11 @@
 use mathlib.Core.Path.{◌≡◌, ◌∙◌}
-use Prim.Native.Nat.{ℕ, ◌+◌, ◌*◌, ◌-◌, ◌≤◌}
+use Prim.Native.Nat.{ℕ, ◌+◌, ◌*◌, ◌-◌}
 use native.Mathlib.Omega.{arith}
-use lib.ListN.{length}
 use borrow.Author.Rules.{rules}
 use Rattle.lists.proofs.Runs.{run_length}
 use Rattle.words.specs.Words.{words}
 use Rattle.words.proofs.Laws.{length_words}
-use Rattle.codec.proofs.Loops.{written, loop_start, loop_end}
+use Rattle.codec.proofs.Loops.{loop_start, loop_end}
 use Rattle.layout.specs.Contents.{blank_proxy}
 use Rattle.layout.specs.Layout.{proxy_codec, proxy_words}
 use Rattle.layout.proofs.Codecs.{proxy_law}

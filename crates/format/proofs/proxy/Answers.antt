@@ -3,7 +3,6 @@ use native.Mathlib.Omega.{arith}
 use Rattle.words.specs.Words.{words}
 use Rattle.words.proofs.Laws.{length_words}
 use Rattle.format.proofs.First.{proxy_written}
-use borrow.Author.Rules.{rules}
 use Rattle.format.proofs.proxy.Goals as goal
 
 pub returns : goal.returns

@@ -1,7 +1,6 @@
 use mathlib.Core.Path.{sym}
 use native.Mathlib.Omega.{arith}
 use Rattle.hexadecimal.proofs.Laws.{hex_low, hex_high}
-use borrow.Author.Rules.{rules}
 use Rattle.hexadecimal.proofs.digit.Goals as goal
 
 -- `hex::digit` meets its contract.

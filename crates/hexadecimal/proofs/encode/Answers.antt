@@ -1,9 +1,8 @@
 use lib.Seq.{take_all}
-use mathlib.Core.Path.{◌≡◌, refl, sym, ap, ◌∙◌}
+use mathlib.Core.Path.{refl, sym, ap, ◌∙◌}
 use mathlib.Core.List.{List}
-use Prim.Native.Nat.{ℕ, ◌-◌, ◌≤◌}
+use Prim.Native.Nat.{ℕ, ◌-◌}
 use native.Mathlib.Omega.{arith}
-use lib.ListN.{length, take}
 use Rattle.area.specs.Area.{onto}
 use Rattle.hexadecimal.specs.Hex.{hex}
 use Rattle.hexadecimal.proofs.Laws.{encode_turn}

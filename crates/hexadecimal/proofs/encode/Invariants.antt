@@ -1,14 +1,8 @@
-use lib.Seq.{take_all}
-use mathlib.Core.Path.{◌≡◌, refl, sym, ap, ◌∙◌}
-use mathlib.Core.List.{List}
-use Prim.Native.Nat.{ℕ, ◌-◌, ◌≤◌}
-use native.Mathlib.Omega.{arith}
+use mathlib.Core.Path.{◌≡◌}
+use Prim.Native.Nat.{◌-◌, ◌≤◌}
 use lib.ListN.{length, take}
 use Rattle.area.specs.Area.{onto}
 use Rattle.hexadecimal.specs.Hex.{hex}
-use Rattle.hexadecimal.proofs.Laws.{encode_turn}
-use Rattle.area.proofs.Laws.{onto_nothing}
-use borrow.Author.Rules.{rules}
 use Rattle.hexadecimal.proofs.encode.Given as goal
 
 abbrev pub invariant-loop-i : goal.invariant-loop-i

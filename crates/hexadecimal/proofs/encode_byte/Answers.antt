@@ -4,7 +4,6 @@ use Prim.Native.Nat.{◌+◌}
 use native.Mathlib.Omega.{arith}
 use Rattle.hexadecimal.specs.Hex.{hex}
 use Rattle.area.proofs.Laws.{onto_then}
-use borrow.Author.Rules.{rules}
 use Rattle.hexadecimal.proofs.encode_byte.Goals as goal
 
 -- `hex::encode_byte` meets its contract.

@@ -1,7 +1,6 @@
 use mathlib.Core.Path.{sym, ◌∙◌}
 use native.Mathlib.Omega.{arith}
 use Rattle.hexadecimal.proofs.Laws.{wrong_length, right_length}
-use borrow.Author.Rules.{rules}
 use Rattle.hexadecimal.proofs.is_bytes.Goals as goal
 
 -- `hex::is_bytes` meets its contract.

@@ -1,7 +1,6 @@
 use Prim.Native.Nat.{◌+◌}
 use native.Mathlib.Omega.{arith}
 use Rattle.hexadecimal.proofs.Laws.{digits_at}
-use borrow.Author.Rules.{rules}
 use Rattle.hexadecimal.proofs.pair.Goals as goal
 
 -- `hex::pair` meets its contract.

@@ -1,6 +1,5 @@
 use native.Mathlib.Omega.{arith}
 use Rattle.hexadecimal.proofs.Laws.{value_is, value_below}
-use borrow.Author.Rules.{rules}
 use Rattle.hexadecimal.proofs.value.Goals as goal
 
 -- `hex::value` meets its contract.

@@ -9,7 +9,6 @@ use Rattle.chunk_log.specs.Log.{chunk_at}
 use Rattle.chunk_log.proofs.Check.{looser}
 use Rattle.chunk_log.proofs.Codec.{dec_length}
 use Rattle.chunk_log.proofs.Steps.{sizes}
-use borrow.Author.Rules.{rules}
 use Rattle.holders.proofs.chunk.Goals as goal
 
 pub bytes_at-requires : goal.bytes_at-requires

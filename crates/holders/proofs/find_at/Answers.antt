@@ -4,7 +4,6 @@ use native.Mathlib.Omega.{arith}
 use Rattle.rules.specs.Chunks.{Chunk}
 use Rattle.chunk_log.specs.Answers.{FoundIn}
 use Rattle.chunk_log.proofs.Check.{looser}
-use borrow.Author.Rules.{rules}
 use Rattle.holders.proofs.find_at.Goals as goal
 
 pub find-requires : goal.find-requires

@@ -5,13 +5,11 @@ use Prim.Native.Nat.{ℕ, ◌-◌}
 use native.Mathlib.Omega.{arith}
 use Rattle.words.specs.Words.{words}
 use Rattle.rules.specs.Chunks.{held}
-use Rattle.rules.specs.Derived.{first_holder}
 use Rattle.chunk_log.specs.Answers.{FoundAt}
 use Rattle.chunk_log.proofs.Rules.{held_at}
 use Rattle.layout.specs.Store.{decode}
 use Rattle.holders.specs.Members.{between, NextAt}
 use Rattle.holders.proofs.Sought.{sought_none, sought_over, sought_here, sought_on}
-use borrow.Author.Rules.{rules}
 use Rattle.holders.proofs.first_holder.Goals as goal
 
 pub loop-low-init : goal.loop-low-init
@@ -27,13 +25,11 @@ returns-in_default c =
 pub find_at-requires : goal.find_at-requires
 find_at-requires c =
     let next : NextAt c.args.settings (decode (words c.args.store.now)) c.loop-low.low c.args.to c.in-At.place = rw c.in-At.is at c.next_member.ensures in
-
     (c.requires, (next).inside, (next).some)
 
 pub returns-in-At-find_at : goal.returns-in-At-find_at
 returns-in-At-find_at c =
     let next : NextAt c.args.settings (decode (words c.args.store.now)) c.loop-low.low c.args.to c.in-At.place = rw c.in-At.is at c.next_member.ensures in
-
     let state = decode (words c.args.store.now) in
     let n = next in
     let k = c.args.key.0 in
@@ -49,25 +45,21 @@ returns-in-At-find_at c =
 pub id-low-requires : goal.id-low-requires
 id-low-requires c =
     let next : NextAt c.args.settings (decode (words c.args.store.now)) c.loop-low.low c.args.to c.in-At.place = rw c.in-At.is at c.next_member.ensures in
-
     (c.requires, (next).inside)
 
 pub overflow_add-low : goal.overflow_add-low
 overflow_add-low c =
     let next : NextAt c.args.settings (decode (words c.args.store.now)) c.loop-low.low c.args.to c.in-At.place = rw c.in-At.is at c.next_member.ensures in
-
     let n = next in omega (arith, n.high, c.id-low.ensures)
 
 pub loop-low-smaller : goal.loop-low-smaller
 loop-low-smaller c =
     let next : NextAt c.args.settings (decode (words c.args.store.now)) c.loop-low.low c.args.to c.in-At.place = rw c.in-At.is at c.next_member.ensures in
-
     let n = next in omega (arith, n.low, n.high, c.id-low.ensures)
 
 pub loop-low-preserved : goal.loop-low-preserved
 loop-low-preserved c =
     let next : NextAt c.args.settings (decode (words c.args.store.now)) c.loop-low.low c.args.to c.in-At.place = rw c.in-At.is at c.next_member.ensures in
-
     let state = decode (words c.args.store.now) in
     let none : held (state.bricks.log (state.ids c.in-At.place)) c.args.key.0 ≡ false =
     rw c.in_default-find_at.is at c.find_at.ensures in

@@ -1,17 +1,9 @@
-use mathlib.Core.Path.{◌≡◌, refl, sym, subst, ◌∙◌}
-use mathlib.Core.Bool.{false}
-use mathlib.Core.List.{[]}
-use Prim.Native.Nat.{ℕ, ◌-◌}
-use native.Mathlib.Omega.{arith}
+use mathlib.Core.Path.{◌≡◌}
+use Prim.Native.Nat.{◌-◌}
 use Rattle.words.specs.Words.{words}
-use Rattle.rules.specs.Chunks.{held}
 use Rattle.rules.specs.Derived.{first_holder}
-use Rattle.chunk_log.specs.Answers.{FoundAt}
-use Rattle.chunk_log.proofs.Rules.{held_at}
 use Rattle.layout.specs.Store.{decode}
-use Rattle.holders.specs.Members.{between, NextAt}
-use Rattle.holders.proofs.Sought.{sought_none, sought_over, sought_here, sought_on}
-use borrow.Author.Rules.{rules}
+use Rattle.holders.specs.Members.{between}
 use Rattle.holders.proofs.first_holder.Given as goal
 
 abbrev pub invariant-loop-low : goal.invariant-loop-low

@@ -5,7 +5,6 @@ use Rattle.rules.specs.Derived.{first_holder}
 use Rattle.layout.specs.Store.{decode}
 use Rattle.holders.specs.Members.{ids, between, LiesAt, LiesWith}
 use Rattle.holders.proofs.Sought.{holder_above, holder_below}
-use borrow.Author.Rules.{rules}
 use Rattle.holders.proofs.holder.Goals as goal
 
 pub returns-in-At : goal.returns-in-At

@@ -3,7 +3,6 @@ use mathlib.Core.List.{List}
 use native.Mathlib.Omega.{arith}
 use Rattle.rules.specs.Chunks.{Chunk, held}
 use Rattle.chunk_log.proofs.Check.{looser}
-use borrow.Author.Rules.{rules}
 use Rattle.holders.proofs.holds_at.Goals as goal
 
 pub holds-requires : goal.holds-requires

@@ -4,7 +4,6 @@ use Rattle.words.specs.Words.{words}
 use Rattle.layout.specs.Store.{decode}
 use Rattle.holders.specs.Members.{ids, between, NextAt, begins_with}
 use Rattle.holders.proofs.MembersFrom.{begins, round_at, round_none}
-use borrow.Author.Rules.{rules}
 use Rattle.holders.proofs.is_first_round.Goals as goal
 
 pub id-requires : goal.id-requires

@@ -1,7 +1,6 @@
 use mathlib.Core.Path.{sym, ◌∙◌}
 use Rattle.lists.proofs.Tests.{no_first, yes_first}
 use Rattle.holders.proofs.Saved.{member_some}
-use borrow.Author.Rules.{rules}
 use Rattle.holders.proofs.member_saved.Goals as goal
 
 pub saved_at-requires : goal.saved_at-requires

@@ -1,5 +1,4 @@
 use Rattle.lists.specs.Tests.{◌and◌}
-use borrow.Author.Rules.{rules}
 use Rattle.holders.proofs.member_within.Goals as goal
 
 pub returns : goal.returns

@@ -1,11 +1,7 @@
 use mathlib.Core.Path.{◌≡◌, sym, ◌∙◌}
-use mathlib.Core.Logic.{⊎_elim}
 use Prim.Native.Nat.{◌-◌}
 use native.Mathlib.Omega.{arith}
-use borrow.Author.Rules.{rules}
-use Rattle.words.specs.Words.{words}
-use Rattle.layout.specs.Store.{decode}
-use Rattle.holders.proofs.Scan.{Scanned, scan_start, scan_hit, scan_miss, scan_none, scan_next}
+use Rattle.holders.proofs.Scan.{scan_start, scan_hit, scan_miss, scan_none, scan_next}
 use Rattle.holders.proofs.next_member.Goals as goal
 use Rattle.holders.proofs.next_member.Goals.{then-member_within, else-member_within}
 
@@ -16,9 +12,9 @@ pub loop-place-preserved : goal.loop-place-preserved
 loop-place-preserved c =
     let old = c.loop-place in
     elim c.if-member_within.branch [
-      then-member_within w ↦ rw (w.least-is, w.at-is, w.id-least.ensures)
+      | then-member_within w ↦ rw (w.least-is, w.at-is, w.id-least.ensures)
           (scan_hit _ _ _ _ old.place old.least old.at old.invariant (omega arith) (sym c.member_within.ensures ∙ w.if-member_within.true))
-    | else-member_within w ↦ rw (w.least-is, w.at-is)
+      | else-member_within w ↦ rw (w.least-is, w.at-is)
           (scan_miss _ _ _ _ old.place old.least old.at old.invariant (omega arith) (sym c.member_within.ensures ∙ w.if-member_within.false))
     ]
 

@@ -1,11 +1,7 @@
-use mathlib.Core.Path.{◌≡◌, sym, ◌∙◌}
-use mathlib.Core.Logic.{⊎_elim}
 use Prim.Native.Nat.{◌-◌}
-use native.Mathlib.Omega.{arith}
-use borrow.Author.Rules.{rules}
 use Rattle.words.specs.Words.{words}
 use Rattle.layout.specs.Store.{decode}
-use Rattle.holders.proofs.Scan.{Scanned, scan_start, scan_hit, scan_miss, scan_none, scan_next}
+use Rattle.holders.proofs.Scan.{Scanned}
 use Rattle.holders.proofs.next_member.Given as goal
 
 abbrev pub invariant-loop-place : goal.invariant-loop-place

@@ -1,12 +1,8 @@
-use mathlib.Core.Path.{◌≡◌, sym, ◌∙◌}
-use mathlib.Core.Bool.{false}
-use Prim.Native.Nat.{ℕ, ◌-◌, ◌≤◌, ◌<◌}
+use mathlib.Core.Path.{sym, ◌∙◌}
+use Prim.Native.Nat.{◌-◌}
 use native.Mathlib.Omega.{arith}
 use borrow.Author.Count.{below_more}
 use borrow.Author.Rules.{rules}
-use Rattle.words.specs.Words.{words}
-use Rattle.layout.specs.Store.{decode}
-use Rattle.holders.specs.Members.{member_saved}
 use Rattle.holders.proofs.next_saved.Goals as goal
 
 pub loop-place-init : goal.loop-place-init

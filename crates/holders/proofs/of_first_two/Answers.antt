@@ -7,7 +7,6 @@ use Rattle.rules.specs.Upkeep.{of_first_two}
 use Rattle.layout.specs.Store.{decode}
 use Rattle.holders.specs.Members.{ids, between, NextAt, round, begins_with}
 use Rattle.holders.proofs.MembersFrom.{two_hit, two_miss, round_at, round_none, after_first, all_members_from}
-use borrow.Author.Rules.{rules}
 use Rattle.holders.proofs.of_first_two.Goals as goal
 
 pub id-first-requires : goal.id-first-requires

@@ -7,7 +7,6 @@ use Rattle.rules.specs.Upkeep.{of_first_two}
 use Rattle.layout.specs.Store.{decode}
 use Rattle.holders.specs.Members.{between, NextAt, begins_with}
 use Rattle.holders.proofs.MembersFrom.{two_hit, two_miss, after_first}
-use borrow.Author.Rules.{rules}
 use Rattle.holders.proofs.of_two.Goals as goal
 
 pub id-first-requires : goal.id-first-requires

@@ -1,7 +1,6 @@
 use mathlib.Core.Path.{ap, ◌∙◌}
 use mathlib.Core.List.{List}
 use Rattle.rules.specs.Chunks.{Chunk, saved_in}
-use borrow.Author.Rules.{rules}
 use Rattle.holders.proofs.saved_at.Goals as goal
 
 pub returns : goal.returns

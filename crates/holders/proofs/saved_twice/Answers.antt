@@ -4,27 +4,23 @@ use Rattle.words.specs.Words.{words}
 use Rattle.layout.specs.Store.{decode}
 use Rattle.holders.specs.Members.{NextSavedAt}
 use Rattle.holders.proofs.Saved.{nowhere_else, found_twice, found_once}
-use borrow.Author.Rules.{rules}
 use Rattle.holders.proofs.saved_twice.Goals as goal
 
 pub overflow_add-first : goal.overflow_add-first
 overflow_add-first c =
     let first : NextSavedAt c.args.settings (decode (words c.args.store.now)) c.args.key.0 0 c.in-At.first = rw c.in-At.is at c.next_saved.ensures in
-
     let f = first in
     omega (arith, f.inside)
 
 pub returns-in-At-next_saved : goal.returns-in-At-next_saved
 returns-in-At-next_saved c =
     let first : NextSavedAt c.args.settings (decode (words c.args.store.now)) c.args.key.0 0 c.in-At.first = rw c.in-At.is at c.next_saved.ensures in
-
     let second = rw c.in-At-next_saved.is at c.next_saved-in-At.ensures in
     sym (found_twice _ c.args.store.now c.requires c.args.key.0 _ _ (first) _ second (omega arith))
 
 pub returns-in-Nowhere-next_saved : goal.returns-in-Nowhere-next_saved
 returns-in-Nowhere-next_saved c =
     let first : NextSavedAt c.args.settings (decode (words c.args.store.now)) c.args.key.0 0 c.in-At.first = rw c.in-At.is at c.next_saved.ensures in
-
     let none = rw c.in-Nowhere-next_saved.is at c.next_saved-in-At.ensures in
     sym (found_once _ c.args.store.now c.requires c.args.key.0 _ _ (first) none (omega arith))
 

@@ -5,7 +5,6 @@ use Rattle.words.specs.Words.{words}
 use Rattle.layout.specs.Store.{decode}
 use Rattle.holders.specs.Members.{ids, between, NextAt}
 use Rattle.holders.proofs.MembersFrom.{target_above, target_below}
-use borrow.Author.Rules.{rules}
 use Rattle.holders.proofs.target.Goals as goal
 
 pub returns-in-At : goal.returns-in-At

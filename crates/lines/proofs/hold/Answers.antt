@@ -5,7 +5,6 @@ use lib.ListN.{length, drop, length-drop}
 use lib.Seq.{length-take-le}
 use Rattle.lines.specs.Lines.{longest_kept}
 use Rattle.lines.proofs.Kept.{held_cut, held_whole}
-use borrow.Author.Rules.{rules}
 use Rattle.lines.proofs.hold.Goals as goal
 
 -- `lines::hold` meets its contract.

@@ -30,18 +30,15 @@ slice_bounds-area-end c = omega (arith, c.requires.limits.size_to)
 pub mend_in-requires : goal.mend_in-requires
 mend_in-requires c =
     let asked : first_no (place_asks (decode (words c.args.store.now)) c.args.place) ≡ 0 = sym c.asks-no.ensures ∙ c.if-no-ne0.false in
-
     let y = place_yes c.args.settings c.args.store.now c.requires c.args.place (asked) in
     (record { store = c.requires; inside = y.inside; up = y.up }, search rules, search rules)
 
 pub returns-then-mend_in : goal.returns-then-mend_in
 returns-then-mend_in c =
     let asked : first_no (place_asks (decode (words c.args.store.now)) c.args.place) ≡ 0 = sym c.asks-no.ensures ∙ c.if-no-ne0.false in
-
     done _ _ c.requires _ (asked) _ c.mend_in.ensures.0 _ c.mend_in.ensures.1 c.if-mend_in.true
 
 pub returns : goal.returns
 returns c =
     let asked : first_no (place_asks (decode (words c.args.store.now)) c.args.place) ≡ 0 = sym c.asks-no.ensures ∙ c.if-no-ne0.false in
-
     full _ _ c.requires _ (asked) _ c.mend_in.ensures.0 _ c.mend_in.ensures.1 c.if-mend_in.false

@@ -1,8 +1,8 @@
-use mathlib.Core.Path.{◌≡◌, ap, ◌∙◌}
-use mathlib.Core.List.{List, ◌++◌}
-use Prim.Native.Nat.{ℕ, ◌+◌, ◌-◌, ◌≤◌}
+use mathlib.Core.Path.{ap, ◌∙◌}
+use mathlib.Core.List.{List}
+use Prim.Native.Nat.{ℕ, ◌+◌, ◌-◌}
 use native.Mathlib.Omega.{arith}
-use lib.ListN.{length, take, drop}
+use lib.ListN.{length, drop}
 use lib.Seq.{paste}
 use Rattle.spans.proofs.Laws.{copy_end}
 use Rattle.moves.proofs.Laws.{copy_more}
@@ -11,8 +11,7 @@ use Rattle.moves.proofs.copy_bytes.Goals as goal
 
 pub loop-copied-preserved : goal.loop-copied-preserved
 loop-copied-preserved c =
-    let l = c.loop-copied in
-    (
+    let l = c.loop-copied in (
       search rules,
       search rules,
       search rules,

@@ -1,12 +1,7 @@
-use mathlib.Core.Path.{◌≡◌, ap, ◌∙◌}
-use mathlib.Core.List.{List, ◌++◌}
-use Prim.Native.Nat.{ℕ, ◌+◌, ◌-◌, ◌≤◌}
-use native.Mathlib.Omega.{arith}
+use mathlib.Core.Path.{◌≡◌}
+use mathlib.Core.List.{◌++◌}
+use Prim.Native.Nat.{◌-◌, ◌≤◌}
 use lib.ListN.{length, take, drop}
-use lib.Seq.{paste}
-use Rattle.spans.proofs.Laws.{copy_end}
-use Rattle.moves.proofs.Laws.{copy_more}
-use borrow.Author.Rules.{rules}
 use Rattle.moves.proofs.copy_bytes.Given as goal
 
 abbrev pub invariant-loop-copied : goal.invariant-loop-copied

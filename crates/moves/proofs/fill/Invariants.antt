@@ -1,12 +1,8 @@
 use mathlib.Core.Path.{◌≡◌}
-use Prim.Native.Nat.{◌+◌, ◌-◌, ◌≤◌}
-use native.Mathlib.Omega.{arith}
+use Prim.Native.Nat.{◌-◌, ◌≤◌}
 use lib.ListN.{length, replicate}
-use lib.Seq.{paste, paste-zero}
+use lib.Seq.{paste}
 use Rattle.words.specs.Words.{words}
-use Rattle.words.proofs.Laws.{room}
-use Rattle.moves.proofs.Laws.{fill_turn}
-use borrow.Author.Rules.{rules}
 use Rattle.moves.proofs.fill.Given as goal
 
 abbrev pub invariant-loop-filled : goal.invariant-loop-filled

@@ -1,8 +1,8 @@
 use mathlib.Core.Path.{◌≡◌, ap, ◌∙◌}
 use mathlib.Core.List.{List}
-use Prim.Native.Nat.{ℕ, ◌+◌, ◌-◌, ◌≤◌}
+use Prim.Native.Nat.{ℕ, ◌+◌, ◌-◌}
 use native.Mathlib.Omega.{arith}
-use lib.ListN.{length, drop}
+use lib.ListN.{drop}
 use lib.Seq.{paste, paste-zero}
 use Rattle.words.specs.Words.{words}
 use Rattle.words.proofs.Laws.{room}
@@ -19,8 +19,7 @@ loop-moved-init c = (
 
 pub loop-moved-preserved : goal.loop-moved-preserved
 loop-moved-preserved c =
-    let l = c.loop-moved in
-    (
+    let l = c.loop-moved in (
       search rules,
       search rules,
       c.move_block.ensures

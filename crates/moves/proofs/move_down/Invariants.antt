@@ -1,13 +1,8 @@
-use mathlib.Core.Path.{◌≡◌, ap, ◌∙◌}
-use mathlib.Core.List.{List}
-use Prim.Native.Nat.{ℕ, ◌+◌, ◌-◌, ◌≤◌}
-use native.Mathlib.Omega.{arith}
+use mathlib.Core.Path.{◌≡◌}
+use Prim.Native.Nat.{◌-◌, ◌≤◌}
 use lib.ListN.{length, drop}
-use lib.Seq.{paste, paste-zero}
+use lib.Seq.{paste}
 use Rattle.words.specs.Words.{words}
-use Rattle.words.proofs.Laws.{room}
-use borrow.Author.Rules.{rules}
-use Rattle.moves.proofs.Laws.{down_turn}
 use Rattle.moves.proofs.move_down.Given as goal
 
 abbrev pub invariant-loop-moved : goal.invariant-loop-moved

@@ -1,8 +1,8 @@
-use mathlib.Core.Path.{◌≡◌, ap, ◌∙◌}
+use mathlib.Core.Path.{ap, ◌∙◌}
 use mathlib.Core.List.{List}
-use Prim.Native.Nat.{ℕ, ◌+◌, ◌-◌, ◌≤◌}
+use Prim.Native.Nat.{ℕ, ◌+◌, ◌-◌}
 use native.Mathlib.Omega.{arith}
-use lib.ListN.{length, drop}
+use lib.ListN.{drop}
 use lib.Seq.{paste, paste-zero}
 use Rattle.words.specs.Words.{words}
 use Rattle.words.proofs.Laws.{room}
@@ -21,8 +21,7 @@ loop-left-init c = (
 
 pub loop-left-preserved : goal.loop-left-preserved
 loop-left-preserved c =
-    let l = c.loop-left in
-    (
+    let l = c.loop-left in (
       search rules,
       search rules,
       c.move_block.ensures

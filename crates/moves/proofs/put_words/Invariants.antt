@@ -1,12 +1,8 @@
 use mathlib.Core.Path.{◌≡◌}
-use Prim.Native.Nat.{◌+◌, ◌-◌, ◌≤◌}
-use native.Mathlib.Omega.{arith}
+use Prim.Native.Nat.{◌-◌, ◌≤◌}
 use lib.ListN.{length}
-use lib.Seq.{paste, paste-zero}
+use lib.Seq.{paste}
 use Rattle.words.specs.Words.{words}
-use Rattle.words.proofs.Laws.{room}
-use Rattle.moves.proofs.Laws.{put_turn}
-use borrow.Author.Rules.{rules}
 use Rattle.moves.proofs.put_words.Given as goal
 
 abbrev pub invariant-loop-put : goal.invariant-loop-put

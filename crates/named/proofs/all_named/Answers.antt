@@ -1,13 +1,10 @@
-use Prim.Native.Nat.{ℕ, ◌-◌, ◌≤◌, ◌<◌}
-use mathlib.Core.Path.{◌≡◌, refl, ◌∙◌}
+use Prim.Native.Nat.{◌-◌}
+use mathlib.Core.Path.{refl, ◌∙◌}
 use native.Mathlib.Omega.{arith}
-use lib.ListN.{length, get_or}
 use borrow.Author.Count.{below_none}
 use borrow.Author.Rules.{rules}
 use Rattle.words.specs.Words.{words}
-use Rattle.rules.specs.Limits.{buckets}
 use Rattle.layout.specs.Store.{decode}
-use Rattle.named.specs.Tables.{EntriesAt, named}
 use Rattle.named.proofs.Copies.{named_more}
 use Rattle.named.proofs.all_named.Goals as goal
 

@@ -6,7 +6,6 @@ use Rattle.layout.specs.Store.{brick_in, decode}
 use Rattle.layout.proofs.Bounds.{store_small}
 use Rattle.lent.specs.Places.{Stands}
 use Rattle.named.proofs.Copies.{memory_lies, memory_none}
-use borrow.Author.Rules.{rules}
 use Rattle.named.proofs.memory_at.Goals as goal
 
 pub place_at-requires : goal.place_at-requires

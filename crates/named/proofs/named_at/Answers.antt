@@ -1,7 +1,6 @@
 use mathlib.Core.Path.{sym, ap, ◌∙◌}
 use Rattle.layout.specs.Contents.{Agreed}
 use Rattle.named.proofs.Copies.{named_ready, named_none}
-use borrow.Author.Rules.{rules}
 use Rattle.named.proofs.named_at.Goals as goal
 
 pub returns-then-agreed : goal.returns-then-agreed

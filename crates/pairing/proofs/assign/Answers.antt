@@ -1,4 +1,3 @@
-use borrow.Author.Rules.{rules}
 use Rattle.pairing.proofs.Laws.{assigned}
 use Rattle.pairing.proofs.assign.Goals as goal
 

@@ -1,5 +1,4 @@
 use native.Mathlib.Omega.{arith}
-use borrow.Author.Rules.{rules}
 use Rattle.pairing.proofs.Laws.{choose_a, choose_b, choose_none, choose_fewer, choose_more, choose_lower, choose_higher}
 use Rattle.pairing.proofs.chosen.Goals as goal
 

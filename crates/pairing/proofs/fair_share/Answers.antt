@@ -1,5 +1,4 @@
 use native.Mathlib.Omega.{arith}
-use borrow.Author.Rules.{rules}
 use Rattle.pairing.proofs.Laws.{share_of, share_none}
 use Rattle.pairing.proofs.fair_share.Goals as goal
 

@@ -1,4 +1,3 @@
-use borrow.Author.Rules.{rules}
 use Rattle.pairing.proofs.Laws.{fill_empty, fill_held}
 use Rattle.pairing.proofs.fill_position.Goals as goal
 

@@ -1,4 +1,3 @@
-use borrow.Author.Rules.{rules}
 use Rattle.pairing.proofs.Laws.{way_light, way_none, way_full, way_given}
 use Rattle.pairing.proofs.give_way.Goals as goal
 

@@ -1,10 +1,7 @@
 use mathlib.Core.Path.{◌≡◌}
 use Prim.Native.Nat.{◌-◌, ◌≤◌}
-use native.Mathlib.Omega.{arith}
 use lib.ListN.{length}
-use borrow.Author.Rules.{rules}
 use Rattle.rules.specs.Pairs.{in_order, keep_at}
-use Rattle.pairing.proofs.Laws.{order_start, order_turn}
 use Rattle.pairing.proofs.keep_all.Given as goal
 
 abbrev pub invariant-loop-bucket : goal.invariant-loop-bucket

@@ -1,4 +1,3 @@
-use borrow.Author.Rules.{rules}
 use Rattle.pairing.proofs.Laws.{keep_lone, keep_primary}
 use Rattle.pairing.proofs.keep_at.Goals as goal
 

@@ -1,5 +1,4 @@
 use mathlib.Core.Path.{sym, ◌∙◌}
-use borrow.Author.Rules.{rules}
 use Rattle.pairs.proofs.Steps.{kept_twice, kept_member, kept_gone}
 use Rattle.pairing.proofs.kept_id.Goals as goal
 

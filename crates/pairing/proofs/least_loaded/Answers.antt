@@ -1,9 +1,6 @@
 use mathlib.Core.Path.{◌≡◌}
-use Prim.Native.Nat.{◌≤◌}
 use native.Mathlib.Omega.{arith}
-use lib.ListN.{length, drop}
 use borrow.Author.Rules.{rules}
-use Rattle.rules.specs.Pairs.{least_loaded}
 use Rattle.pairing.proofs.Laws.{least_turn, least_end}
 use Rattle.pairing.proofs.least_loaded.Goals as goal
 

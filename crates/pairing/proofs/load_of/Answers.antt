@@ -1,9 +1,6 @@
 use mathlib.Core.Path.{◌≡◌}
-use Prim.Native.Nat.{◌≤◌}
 use native.Mathlib.Omega.{arith}
-use lib.ListN.{length, drop}
 use borrow.Author.Rules.{rules}
-use Rattle.rules.specs.Pairs.{load}
 use Rattle.pairing.proofs.Laws.{load_hit, load_miss, load_room, load_end}
 use Rattle.pairing.proofs.load_of.Goals as goal
 

@@ -1,10 +1,7 @@
 use mathlib.Core.Path.{◌≡◌}
 use Prim.Native.Nat.{◌≤◌}
-use native.Mathlib.Omega.{arith}
 use lib.ListN.{length, drop}
-use borrow.Author.Rules.{rules}
 use Rattle.rules.specs.Pairs.{load}
-use Rattle.pairing.proofs.Laws.{load_hit, load_miss, load_room, load_end}
 use Rattle.pairing.proofs.load_of.Given as goal
 
 abbrev pub invariant-loop-i : goal.invariant-loop-i

@@ -1,20 +1,18 @@
 use mathlib.Core.Path.{◌≡◌}
-use Prim.Native.Nat.{◌-◌, ◌≤◌}
+use Prim.Native.Nat.{◌-◌}
 use native.Mathlib.Omega.{arith}
-use lib.ListN.{length}
 use borrow.Author.Rules.{rules}
-use Rattle.rules.specs.Pairs.{in_order, walk_at}
+use Rattle.rules.specs.Pairs.{walk_at}
 use Rattle.pairing.proofs.Laws.{order_start, order_turn}
 use Rattle.pairing.proofs.walk.Goals as goal
 
 pub loop-bucket-init : goal.loop-bucket-init
-loop-bucket-init c =
-    (
-      search rules,
-      search rules,
-      order_start (walk_at c.args.members.now c.args.share c.args.role)
-          c.args.assigned.now,
-    )
+loop-bucket-init c = (
+  search rules,
+  search rules,
+  order_start (walk_at c.args.members.now c.args.share c.args.role)
+      c.args.assigned.now,
+)
 
 pub loop-bucket-preserved : goal.loop-bucket-preserved
 loop-bucket-preserved c =

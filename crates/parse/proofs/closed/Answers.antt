@@ -5,7 +5,6 @@ use Rattle.decimal.specs.Decimal.{number_of}
 use Rattle.decimal.proofs.Laws.{answer_value, answer_malformed}
 use Rattle.parse.specs.Steps.{fields_from}
 use Rattle.parse.proofs.Laws.{first_is, rest_is}
-use borrow.Author.Rules.{rules}
 use Rattle.parse.proofs.closed.Goals as goal
 
 -- `parse::closed` meets its contract.

@@ -1,10 +1,7 @@
-use mathlib.Core.Path.{◌≡◌, sym}
-use Prim.Native.Nat.{◌-◌, ◌≤◌}
+use mathlib.Core.Path.{sym}
+use Prim.Native.Nat.{◌-◌}
 use native.Mathlib.Omega.{arith}
 use borrow.Author.Rules.{rules}
-use lib.ListN.{length, take, drop}
-use Rattle.text.specs.Kinds.{packed_upto}
-use Rattle.text.specs.Fields.{before, fields}
 use Rattle.text.proofs.Fields.{front_nothing}
 use Rattle.text.proofs.Packed.{packed_none, packed_turn, packed_fits}
 use Rattle.parse.proofs.Laws.{end_turn, end_comma, end_text, word_read, word_long}

@@ -8,7 +8,6 @@ use Rattle.text.specs.Lines.{fields_of_texts}
 use Rattle.text.proofs.Lines.{line_not_empty}
 use Rattle.parse.specs.Answers.{parsed, with_room}
 use Rattle.parse.proofs.Laws.{fields_line, fields_no_line, parsed_as, parsed_none, refused}
-use borrow.Author.Rules.{rules}
 use Rattle.parse.proofs.parse.Goals as goal
 
 -- `parse::parse` meets its contract.

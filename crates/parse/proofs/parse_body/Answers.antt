@@ -11,7 +11,6 @@ use Rattle.parse.proofs.Laws.{part_all, refused, accepted, filled, room_none, ro
 use Rattle.hexadecimal.specs.Hex.{unhex}
 use Rattle.hexadecimal.proofs.Laws.{is_bytes, unhex_length}
 use Rattle.area.proofs.Laws.{onto_nothing}
-use borrow.Author.Rules.{rules}
 use Rattle.parse.proofs.parse_body.Goals as goal
 
 -- `parse::parse_body` meets its contract.
@@ -19,7 +18,6 @@ use Rattle.parse.proofs.parse_body.Goals as goal
 pub returns-then-data-size : goal.returns-then-data-size
 returns-then-data-size c =
     let loaded : FoundAt c.args.size c.args.body.now c.in-Loaded.kind c.in-Loaded.a c.in-Loaded.b c.in-Loaded.c c.in-Loaded.from = rw c.in-Loaded.is at c.read_body-reading.ensures in
-
     let a = c.args in
     let d = a.«data».now in
     let o = fields_of_texts a.size (fields a.body.now) in
@@ -28,19 +26,16 @@ returns-then-data-size c =
 pub slice_bounds-decode-count : goal.slice_bounds-decode-count
 slice_bounds-decode-count c =
     let loaded : FoundAt c.args.size c.args.body.now c.in-Loaded.kind c.in-Loaded.a c.in-Loaded.b c.in-Loaded.c c.in-Loaded.from = rw c.in-Loaded.is at c.read_body-reading.ensures in
-
     omega (arith, (loaded).within)
 
 pub slice_bounds-decode-start : goal.slice_bounds-decode-start
 slice_bounds-decode-start c =
     let loaded : FoundAt c.args.size c.args.body.now c.in-Loaded.kind c.in-Loaded.a c.in-Loaded.b c.in-Loaded.c c.in-Loaded.from = rw c.in-Loaded.is at c.read_body-reading.ensures in
-
     omega (arith, (loaded).within)
 
 pub decode-requires : goal.decode-requires
 decode-requires c =
     let loaded : FoundAt c.args.size c.args.body.now c.in-Loaded.kind c.in-Loaded.a c.in-Loaded.b c.in-Loaded.c c.in-Loaded.from = rw c.in-Loaded.is at c.read_body-reading.ensures in
-
     let a = c.args in
     let from = c.in-Loaded.from in
     let n : length a.«data».now ≡ a.size = omega arith in
@@ -58,7 +53,6 @@ returns-in-Plain c =
 pub returns-else-data-size : goal.returns-else-data-size
 returns-else-data-size c =
     let loaded : FoundAt c.args.size c.args.body.now c.in-Loaded.kind c.in-Loaded.a c.in-Loaded.b c.in-Loaded.c c.in-Loaded.from = rw c.in-Loaded.is at c.read_body-reading.ensures in
-
     let a = c.args in
     let s = a.body.now in
     let d = a.«data».now in

@@ -7,7 +7,6 @@ use Rattle.text.specs.Lines.{read_settings}
 use Rattle.text.proofs.Lines.{line_not_empty}
 use Rattle.parse.specs.Answers.{settings_answer}
 use Rattle.parse.proofs.Laws.{settings_line, settings_no_line, answer_none}
-use borrow.Author.Rules.{rules}
 use Rattle.parse.proofs.parse_settings.Goals as goal
 
 -- `parse::parse_settings` meets its contract.

@@ -10,7 +10,6 @@ use Rattle.text.proofs.Laws.{form_ok, row_numbers, row_payload}
 use Rattle.parse.specs.Steps.{fields_from, Three}
 use Rattle.parse.proofs.Laws.{Named, word_of, no_word, unknown, unnamed, Row, from_within, from_past, part_all}
 use Rattle.parse.proofs.Laws.{body_wrong, body_plain, body_missing, body_extra, body_loaded, body_spoilt}
-use borrow.Author.Rules.{rules}
 use Rattle.parse.proofs.read_body.Goals as goal
 
 -- `parse::read_body` meets its contract.
@@ -25,13 +24,11 @@ returns-in_default c =
 pub returns-then-kind-eq0 : goal.returns-then-kind-eq0
 returns-then-kind-eq0 c =
     let split : Named c.args.body.now c.in-Packed.packed c.in-Packed.end = word_of c.args.body.now _ _ c.first_word-word.result c.first_word-word.ensures c.in-Packed.is in
-
     unknown c.args.size _ (ap kind_number (split).kind ∙ sym c.find_kind-kind.ensures.0 ∙ c.if-kind-eq0.true)
 
 pub overflow_add-end : goal.overflow_add-end
 overflow_add-end c =
     let split : Named c.args.body.now c.in-Packed.packed c.in-Packed.end = word_of c.args.body.now _ _ c.first_word-word.result c.first_word-word.ensures c.in-Packed.is in
-
     let w = (split).within in
     omega arith
 
@@ -49,7 +46,6 @@ numbers_from-numbers-requires c =
       numbers = row_numbers (kind_at k'.result) c.shape_of-shape.result c.shape_of-shape.ensures;
       payload = row_payload (kind_at k'.result) c.shape_of-shape.result c.shape_of-shape.ensures;
     } in
-
     let k = c.find_kind-kind in
     let n = row_numbers (kind_at k.result) c.shape_of-shape.result c.shape_of-shape.ensures in
     let f : (kind_at k.result).numbers ≤ 3 = (form_ok k.result (row).least k.ensures.1).few in
@@ -70,7 +66,6 @@ returns-in_default-numbers c =
       numbers = row_numbers (kind_at k.result) c.shape_of-shape.result c.shape_of-shape.ensures;
       payload = row_payload (kind_at k.result) c.shape_of-shape.result c.shape_of-shape.ensures;
     } in
-
     body_wrong (size) (text) (others) _ _ _ (row) (rw c.in_default-numbers.is at c.numbers_from-numbers.ensures)
 
 pub returns-then-body-next : goal.returns-then-body-next
@@ -91,7 +86,6 @@ returns-then-body-next c =
     let next : ℕ = c.in-Read.next in
     let numbers : Three c.shape_of-shape.result.numbers (others) c.in-Read.a c.in-Read.b c.in-Read.c
     (fields_from (text) (next)) = rw c.in-Read.is at c.numbers_from-numbers.ensures in
-
     body_missing (size) (text) (others) _ _ _ (row) _ _ _ _ (numbers) c.if-payload.true (from_past (text) (next) c.if-body-next.true)
 
 pub returns-then-is_bytes : goal.returns-then-is_bytes
@@ -113,7 +107,6 @@ returns-then-is_bytes c =
     let numbers : Three c.shape_of-shape.result.numbers (others) c.in-Read.a c.in-Read.b c.in-Read.c
     (fields_from (text) (next)) = rw c.in-Read.is at c.numbers_from-numbers.ensures in
     let spells : spells_bytes (size) (drop (next) (text)) ≡ c.is_bytes.result = ap (spells_bytes (size)) (sym (part_all (text) (next))) ∙ sym c.is_bytes.ensures in
-
     let s = text in
     let yes = spells ∙ c.if-is_bytes.true in
     let within : next ≤ length s = omega arith in
@@ -142,7 +135,6 @@ returns-then-payload c =
     let numbers : Three c.shape_of-shape.result.numbers (others) c.in-Read.a c.in-Read.b c.in-Read.c
     (fields_from (text) (next)) = rw c.in-Read.is at c.numbers_from-numbers.ensures in
     let spells : spells_bytes (size) (drop (next) (text)) ≡ c.is_bytes.result = ap (spells_bytes (size)) (sym (part_all (text) (next))) ∙ sym c.is_bytes.ensures in
-
     let s = text in
     body_spoilt (size) s (others) _ _ _ (row) _ _ _ _ (numbers) (drop (next) s) (from_within s (next) (omega arith)) c.if-payload.true
     (spells ∙ c.if-is_bytes.false)
@@ -165,7 +157,6 @@ returns-then-body-next-2 c =
     let next : ℕ = c.in-Read.next in
     let numbers : Three c.shape_of-shape.result.numbers (others) c.in-Read.a c.in-Read.b c.in-Read.c
     (fields_from (text) (next)) = rw c.in-Read.is at c.numbers_from-numbers.ensures in
-
     body_plain (size) (text) (others) _ _ _ (row) _ _ _ _ (numbers) c.if-payload.false (from_past (text) (next) c.if-body-next-2.true)
 
 pub returns : goal.returns
@@ -186,6 +177,5 @@ returns c =
     let next : ℕ = c.in-Read.next in
     let numbers : Three c.shape_of-shape.result.numbers (others) c.in-Read.a c.in-Read.b c.in-Read.c
     (fields_from (text) (next)) = rw c.in-Read.is at c.numbers_from-numbers.ensures in
-
     let s = text in
     body_extra (size) s (others) _ _ _ (row) _ _ _ _ (numbers) (drop (next) s) (from_within s (next) (omega arith)) c.if-payload.false

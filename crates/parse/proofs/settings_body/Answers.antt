@@ -7,7 +7,6 @@ use Rattle.text.specs.Lines.{settings_of_fields}
 use Rattle.parse.specs.Steps.{fields_from}
 use Rattle.parse.proofs.Laws.{Next, next_of, stop_of, three_3, wrong_1, wrong_2, wrong_3, answer_none, first_wrong, others_wrong}
 use Rattle.parse.proofs.Laws.{settings_found, settings_more}
-use borrow.Author.Rules.{rules}
 use Rattle.parse.proofs.settings_body.Goals as goal
 
 -- `parse::settings_body` meets its contract.
@@ -25,7 +24,6 @@ pub returns-in_default-two : goal.returns-in_default-two
 returns-in_default-two c =
     let text : List ℕ = c.args.body.now in
     let one : Reads (text) 0 c.in-Value.size_at c.in-Value.places = next_of (text) 0 _ _ c.next_number-one.result c.next_number-one.ensures c.in-Value.is in
-
     let s = text in
     let at = c.in-Value.size_at in
     answer_none (settings_of_fields (fields s))
@@ -37,7 +35,6 @@ returns-in_default-three c =
     let text : List ℕ = c.args.body.now in
     let one : Reads (text) 0 c.in-Value.size_at c.in-Value.places = next_of (text) 0 _ _ c.next_number-one.result c.next_number-one.ensures c.in-Value.is in
     let two : Reads (text) c.in-Value.size_at c.in-Value-two.entries_at c.in-Value-two.size = next_of (text) _ _ _ c.next_number-two.result c.next_number-two.ensures c.in-Value-two.is in
-
     let s = text in
     let at = c.in-Value.size_at in
     let then = c.in-Value-two.entries_at in
@@ -52,7 +49,6 @@ returns-in_default-four c =
     let one : Reads (text) 0 c.in-Value.size_at c.in-Value.places = next_of (text) 0 _ _ c.next_number-one.result c.next_number-one.ensures c.in-Value.is in
     let two : Reads (text) c.in-Value.size_at c.in-Value-two.entries_at c.in-Value-two.size = next_of (text) _ _ _ c.next_number-two.result c.next_number-two.ensures c.in-Value-two.is in
     let three : Reads (text) c.in-Value-two.entries_at c.in-Value-three.chunks_at c.in-Value-three.entries = next_of (text) _ _ _ c.next_number-three.result c.next_number-three.ensures c.in-Value-three.is in
-
     let s = text in
     let at = c.in-Value.size_at in
     let then = c.in-Value-two.entries_at in
@@ -69,7 +65,6 @@ returns-then-body-next c =
     let two : Reads (text) c.in-Value.size_at c.in-Value-two.entries_at c.in-Value-two.size = next_of (text) _ _ _ c.next_number-two.result c.next_number-two.ensures c.in-Value-two.is in
     let three : Reads (text) c.in-Value-two.entries_at c.in-Value-three.chunks_at c.in-Value-three.entries = next_of (text) _ _ _ c.next_number-three.result c.next_number-three.ensures c.in-Value-three.is in
     let four : Reads (text) c.in-Value-three.chunks_at c.in-Value-four.next c.in-Value-four.chunks = next_of (text) _ _ _ c.next_number-four.result c.next_number-four.ensures c.in-Value-four.is in
-
     settings_found (text) _ _ (one) _ _ _ _ (three_3 3 _ _ _ _ _ _ _ refl (two) (three) (four)) (omega arith)
 
 pub returns : goal.returns
@@ -79,6 +74,5 @@ returns c =
     let two : Reads (text) c.in-Value.size_at c.in-Value-two.entries_at c.in-Value-two.size = next_of (text) _ _ _ c.next_number-two.result c.next_number-two.ensures c.in-Value-two.is in
     let three : Reads (text) c.in-Value-two.entries_at c.in-Value-three.chunks_at c.in-Value-three.entries = next_of (text) _ _ _ c.next_number-three.result c.next_number-three.ensures c.in-Value-three.is in
     let four : Reads (text) c.in-Value-three.chunks_at c.in-Value-four.next c.in-Value-four.chunks = next_of (text) _ _ _ c.next_number-four.result c.next_number-four.ensures c.in-Value-four.is in
-
     answer_none (settings_of_fields (fields (text)))
     (settings_more (text) _ _ (one) _ _ _ _ (three_3 3 _ _ _ _ _ _ _ refl (two) (three) (four)) (omega arith))

@@ -6,7 +6,6 @@ use lib.Seq.{take_at, length-take-le}
 use Rattle.lists.proofs.Runs.{below_of, below_take}
 use Rattle.calls.proofs.Performed.{store_sound}
 use Rattle.pieces.proofs.Stages.{answer_taken}
-use borrow.Author.Rules.{rules}
 use Rattle.pieces.proofs.answer.Goals as goal
 
 -- `pieces::answer` meets its contract.

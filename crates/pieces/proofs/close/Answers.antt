@@ -1,13 +1,7 @@
-use mathlib.Core.Path.{sym, subst}
-use mathlib.Core.List.{[], ◌∷◌}
+use mathlib.Core.Path.{sym}
 use native.Mathlib.Omega.{arith}
 use lib.Seq.{length-take-le}
-use types.Run.{OneOf, miss}
-use denote.Enum.Declared.{tag_of}
-use Rattle.pieces.specs.declared.Stage.{Stage}
-use Rattle.pieces.specs.contracts.Stage.{the_type}
 use Rattle.pieces.proofs.Pieces.{closes_line, closes_opening, closes_quiet}
-use borrow.Author.Rules.{rules}
 use Rattle.pieces.proofs.close.Goals as goal
 
 -- `pieces::close` meets its contract.

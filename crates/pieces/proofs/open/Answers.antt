@@ -1,11 +1,4 @@
-use mathlib.Core.Path.{subst}
-use mathlib.Core.List.{[], ◌∷◌}
-use types.Run.{OneOf, miss}
-use denote.Enum.Declared.{tag_of}
-use Rattle.pieces.specs.declared.Stage.{Stage}
-use Rattle.pieces.specs.contracts.Stage.{the_type}
 use Rattle.pieces.proofs.Stages.{open_quiet, open_refused}
-use borrow.Author.Rules.{rules}
 use Rattle.pieces.proofs.open.Goals as goal
 
 -- `pieces::open` meets its contract.

@@ -1,6 +1,5 @@
 use Rattle.text.specs.Lines.{read_settings}
 use Rattle.pieces.proofs.Stages.{opened_some, opened_none}
-use borrow.Author.Rules.{rules}
 use Rattle.pieces.proofs.open_line.Goals as goal
 
 -- `pieces::open_line` meets its contract.

@@ -5,7 +5,6 @@ use lib.Seq.{take_at, length-take-le}
 use Rattle.lists.proofs.Runs.{below_of, below_take}
 use Rattle.store.specs.Calls.{settings}
 use Rattle.pieces.proofs.Opening.{opens_none, opens_large, opens}
-use borrow.Author.Rules.{rules}
 use Rattle.pieces.proofs.open_store.Goals as goal
 
 -- `pieces::open_store` meets its contract.

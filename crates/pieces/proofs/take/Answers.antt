@@ -74,7 +74,7 @@ overflow_add-read c =
     loop_more a.trace a.room.now a.line.now a.input.now a.out.now l.room l.line l.out l.now l.read l.written l.invariant
     c.loop-read-test.true p.result p.new.room p.new.line p.new.out p.auto.room p.auto.line p.auto.out
     p.ensures in
- record { fits = omega (arith, (turned).takes.within) }
+    record { fits = omega (arith, (turned).takes.within) }
 
 pub overflow_add-written : goal.overflow_add-written
 overflow_add-written c =
@@ -89,7 +89,6 @@ overflow_add-written c =
     loop_more a.trace a.room.now a.line.now a.input.now a.out.now l.room l.line l.out l.now l.read l.written l.invariant
     c.loop-read-test.true p.result p.new.room p.new.line p.new.out p.auto.room p.auto.line p.auto.out
     p.ensures in
-
     let good = c.well_formed in
     record { fits = omega (arith, (turned).fits) }
 
@@ -115,7 +114,7 @@ loop-read-preserved c =
     loop_more a.trace a.room.now a.line.now a.input.now a.out.now l.room l.line l.out l.now l.read l.written l.invariant
     c.loop-read-test.true p.result p.new.room p.new.line p.new.out p.auto.room p.auto.line p.auto.out
     p.ensures in
- turned
+    turned
 
 pub shape_of-room : goal.shape_of-room
 shape_of-room c = c.loop-read.invariant.room_same

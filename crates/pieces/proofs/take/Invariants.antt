@@ -1,9 +1,6 @@
-use mathlib.Core.List.{◌++◌}
-use Prim.Native.Nat.{◌+◌, ◌-◌}
-use native.Mathlib.Omega.{arith}
-use lib.ListN.{length, take, drop, length-drop}
-use lib.Seq.{length-take-le}
-use Rattle.pieces.proofs.Pieces.{Loop, loop_none, loop_more, by_zero}
+use Prim.Native.Nat.{◌-◌}
+use lib.ListN.{length}
+use Rattle.pieces.proofs.Pieces.{Loop}
 use Rattle.pieces.proofs.take.Given as goal
 
 abbrev pub invariant-loop-read : goal.invariant-loop-read

@@ -3,19 +3,17 @@ use Prim.Native.Nat.{◌+◌, ◌^◌, ◌<◌}
 use Rattle.pieces.specs.declared.Stage.{Stage}
 use Rattle.pieces.specs.Stages.{StageFits, line_number}
 use Rattle.pieces.proofs.Stages.{silent_taken, in_stage}
-use borrow.Author.Rules.{rules}
 use Rattle.pieces.proofs.take_line.Goals as goal
 
 -- `pieces::take_line` meets its contract.
 
 pub answer-requires : goal.answer-requires
-answer-requires c =
-    (
-      c.requires.0,
-      subst (λ (x : Stage). StageFits x c.args.room.now) c.in-Running.is c.requires.1,
-      c.requires.2,
-      subst (λ (x : Stage). line_number x + 1 < 2 ^ 64) c.in-Running.is c.requires.3,
-    )
+answer-requires c = (
+  c.requires.0,
+  subst (λ (x : Stage). StageFits x c.args.room.now) c.in-Running.is c.requires.1,
+  c.requires.2,
+  subst (λ (x : Stage). line_number x + 1 < 2 ^ 64) c.in-Running.is c.requires.3,
+)
 
 pub returns-in-Opening : goal.returns-in-Opening
 returns-in-Opening c =

@@ -3,7 +3,6 @@ use Prim.Native.Nat.{◌+◌}
 use native.Mathlib.Omega.{arith}
 use lib.Seq.{length-take-le}
 use Rattle.pieces.proofs.Pieces.{piece_held, piece_line}
-use borrow.Author.Rules.{rules}
 use Rattle.pieces.proofs.take_piece.Goals as goal
 
 -- `pieces::take_piece` meets its contract.

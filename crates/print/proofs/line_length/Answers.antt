@@ -5,7 +5,6 @@ use native.Mathlib.Omega.{arith}
 use Rattle.rules.specs.Event.{kind_count, kind_at}
 use Rattle.rules.specs.Event.{fields_brought}
 use Rattle.print.proofs.Laws.{unformed, formed, kind_of, loaded_size, loaded_length, plain_length, below_all, Known, known, few_numbers}
-use borrow.Author.Rules.{rules}
 use Rattle.print.proofs.line_length.Goals as goal
 
 -- `print::line_length` meets its contract.
@@ -52,7 +51,6 @@ returns-then-data-size c =
     let r = c.shape_of-shape in
     known a'.kind a'.a a'.b a'.c c.numbers_length.result r.result (omega arith) (omega arith) r.ensures c.numbers_length.ensures.0
     c.numbers_length.ensures.1 in
-
     let a = c.args in
     let d = a.«data».now in
     let q = facts in
@@ -67,7 +65,6 @@ returns-then-size c =
     let r = c.shape_of-shape in
     known a'.kind a'.a a'.b a'.c c.numbers_length.result r.result (omega arith) (omega arith) r.ensures c.numbers_length.ensures.0
     c.numbers_length.ensures.1 in
-
     let a = c.args in
     let d = a.«data».now in
     let q = facts in
@@ -82,7 +79,6 @@ overflow_add-loaded c =
     let r = c.shape_of-shape in
     known a.kind a.a a.b a.c c.numbers_length.result r.result (omega arith) (omega arith) r.ensures c.numbers_length.ensures.0
     c.numbers_length.ensures.1 in
-
     let q = facts in omega arith
 
 pub overflow_add-loaded-then-payload : goal.overflow_add-loaded-then-payload
@@ -92,7 +88,6 @@ overflow_add-loaded-then-payload c =
     let r = c.shape_of-shape in
     known a.kind a.a a.b a.c c.numbers_length.result r.result (omega arith) (omega arith) r.ensures c.numbers_length.ensures.0
     c.numbers_length.ensures.1 in
-
     let q = facts in omega arith
 
 pub returns-then-loaded-gt-LONGEST : goal.returns-then-loaded-gt-LONGEST
@@ -102,7 +97,6 @@ returns-then-loaded-gt-LONGEST c =
     let r = c.shape_of-shape in
     known a'.kind a'.a a'.b a'.c c.numbers_length.result r.result (omega arith) (omega arith) r.ensures c.numbers_length.ensures.0
     c.numbers_length.ensures.1 in
-
     let a = c.args in
     let d = a.«data».now in
     let q = facts in
@@ -117,7 +111,6 @@ returns-then-payload c =
     let r = c.shape_of-shape in
     known a'.kind a'.a a'.b a'.c c.numbers_length.result r.result (omega arith) (omega arith) r.ensures c.numbers_length.ensures.0
     c.numbers_length.ensures.1 in
-
     let a = c.args in
     let d = a.«data».now in
     let q = facts in
@@ -136,7 +129,6 @@ returns c =
     let r = c.shape_of-shape in
     known a'.kind a'.a a'.b a'.c c.numbers_length.result r.result (omega arith) (omega arith) r.ensures c.numbers_length.ensures.0
     c.numbers_length.ensures.1 in
-
     let a = c.args in
     let d = a.«data».now in
     let q = facts in

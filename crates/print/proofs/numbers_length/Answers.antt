@@ -1,6 +1,5 @@
 use native.Mathlib.Omega.{arith}
 use Rattle.print.proofs.Laws.{length_0, length_1, length_2, length_3}
-use borrow.Author.Rules.{rules}
 use Rattle.print.proofs.numbers_length.Goals as goal
 
 -- `print::numbers_length` meets its contract.

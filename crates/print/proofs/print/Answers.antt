@@ -2,7 +2,6 @@ use native.Mathlib.Omega.{arith}
 use Rattle.rules.specs.Event.{fields_brought}
 use Rattle.print.proofs.Laws.{not_printed, is_printed, not_formed, is_formed, no_room, room_enough, kind_of}
 use Rattle.text.proofs.RoundTrip.{well_formed}
-use borrow.Author.Rules.{rules}
 use Rattle.print.proofs.print.Goals as goal
 
 -- `print::print` meets its contract.

@@ -5,7 +5,6 @@ use native.Mathlib.Omega.{arith}
 use Rattle.hexadecimal.specs.Hex.{hex}
 use Rattle.text.specs.Fields.{comma}
 use Rattle.area.proofs.Laws.{onto_then}
-use borrow.Author.Rules.{rules}
 use Rattle.print.proofs.put_data.Goals as goal
 
 -- `print::put_data` meets its contract.

@@ -5,7 +5,6 @@ use native.Mathlib.Omega.{arith}
 use Rattle.decimal.specs.Decimal.{decimal}
 use Rattle.text.specs.Fields.{comma}
 use Rattle.area.proofs.Laws.{onto_then}
-use borrow.Author.Rules.{rules}
 use Rattle.print.proofs.put_number.Goals as goal
 
 -- `print::put_number` meets its contract.

@@ -1,7 +1,6 @@
 use mathlib.Core.Path.{◌≡◌}
 use native.Mathlib.Omega.{arith}
 use Rattle.print.proofs.Laws.{room_1, room_2, length_3, numbers_0, numbers_1, numbers_2, numbers_3}
-use borrow.Author.Rules.{rules}
 use Rattle.print.proofs.put_numbers.Goals as goal
 
 -- `print::put_numbers` meets its contract.

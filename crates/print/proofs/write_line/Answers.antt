@@ -7,7 +7,6 @@ use Rattle.rules.specs.Event.{kind_at}
 use Rattle.print.specs.Steps.{number_texts}
 use Rattle.print.proofs.Laws.{line_length, loaded_length, plain_length, loaded_line, plain_line, Fronted, few_numbers}
 use Rattle.text.proofs.Laws.{row_numbers, row_payload}
-use borrow.Author.Rules.{rules}
 use Rattle.print.proofs.write_line.Goals as goal
 
 -- `print::write_line` meets its contract.
@@ -44,7 +43,6 @@ put_data-end-requires c =
       same = n.auto.line ∙ w.auto.area;
     } in
     let payload : (kind_at c.args.kind).payload ≡ c.shape_of-shape.result.payload = let r = c.shape_of-shape in sym (row_payload (kind_at c.args.kind) r.result r.ensures) in
-
     let a = c.args in
     let d = a.«data».now in
     let f = fronted in
@@ -70,7 +68,6 @@ put-requires c =
       same = n.auto.line ∙ w.auto.area;
     } in
     let payload : (kind_at c.args.kind).payload ≡ c.shape_of-shape.result.payload = let r = c.shape_of-shape in sym (row_payload (kind_at c.args.kind) r.result r.ensures) in
-
     let a = c.args in
     let d = a.«data».now in
     let f = fronted in
@@ -98,7 +95,6 @@ returns-then-payload c =
       same = n.auto.line ∙ w.auto.area;
     } in
     let payload : (kind_at c.args.kind).payload ≡ c.shape_of-shape.result.payload = let r = c.shape_of-shape in sym (row_payload (kind_at c.args.kind) r.result r.ensures) in
-
     let a = c.args in
     let d = a.«data».now in
     let f = fronted in
@@ -132,7 +128,6 @@ put-requires-2 c =
       same = n.auto.line ∙ w.auto.area;
     } in
     let payload : (kind_at c.args.kind).payload ≡ c.shape_of-shape.result.payload = let r = c.shape_of-shape in sym (row_payload (kind_at c.args.kind) r.result r.ensures) in
-
     let a = c.args in
     let d = a.«data».now in
     let f = fronted in
@@ -158,7 +153,6 @@ returns c =
       same = n.auto.line ∙ w.auto.area;
     } in
     let payload : (kind_at c.args.kind).payload ≡ c.shape_of-shape.result.payload = let r = c.shape_of-shape in sym (row_payload (kind_at c.args.kind) r.result r.ensures) in
-
     let a = c.args in
     let d = a.«data».now in
     let f = fronted in

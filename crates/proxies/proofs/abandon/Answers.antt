@@ -6,7 +6,6 @@ use Rattle.words.specs.Words.{words}
 use Rattle.rules.specs.Event.{Event}
 use Rattle.rules.specs.Step.{rule}
 use Rattle.lent.proofs.Performs.{refused, accepted}
-use borrow.Author.Rules.{rules}
 use Rattle.proxies.proofs.abandon.Goals as goal
 
 pub returns-then-no-ne0 : goal.returns-then-no-ne0

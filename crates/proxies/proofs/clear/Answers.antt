@@ -3,7 +3,6 @@ use native.Mathlib.Omega.{arith}
 use Rattle.words.specs.Words.{words}
 use Rattle.words.proofs.Laws.{length_words}
 use Rattle.proxies.proofs.Steps.{cleared_words}
-use borrow.Author.Rules.{rules}
 use Rattle.proxies.proofs.clear.Goals as goal
 
 pub returns : goal.returns

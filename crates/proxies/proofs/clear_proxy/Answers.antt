@@ -1,7 +1,6 @@
 use Prim.Native.Nat.{◌+◌, ◌*◌}
 use native.Mathlib.Omega.{arith}
 use Rattle.proxies.proofs.Steps.{cleared}
-use borrow.Author.Rules.{rules}
 use Rattle.proxies.proofs.clear_proxy.Goals as goal
 
 pub returns : goal.returns

@@ -7,7 +7,6 @@ use Rattle.rules.specs.Limits.{proxies}
 use Rattle.rules.specs.Step.{rule}
 use Rattle.rules.proofs.Questions.{first_yes, first_stop, none_asked}
 use Rattle.lent.proofs.Performs.{refuses, accepted}
-use borrow.Author.Rules.{rules}
 use Rattle.proxies.proofs.learn.Goals as goal
 
 pub returns-then-proxy : goal.returns-then-proxy

@@ -1,7 +1,6 @@
 use Prim.Native.Nat.{◌+◌, ◌*◌}
 use native.Mathlib.Omega.{arith}
 use Rattle.proxies.proofs.Steps.{learned}
-use borrow.Author.Rules.{rules}
 use Rattle.proxies.proofs.take_view.Goals as goal
 
 pub returns : goal.returns

@@ -1,5 +1,4 @@
 use native.Mathlib.Omega.{arith}
-use borrow.Author.Rules.{rules}
 use Rattle.read_many.proofs.Answers.{too_many, few-enough, room_small}
 use Rattle.read_many.proofs.fits.Goals as goal
 

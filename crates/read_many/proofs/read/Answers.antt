@@ -1,6 +1,5 @@
 use mathlib.Core.Path.{◌≡◌, sym, ◌∙◌}
 use mathlib.Core.Bool.{true}
-use borrow.Author.Rules.{rules}
 use borrow.Author.Tests.{not-true, not-false}
 use Rattle.layout.specs.Store.{decode_bytes, sound_bytes}
 use Rattle.reads.proofs.Outcomes.{size_is}
@@ -16,7 +15,7 @@ returns-then-not-is_sound c =
 pub settings-settings-requires : goal.settings-settings-requires
 settings-settings-requires c =
     let passed : sound_bytes c.args.store.now ≡ true = sym c.is_sound.ensures ∙ not-false _ c.if-not-is_sound.false-raw in
- store_sound _ (passed)
+    store_sound _ (passed)
 
 pub set_answers-requires : goal.set_answers-requires
 set_answers-requires c =
@@ -26,7 +25,6 @@ pub returns-then-fits : goal.returns-then-fits
 unfolding decode_bytes
 returns-then-fits c =
     let passed : sound_bytes c.args.store.now ≡ true = sym c.is_sound.ensures ∙ not-false _ c.if-not-is_sound.false-raw in
-
     let s = c.args in
     read_all s.store.now s.proxy s.blocks.now s.answers.now (passed) c.settings-settings.result.size
     (size_is c.settings-settings.result s.store.now c.settings-settings.ensures) (sym c.fits.ensures ∙ c.if-fits.true) _
@@ -36,7 +34,6 @@ pub returns : goal.returns
 unfolding decode_bytes
 returns c =
     let passed : sound_bytes c.args.store.now ≡ true = sym c.is_sound.ensures ∙ not-false _ c.if-not-is_sound.false-raw in
-
     let s = c.args in
     read_none s.store.now s.proxy s.blocks.now s.answers.now (passed) c.settings-settings.result.size
     (size_is c.settings-settings.result s.store.now c.settings-settings.ensures) (sym c.fits.ensures ∙ c.if-fits.false)

@@ -22,7 +22,7 @@ set_head-requires-in-No c =
     let f : Fills (decode (words s.store.now)) (Event.get s.proxy s.block) _ (No c.in-No.code) _ =
     rw c.in-No.is at c.fill_block-answered.ensures in
     answer_no s.settings s.store.now c.requires.0 s.proxy s.block _ _ _ f in
- (search rules, (refused).0)
+    (search rules, (refused).0)
 
 pub returns-in-Yes : goal.returns-in-Yes
 returns-in-Yes c =
@@ -40,7 +40,6 @@ returns-in-No c =
     let f : Fills (decode (words s'.store.now)) (Event.get s'.proxy s'.block) _ (No c.in-No.code) _ =
     rw c.in-No.is at c.fill_block-answered.ensures in
     answer_no s'.settings s'.store.now c.requires.0 s'.proxy s'.block _ _ _ f in
-
     let s = c.args in
     let filled : List ℕ = with_rest s.answer.now c.fill_block-answered.new.area in
     c.set_head-in-No.ensures ∙ ap (λ (l : List ℕ). head c.in-No.code 0 ++ l)

@@ -3,7 +3,7 @@ use Prim.Native.Nat.{◌+◌, ◌-◌, ◌≤◌}
 use native.Mathlib.Omega.{arith}
 use lib.ListN.{length}
 use Rattle.read_many.specs.Read.{answer_bytes}
-use Rattle.read_many.proofs.Answers.{Written, written_none, next_fits, written-more, written_all}
+use Rattle.read_many.proofs.Answers.{written_none, next_fits, written-more, written_all}
 use borrow.Author.Rules.{rules}
 use Rattle.read_many.proofs.set_answers.Goals as goal
 
@@ -28,7 +28,7 @@ slice_bounds-set_answer-count c =
     let l = c.loop-i in
     next_fits s.settings s.store.now c.requires.0 s.proxy s.blocks.now s.answers.now l.answers l.i l.at l.invariant c.loop-i-test.true
     c.requires.1 in
- let fits = room in omega arith
+    let fits = room in omega arith
 
 pub slice_bounds-set_answer-start : goal.slice_bounds-set_answer-start
 slice_bounds-set_answer-start c =
@@ -36,7 +36,7 @@ slice_bounds-set_answer-start c =
     let l = c.loop-i in
     next_fits s.settings s.store.now c.requires.0 s.proxy s.blocks.now s.answers.now l.answers l.i l.at l.invariant c.loop-i-test.true
     c.requires.1 in
- let fits = room in search rules
+    let fits = room in search rules
 
 pub slice_bounds-set_answer-end : goal.slice_bounds-set_answer-end
 slice_bounds-set_answer-end c =
@@ -44,7 +44,7 @@ slice_bounds-set_answer-end c =
     let l = c.loop-i in
     next_fits s.settings s.store.now c.requires.0 s.proxy s.blocks.now s.answers.now l.answers l.i l.at l.invariant c.loop-i-test.true
     c.requires.1 in
- let fits = room in omega arith
+    let fits = room in omega arith
 
 pub set_answer-requires : goal.set_answer-requires
 set_answer-requires c =
@@ -52,7 +52,7 @@ set_answer-requires c =
     let l = c.loop-i in
     next_fits s.settings s.store.now c.requires.0 s.proxy s.blocks.now s.answers.now l.answers l.i l.at l.invariant c.loop-i-test.true
     c.requires.1 in
- let fits = room in search rules
+    let fits = room in search rules
 
 pub loop-i-smaller : goal.loop-i-smaller
 loop-i-smaller c = omega arith

@@ -1,10 +1,6 @@
-use mathlib.Core.Path.{refl}
-use Prim.Native.Nat.{◌+◌, ◌-◌, ◌≤◌}
-use native.Mathlib.Omega.{arith}
+use Prim.Native.Nat.{◌-◌}
 use lib.ListN.{length}
-use Rattle.read_many.specs.Read.{answer_bytes}
-use Rattle.read_many.proofs.Answers.{Written, written_none, next_fits, written-more, written_all}
-use borrow.Author.Rules.{rules}
+use Rattle.read_many.proofs.Answers.{Written}
 use Rattle.read_many.proofs.set_answers.Given as goal
 
 abbrev pub invariant-loop-i : goal.invariant-loop-i

@@ -1,6 +1,5 @@
 use native.Mathlib.Omega.{arith}
 use lib.ListN.{length-set}
-use borrow.Author.Rules.{rules}
 use Rattle.read_many.proofs.Head.{head_set}
 use Rattle.read_many.proofs.set_head.Goals as goal
 

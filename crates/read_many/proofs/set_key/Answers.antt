@@ -1,10 +1,6 @@
-use mathlib.Core.Path.{◌≡◌, ◌∙◌}
-use mathlib.Core.List.{◌++◌, reverse}
-use Prim.Native.Nat.{◌≤◌}
+use mathlib.Core.Path.{◌∙◌}
 use native.Mathlib.Omega.{arith}
-use lib.ListN.{length, drop, length-set}
-use Rattle.words.specs.Words.{bytes_of}
-use borrow.Author.Rules.{rules}
+use lib.ListN.{length-set}
 use Rattle.read_many.proofs.Head.{key_none, key_more, key_all}
 use Rattle.read_many.proofs.set_key.Goals as goal
 

@@ -1,11 +1,8 @@
-use mathlib.Core.Path.{◌≡◌, ◌∙◌}
+use mathlib.Core.Path.{◌≡◌}
 use mathlib.Core.List.{◌++◌, reverse}
 use Prim.Native.Nat.{◌≤◌}
-use native.Mathlib.Omega.{arith}
-use lib.ListN.{length, drop, length-set}
+use lib.ListN.{length, drop}
 use Rattle.words.specs.Words.{bytes_of}
-use borrow.Author.Rules.{rules}
-use Rattle.read_many.proofs.Head.{key_none, key_more, key_all}
 use Rattle.read_many.proofs.set_key.Given as goal
 
 abbrev pub invariant-loop-at : goal.invariant-loop-at

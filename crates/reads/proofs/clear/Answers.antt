@@ -2,7 +2,6 @@ use Prim.Native.Nat.{◌/◌}
 use native.Mathlib.Omega.{arith}
 use lib.ListN.{length}
 use Rattle.reads.proofs.Zeros.{filled_zeros}
-use borrow.Author.Rules.{rules}
 use Rattle.reads.proofs.clear.Goals as goal
 
 pub returns : goal.returns

@@ -8,7 +8,6 @@ use Rattle.reads.specs.declared.Lookup.TheVariants.{Refused, Unmapped}
 use Rattle.reads.specs.Get.{Located, LooksUp}
 use Rattle.reads.proofs.Contents.{unmapped_bytes, located_bytes, bytes_size}
 use Rattle.reads.proofs.Outcomes.{refused, accepted, fills_refused, fills_accepted}
-use borrow.Author.Rules.{rules}
 use Rattle.reads.proofs.fill_block.Goals as goal
 
 pub returns-in-Refused : goal.returns-in-Refused
@@ -28,7 +27,6 @@ pub chunk-requires : goal.chunk-requires
 chunk-requires c =
     let lies : Located c.args.settings (decode (words c.args.store.now)) c.args.proxy c.args.block c.in-Chunk.key.0 c.in-Chunk.place
     c.in-Chunk.row = rw c.in-Chunk.is at c.look_up.ensures in
-
     row_lies c.requires.0 (lies).lies
 
 pub copy_bytes-requires : goal.copy_bytes-requires
@@ -36,7 +34,6 @@ copy_bytes-requires c =
     let lies : Located c.args.settings (decode (words c.args.store.now)) c.args.proxy c.args.block c.in-Chunk.key.0 c.in-Chunk.place
     c.in-Chunk.row = rw c.in-Chunk.is at c.look_up.ensures in
     let same_bytes : c.chunk.result.now ≡ get_bytes (decode (words c.args.store.now)) c.args.block = c.chunk.ensures ∙ located_bytes _ c.args.store.now c.requires.0 c.args.proxy c.args.block (lies) in
-
     c.requires.1 ∙ sym (ap length (same_bytes) ∙ bytes_size _ c.args.store.now c.requires.0 c.args.proxy c.args.block (lies).accepted)
 
 pub returns-in-Chunk : goal.returns-in-Chunk
@@ -44,7 +41,6 @@ returns-in-Chunk c =
     let lies : Located c.args.settings (decode (words c.args.store.now)) c.args.proxy c.args.block c.in-Chunk.key.0 c.in-Chunk.place
     c.in-Chunk.row = rw c.in-Chunk.is at c.look_up.ensures in
     let same_bytes : c.chunk.result.now ≡ get_bytes (decode (words c.args.store.now)) c.args.block = c.chunk.ensures ∙ located_bytes _ c.args.store.now c.requires.0 c.args.proxy c.args.block (lies) in
-
     let s = decode (words c.args.store.now) in
     let at = lies in
     fills_accepted s c.args.proxy c.args.block (accepted s c.args.proxy c.args.block at.accepted at.key_mapped refl) refl

@@ -6,7 +6,6 @@ use Rattle.reads.specs.declared.Lookup.TheVariants.{Refused, Unmapped}
 use Rattle.reads.specs.Get.{Located, LooksUp}
 use Rattle.reads.proofs.Contents.{unmapped_bytes, located_bytes}
 use Rattle.reads.proofs.Outcomes.{refused, accepted}
-use borrow.Author.Rules.{rules}
 use Rattle.reads.proofs.get.Goals as goal
 
 pub returns-in-Refused : goal.returns-in-Refused
@@ -26,14 +25,12 @@ pub chunk-requires : goal.chunk-requires
 chunk-requires c =
     let lies : Located c.args.settings (decode (words c.args.store.now)) c.args.proxy c.args.block c.in-Chunk.found.0 c.in-Chunk.place
     c.in-Chunk.row = rw c.in-Chunk.is at c.look_up.ensures in
-
     row_lies c.requires.0 (lies).lies
 
 pub returns-in-Chunk : goal.returns-in-Chunk
 returns-in-Chunk c =
     let lies : Located c.args.settings (decode (words c.args.store.now)) c.args.proxy c.args.block c.in-Chunk.found.0 c.in-Chunk.place
     c.in-Chunk.row = rw c.in-Chunk.is at c.look_up.ensures in
-
     let at = lies in
     accepted (decode (words c.args.store.now)) c.args.proxy c.args.block at.accepted at.key_mapped
     (c.chunk.ensures ∙ located_bytes _ c.args.store.now c.requires.0 c.args.proxy c.args.block at)

@@ -6,7 +6,6 @@ use Rattle.words.specs.Words.{words}
 use Rattle.rules.specs.Call.{is_zero_block}
 use Rattle.layout.specs.Store.{decode}
 use Rattle.reads.proofs.Outcomes.{size_is, not_lent, lent}
-use borrow.Author.Rules.{rules}
 use Rattle.reads.proofs.get_into.Goals as goal
 
 pub returns-then-not-is_zero_block : goal.returns-then-not-is_zero_block

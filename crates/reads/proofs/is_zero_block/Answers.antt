@@ -1,11 +1,9 @@
-use mathlib.Core.Path.{◌≡◌, refl, sym, ◌∙◌}
-use mathlib.Core.Bool.{true}
-use Prim.Native.Nat.{◌*◌, ◌/◌, ◌-◌, ◌≤◌}
+use mathlib.Core.Path.{refl, sym, ◌∙◌}
+use Prim.Native.Nat.{◌-◌}
 use native.Mathlib.Omega.{arith}
-use lib.ListN.{take}
 use Rattle.lists.specs.Tests.{every}
 use borrow.Author.Rules.{rules}
-use Rattle.reads.proofs.Zeros.{all_zero, zeros_short, zeros_not, zeros_more, zeros_yes}
+use Rattle.reads.proofs.Zeros.{zeros_short, zeros_not, zeros_more, zeros_yes}
 use Rattle.reads.proofs.is_zero_block.Goals as goal
 
 pub returns-then-bytes-size : goal.returns-then-bytes-size

@@ -6,7 +6,6 @@ use Rattle.layout.specs.Store.{decode}
 use Rattle.mappings.specs.Asks.{served_asks}
 use Rattle.holders.specs.Members.{LiesAt}
 use Rattle.reads.proofs.Contents.{no_mapping, located, lost}
-use borrow.Author.Rules.{rules}
 use Rattle.reads.proofs.look_up.Goals as goal
 
 pub returns-then-no-ne0 : goal.returns-then-no-ne0

@@ -1,4 +1,3 @@
-use borrow.Author.Rules.{rules}
 use Rattle.replies.proofs.Outcomes.{of_kind, yes_written, no_written}
 use Rattle.replies.proofs.answer_event.Goals as goal
 

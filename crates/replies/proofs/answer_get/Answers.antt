@@ -3,7 +3,6 @@ use mathlib.Core.List.{List}
 use Prim.Native.Nat.{ℕ, ◌≤◌}
 use native.Mathlib.Omega.{arith}
 use lib.ListN.{length, take}
-use borrow.Author.Rules.{rules}
 use Rattle.lists.proofs.Runs.{below_of}
 use Rattle.rules.specs.Limits.{max_size}
 use Rattle.rules.specs.Reads.{zeros}
@@ -15,21 +14,18 @@ pub slice_bounds-get-end : goal.slice_bounds-get-end
 slice_bounds-get-end c =
     let small : c.args.settings.size ≤ max_size = c.requires.0.limits.size_to in
     let blank : take c.args.settings.size c.zero_block-blank.result ≡ zeros c.args.settings.size = ap (λ (l : List ℕ). take c.args.settings.size l) c.zero_block-blank.ensures ∙ zeros_front max_size c.args.settings.size (small) in
-
     sym (ap length (blank) ∙ zeros_length _)
 
 pub get-bytes-requires : goal.get-bytes-requires
 get-bytes-requires c =
     let small : c.args.settings.size ≤ max_size = c.requires.0.limits.size_to in
     let blank : take c.args.settings.size c.zero_block-blank.result ≡ zeros c.args.settings.size = ap (λ (l : List ℕ). take c.args.settings.size l) c.zero_block-blank.ensures ∙ zeros_front max_size c.args.settings.size (small) in
-
     (c.requires.0, blank)
 
 pub write_answer-requires : goal.write_answer-requires
 unfolding decode_bytes
 write_answer-requires c =
     let small : c.args.settings.size ≤ max_size = c.requires.0.limits.size_to in
-
     let a = c.args in
     omega (arith, c.requires.1, small, ap length c.get-bytes.ensures.same, said_within a.settings a.store.now c.requires.0 a.proxy a.block)
 

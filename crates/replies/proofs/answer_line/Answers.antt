@@ -2,7 +2,6 @@ use mathlib.Core.Path.{◌≡◌, sym, ap, ◌∙◌}
 use native.Mathlib.Omega.{arith}
 use lib.ListN.{length, take, drop, length-append}
 use lib.Seq.{take_at, length-take-le}
-use borrow.Author.Rules.{rules}
 use Rattle.lists.proofs.Runs.{below_of}
 use Rattle.rules.specs.Limits.{max_size}
 use Rattle.replies.proofs.Outcomes.{zeros_length}
@@ -13,14 +12,13 @@ pub slice_bounds-parse-end : goal.slice_bounds-parse-end
 slice_bounds-parse-end c =
     let block_size : length (take c.settings-settings.result.size c.zero_block-data.result) ≡ c.settings-settings.result.size = length-take-le _ c.zero_block-data.result
     (omega (arith, c.settings-settings.ensures.limits.size_to, ap length c.zero_block-data.ensures, zeros_length max_size)) in
- sym (block_size)
+    sym (block_size)
 
 pub slice_bounds-data-end-in-Is : goal.slice_bounds-data-end-in-Is
 slice_bounds-data-end-in-Is c =
     let block_size : length (take c.settings-settings.result.size c.zero_block-data.result) ≡ c.settings-settings.result.size = length-take-le _ c.zero_block-data.result
     (omega (arith, c.settings-settings.ensures.limits.size_to, ap length c.zero_block-data.ensures, zeros_length max_size)) in
     let data_size : length c.parse-parsed.new.data ≡ c.settings-settings.result.size = c.parse-parsed.auto.data ∙ block_size in
-
     omega (
       arith,
       data_size,
@@ -33,7 +31,6 @@ slice_bounds-answer_event-end c =
     let block_size : length (take c.settings-settings.result.size c.zero_block-data.result) ≡ c.settings-settings.result.size = length-take-le _ c.zero_block-data.result
     (omega (arith, c.settings-settings.ensures.limits.size_to, ap length c.zero_block-data.ensures, zeros_length max_size)) in
     let data_size : length c.parse-parsed.new.data ≡ c.settings-settings.result.size = c.parse-parsed.auto.data ∙ block_size in
-
     sym (ap length (take_at c.parse-parsed.new.data _ c.settings-settings.result.size (data_size)) ∙ data_size)
 
 pub returns-in-Is : goal.returns-in-Is
@@ -41,7 +38,6 @@ returns-in-Is c =
     let block_size : length (take c.settings-settings.result.size c.zero_block-data.result) ≡ c.settings-settings.result.size = length-take-le _ c.zero_block-data.result
     (omega (arith, c.settings-settings.ensures.limits.size_to, ap length c.zero_block-data.ensures, zeros_length max_size)) in
     let data_size : length c.parse-parsed.new.data ≡ c.settings-settings.result.size = c.parse-parsed.auto.data ∙ block_size in
-
     let a = c.args in
     let z = c.settings-settings in
     let e = c.answer_event in
@@ -54,7 +50,6 @@ pub returns-in-Refused : goal.returns-in-Refused
 returns-in-Refused c =
     let block_size : length (take c.settings-settings.result.size c.zero_block-data.result) ≡ c.settings-settings.result.size = length-take-le _ c.zero_block-data.result
     (omega (arith, c.settings-settings.ensures.limits.size_to, ap length c.zero_block-data.ensures, zeros_length max_size)) in
-
     let a = c.args in
     let z = c.settings-settings in
     let w = c.write_answer in

@@ -15,7 +15,6 @@ use Rattle.records.specs.Records.{agreed_of}
 use Rattle.mappings.proofs.Buckets.{InBucket, in_bucket}
 use Rattle.sends.specs.Asks.{primary_asks, room_asks}
 use Rattle.sends.proofs.Sending.{no_order, entry_decides}
-use borrow.Author.Rules.{rules}
 use Rattle.sends.proofs.asks.Goals as goal
 
 pub returns-then-no-ne0 : goal.returns-then-no-ne0
@@ -27,7 +26,6 @@ unfolding ◌and◌
 returns-then-relay_count c =
     let asked : (m : ℕ) → let s = decode (words c.args.store.now) in
     m ≡ first_no (room_asks s c.args.block.0) → m ≡ first_no (send_asks s c.args.block.0) = λ m. goes_on (primary_asks (decode (words c.args.store.now)) c.args.block.0) _ refl c.primary_asks-no.ensures c.if-no-ne0.false in
-
     let s = decode (words c.args.store.now) in
     asked _ (sym (first_stop 10 _ (le-ltb (length s.bag) max_relays (omega (arith, c.relay_count.ensures, c.if-relay_count.true)))))
 
@@ -39,7 +37,6 @@ returns-then-agreed-ge-MAX_VIEW_OR_ORDER c =
     let room : length (decode (words c.args.store.now)).bag < max_relays = omega (arith, c.relay_count.ensures, c.if-relay_count.false) in
     let read : InBucket (decode (words c.args.store.now)) c.args.settings.entries c.args.block.0 c.number-bucket.result
     (agreed_of c.agreed-agreed.result) = in_bucket c.args.settings c.args.store.now c.requires c.args.block.0 _ c.number-bucket.ensures.0 _ c.agreed-agreed.ensures in
-
     asked _ (no_order _ _ _ _ _ (read) (room) c.if-agreed-ge-MAX_VIEW_OR_ORDER.true)
 
 pub returns-then-has : goal.returns-then-has
@@ -53,7 +50,7 @@ returns-then-has c =
     let last : (x : Bool) → c.has.result ≡ x
     → cond x 0 13 ≡ first_no (send_asks (decode (words c.args.store.now)) c.args.block.0) = λ x y. asked _ (entry_decides _ _ _ _ _ (read) (room) c.if-agreed-ge-MAX_VIEW_OR_ORDER.false x
     (sym c.has.ensures ∙ y)) in
- last true c.if-has.true
+    last true c.if-has.true
 
 pub returns : goal.returns
 unfolding ◌and◌
@@ -66,4 +63,4 @@ returns c =
     let last : (x : Bool) → c.has.result ≡ x
     → cond x 0 13 ≡ first_no (send_asks (decode (words c.args.store.now)) c.args.block.0) = λ x y. asked _ (entry_decides _ _ _ _ _ (read) (room) c.if-agreed-ge-MAX_VIEW_OR_ORDER.false x
     (sym c.has.ensures ∙ y)) in
- last false c.if-has.false
+    last false c.if-has.false

@@ -7,7 +7,6 @@ use Rattle.rules.specs.Question.{◌asks◌, first_no, is_ready}
 use Rattle.rules.proofs.Questions.{first_yes, first_stop, none_asked}
 use Rattle.layout.specs.Store.{decode}
 use Rattle.sends.specs.Asks.{primary_asks}
-use borrow.Author.Rules.{rules}
 use Rattle.sends.proofs.primary_asks.Goals as goal
 
 pub returns-then-block-ge-BLOCKS : goal.returns-then-block-ge-BLOCKS
@@ -24,7 +23,6 @@ returns-then-is_ready c =
     let two-yes : let s = decode (words c.args.store.now) in
     first_no (primary_asks s c.args.block.0) ≡ first_no ((7 asks is_ready s c.args.block.0) ∷ []) = first_yes 3 _ (lt-ltb c.args.block.0 block_count c.if-block-ge-BLOCKS.false)
     ∙ first_yes 6 _ (sym c.primary_up.ensures ∙ not-false _ c.if-not-primary_up.false-raw) in
-
     sym (two-yes ∙ first_yes 7 [] (sym c.is_ready.ensures ∙ c.if-is_ready.true) ∙ none_asked)
 
 pub returns : goal.returns
@@ -32,5 +30,4 @@ returns c =
     let two-yes : let s = decode (words c.args.store.now) in
     first_no (primary_asks s c.args.block.0) ≡ first_no ((7 asks is_ready s c.args.block.0) ∷ []) = first_yes 3 _ (lt-ltb c.args.block.0 block_count c.if-block-ge-BLOCKS.false)
     ∙ first_yes 6 _ (sym c.primary_up.ensures ∙ not-false _ c.if-not-primary_up.false-raw) in
-
     sym (two-yes ∙ first_stop 7 [] (sym c.is_ready.ensures ∙ c.if-is_ready.false))

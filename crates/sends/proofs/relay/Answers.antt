@@ -8,14 +8,12 @@ use Rattle.records.specs.Records.{agreed_of}
 use Rattle.mappings.proofs.Buckets.{InBucket, in_bucket}
 use Rattle.relays.proofs.Bag.{bag_lent}
 use Rattle.sends.proofs.Sending.{order_left, relay_is, sent}
-use borrow.Author.Rules.{rules}
 use Rattle.sends.proofs.relay.Goals as goal
 
 pub overflow_add-order : goal.overflow_add-order
 overflow_add-order c =
     let read : InBucket (decode (words c.args.store.now)) c.args.settings.entries c.args.block.0 c.number-bucket.result
     (agreed_of c.agreed-order.result) = in_bucket c.args.settings c.args.store.now c.requires.0 c.args.block.0 _ c.number-bucket.ensures.0 _ c.agreed-order.ensures in
-
     omega (arith, order_left _ _ _ _ _ (read) c.requires.2)
 
 pub append-requires : goal.append-requires
@@ -26,7 +24,6 @@ pub returns : goal.returns
 returns c =
     let read : InBucket (decode (words c.args.store.now)) c.args.settings.entries c.args.block.0 c.number-bucket.result
     (agreed_of c.agreed-order.result) = in_bucket c.args.settings c.args.store.now c.requires.0 c.args.block.0 _ c.number-bucket.ensures.0 _ c.agreed-order.ensures in
-
     let k = read in
     let appended = c.append in
     c.write.ensures

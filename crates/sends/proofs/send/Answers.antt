@@ -5,7 +5,6 @@ use Rattle.rules.specs.Step.{rule}
 use Rattle.layout.specs.Store.{decode}
 use Rattle.lent.proofs.Performs.{refused, accepted}
 use Rattle.sends.proofs.Sending.{sendable}
-use borrow.Author.Rules.{rules}
 use Rattle.sends.proofs.send.Goals as goal
 
 pub returns-then-no-ne0 : goal.returns-then-no-ne0

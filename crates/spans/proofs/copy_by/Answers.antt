@@ -2,7 +2,6 @@ use mathlib.Core.Path.{◌∙◌, sym, ap}
 use lib.ListN.{length}
 use lib.Seq.{length-take-le}
 use Rattle.spans.proofs.Laws.{lent, part, part_length, part_copied}
-use borrow.Author.Rules.{rules}
 use Rattle.spans.proofs.copy_by.Goals as goal
 
 pub slice_bounds-copy_each-end-2 : goal.slice_bounds-copy_each-end-2

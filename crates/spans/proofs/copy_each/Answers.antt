@@ -1,9 +1,9 @@
 use Rattle.spans.proofs.Laws.{copy_turn, copy_end}
-use mathlib.Core.Path.{◌≡◌, refl, ap, ◌∙◌}
-use mathlib.Core.List.{List, ◌++◌}
-use Prim.Native.Nat.{ℕ, ◌+◌, ◌-◌, ◌≤◌}
+use mathlib.Core.Path.{refl, ap, ◌∙◌}
+use mathlib.Core.List.{List}
+use Prim.Native.Nat.{ℕ}
 use native.Mathlib.Omega.{arith}
-use lib.ListN.{length, get_or, take, drop, set}
+use lib.ListN.{get_or, set}
 use borrow.Author.Rules.{rules}
 use Rattle.spans.proofs.copy_each.Goals as goal
 

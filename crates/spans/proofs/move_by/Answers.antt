@@ -4,7 +4,6 @@ use native.Mathlib.Omega.{arith}
 use lib.ListN.{length}
 use lib.Seq.{length-take-le}
 use Rattle.spans.proofs.Laws.{lent, part, part_length, part_moved}
-use borrow.Author.Rules.{rules}
 use Rattle.spans.proofs.move_by.Goals as goal
 
 pub slice_bounds-copy_each-end-2 : goal.slice_bounds-copy_each-end-2

@@ -1,6 +1,5 @@
 use mathlib.Core.List.{[]}
 use native.Mathlib.Omega.{arith}
-use borrow.Author.Rules.{rules}
 use Rattle.rules.specs.Event.{event_from}
 use Rattle.rules.proofs.Event.{kinds_open}
 use Rattle.step.proofs.KindLaws.{at_kind}

@@ -1,5 +1,4 @@
 use mathlib.Core.Path.{sym, ◌∙◌}
-use borrow.Author.Rules.{rules}
 use Rattle.calls.specs.Outcome.{call_with}
 use Rattle.calls.proofs.Performed.{store_sound}
 use Rattle.step.proofs.Outcomes.{unsound_steps}

@@ -1,5 +1,4 @@
 use native.Mathlib.Omega.{arith}
-use borrow.Author.Rules.{rules}
 use Rattle.rules.specs.Event.{event_from}
 use Rattle.rules.proofs.Event.{kinds_open}
 use Rattle.step.proofs.KindLaws.{at_kind}

@@ -1,5 +1,4 @@
 use mathlib.Core.Path.{sym, ◌∙◌}
-use borrow.Author.Rules.{rules}
 use Rattle.store.specs.Calls.{check_answer}
 use Rattle.store.proofs.check.Goals as goal
 

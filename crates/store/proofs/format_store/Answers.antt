@@ -9,7 +9,6 @@ use Rattle.rules.proofs.Limits.{limits}
 use Rattle.layout.specs.Store.{render, store_bytes}
 use Rattle.store.specs.Calls.{settings}
 use Rattle.store.proofs.Answers.{good-limits, good-is, bad-limits, refused, bad-format, short-format, accepted}
-use borrow.Author.Rules.{rules}
 use Rattle.store.proofs.format_store.Goals as goal
 
 pub store_bytes-requires : goal.store_bytes-requires

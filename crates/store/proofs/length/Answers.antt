@@ -2,7 +2,6 @@ use mathlib.Core.Path.{ap, ◌∙◌}
 use Rattle.rules.proofs.Limits.{limits}
 use Rattle.layout.specs.Store.{store_bytes}
 use Rattle.store.proofs.Answers.{good-limits, good-is, bad-limits, length-good, length-bad}
-use borrow.Author.Rules.{rules}
 use Rattle.store.proofs.length.Goals as goal
 
 pub store_bytes-requires : goal.store_bytes-requires

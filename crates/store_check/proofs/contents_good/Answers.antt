@@ -12,7 +12,6 @@ use Rattle.store_check.specs.Store.{contents_sound}
 use Rattle.rules.proofs.Limits.{few_buckets}
 use Rattle.layout.proofs.Lent.{lent}
 use native.Mathlib.Omega.{arith}
-use borrow.Author.Rules.{rules}
 use Rattle.store_check.proofs.contents_good.Goals as goal
 
 pub overflow_mul-a : goal.overflow_mul-a
@@ -37,7 +36,6 @@ returns-then-not-bag_good c =
     ≡ bag_part c.args.settings (words c.args.store.now) = let at = c.bag_at-a.result in
     lent c.args.store.now (8 * at) (8 * at + 8 * bag_words) (bag_at c.args.settings) bag_words (omega (arith, c.bag_at-a.ensures)) refl
     (omega (arith, c.bag_at-a.ensures, c.requires.size)) in
-
     let a = c.args in
     sym (no_first _ _ (no_first _ _ (ap (λ (w : List ℕ). sound_bag (key_below a.bounds.now) a.settings (bag_codec.dec w)) (sym (in-store))
     ∙ sym c.bag_good.ensures ∙ not-true _ c.if-not-bag_good.true-raw)))
@@ -53,7 +51,6 @@ returns c =
     ≡ bag_part c.args.settings (words c.args.store.now) = let at = c.bag_at-a.result in
     lent c.args.store.now (8 * at) (8 * at + 8 * bag_words) (bag_at c.args.settings) bag_words (omega (arith, c.bag_at-a.ensures)) refl
     (omega (arith, c.bag_at-a.ensures, c.requires.size)) in
-
     let a = c.args in
     let bag = ap (λ (w : List ℕ). sound_bag (key_below a.bounds.now) a.settings (bag_codec.dec w)) (sym (in-store)) in
     c.places_good.ensures ∙ sym (yes_first _ _ (both _ _ (bag ∙ sym c.bag_good.ensures ∙ not-false _ c.if-not-bag_good.false-raw)

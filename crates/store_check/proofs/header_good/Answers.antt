@@ -1,6 +1,5 @@
 use Rattle.lists.specs.Tests.{◌and◌}
 use Rattle.rules.specs.Sound.{sound_header}
-use borrow.Author.Rules.{rules}
 use Rattle.store_check.proofs.header_good.Goals as goal
 
 pub returns : goal.returns

@@ -1,6 +1,5 @@
 use mathlib.Core.Path.{◌≡◌, sym, ap, subst, ◌∙◌}
 use mathlib.Core.Bool.{true}
-use mathlib.Core.List.{List}
 use Prim.Native.Nat.{ℕ, ◌*◌}
 use Rattle.lists.proofs.Runs.{below_of}
 use Rattle.words.specs.Words.{words}
@@ -15,7 +14,6 @@ use Rattle.layout.proofs.Bounds.{store_small}
 use Rattle.store_check.specs.Store.{parts_sound}
 use Rattle.store_check.proofs.ByteLaws.{settings_bad, settings_own, odd_bytes, short_bytes, version_bytes, other_bytes, limit_bytes, parts_bytes}
 use native.Mathlib.Omega.{arith}
-use borrow.Author.Rules.{rules}
 use Rattle.store_check.proofs.is_sound.Goals as goal
 
 pub returns-then-store-ne0 : goal.returns-then-store-ne0
@@ -38,20 +36,19 @@ store_words-requires c =
     let own : (settings_of (words c.args.store.now) ≡ c.in-Good.settings) × (in_limits (settings_of (words c.args.store.now)) ≡ true) = settings_own (words c.args.store.now) _ _ _ _ c.read-places.ensures c.read-size.ensures c.read-entries.ensures c.read-chunks.ensures
     c.in-Good.settings (sym c.in-Good.is ∙ c.new.ensures) in
     let small : Limits c.in-Good.settings = subst Limits (own).0 (limits _ (own).1) in
- small
+    small
 
 pub overflow_mul-store_words : goal.overflow_mul-store_words
 overflow_mul-store_words c =
     let own : (settings_of (words c.args.store.now) ≡ c.in-Good.settings) × (in_limits (settings_of (words c.args.store.now)) ≡ true) = settings_own (words c.args.store.now) _ _ _ _ c.read-places.ensures c.read-size.ensures c.read-entries.ensures c.read-chunks.ensures
     c.in-Good.settings (sym c.in-Good.is ∙ c.new.ensures) in
     let small : Limits c.in-Good.settings = subst Limits (own).0 (limits _ (own).1) in
- omega (arith, store_small _ (small))
+    omega (arith, store_small _ (small))
 
 pub returns-then-store-store_words : goal.returns-then-store-store_words
 returns-then-store-store_words c =
     let own : (settings_of (words c.args.store.now) ≡ c.in-Good.settings) × (in_limits (settings_of (words c.args.store.now)) ≡ true) = settings_own (words c.args.store.now) _ _ _ _ c.read-places.ensures c.read-size.ensures c.read-entries.ensures c.read-chunks.ensures
     c.in-Good.settings (sym c.in-Good.is ∙ c.new.ensures) in
-
     sym (other_bytes c.args.store.now (λ e. c.if-store-store_words.true (e ∙ ap (λ (c : Settings). 8 * store_words c) (own).0
     ∙ ap (λ (k : ℕ). 8 * k) (sym c.store_words.ensures))))
 
@@ -60,17 +57,16 @@ parts_good-requires c =
     let own : (settings_of (words c.args.store.now) ≡ c.in-Good.settings) × (in_limits (settings_of (words c.args.store.now)) ≡ true) = settings_own (words c.args.store.now) _ _ _ _ c.read-places.ensures c.read-size.ensures c.read-entries.ensures c.read-chunks.ensures
     c.in-Good.settings (sym c.in-Good.is ∙ c.new.ensures) in
     let small : Limits c.in-Good.settings = subst Limits (own).0 (limits _ (own).1) in
- record {
-  small = small;
-  size = c.if-store-store_words.false ∙ ap (λ (k : ℕ). 8 * k) c.store_words.ensures;
-  own = (own).0;
-}
+    record {
+      small = small;
+      size = c.if-store-store_words.false ∙ ap (λ (k : ℕ). 8 * k) c.store_words.ensures;
+      own = (own).0;
+    }
 
 pub returns : goal.returns
 returns c =
     let own : (settings_of (words c.args.store.now) ≡ c.in-Good.settings) × (in_limits (settings_of (words c.args.store.now)) ≡ true) = settings_own (words c.args.store.now) _ _ _ _ c.read-places.ensures c.read-size.ensures c.read-entries.ensures c.read-chunks.ensures
     c.in-Good.settings (sym c.in-Good.is ∙ c.new.ensures) in
-
     let s = c.args.store.now in
     let o = own in
     let size = c.if-store-store_words.false ∙ ap (λ (k : ℕ). 8 * k) c.store_words.ensures ∙ ap (λ (c : Settings). 8 * store_words c) (sym o.0) in

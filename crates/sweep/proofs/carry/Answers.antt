@@ -1,9 +1,7 @@
 use mathlib.Core.Path.{◌≡◌}
-use Prim.Native.Nat.{◌-◌}
 use native.Mathlib.Omega.{arith}
 use Rattle.words.specs.Words.{words}
 use Rattle.sweep.proofs.Steps.{paste_self}
-use borrow.Author.Rules.{rules}
 use Rattle.sweep.proofs.carry.Goals as goal
 
 pub returns : goal.returns

@@ -1,9 +1,7 @@
-use Prim.Native.Nat.{◌-◌}
 use native.Mathlib.Nat.{mul-le-mul_right}
 use native.Mathlib.Omega.{arith}
 use Rattle.words.specs.Words.{words}
 use Rattle.sweep.proofs.Steps.{moved_by}
-use borrow.Author.Rules.{rules}
 use Rattle.sweep.proofs.carry_cell.Goals as goal
 
 pub carry-requires : goal.carry-requires

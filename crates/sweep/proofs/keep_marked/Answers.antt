@@ -1,10 +1,8 @@
 use mathlib.Core.Path.{◌∙◌}
-use Prim.Native.Nat.{◌-◌}
 use native.Mathlib.Omega.{arith}
 use Rattle.words.specs.Words.{words}
 use Rattle.sweep.specs.Marks.{swept}
 use Rattle.sweep.proofs.Steps.{second_requires, third_requires, swept_words}
-use borrow.Author.Rules.{rules}
 use Rattle.sweep.proofs.keep_marked.Goals as goal
 
 pub renumber-requires : goal.renumber-requires

@@ -7,7 +7,6 @@ use Rattle.words.specs.Words.{words}
 use Rattle.chunk_log.proofs.Steps.{sizes}
 use Rattle.sweep.specs.Marks.{swept}
 use Rattle.sweep.proofs.Marks.{log_marked, keep_saved_leaves}
-use borrow.Author.Rules.{rules}
 use Rattle.sweep.proofs.keep_saved.Goals as goal
 
 pub keep_marked-requires : goal.keep_marked-requires

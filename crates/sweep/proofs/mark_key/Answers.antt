@@ -7,7 +7,6 @@ use Rattle.chunk_log.specs.Log.{log_dec}
 use Rattle.chunk_log.specs.Answers.{FoundAt}
 use Rattle.chunk_log.proofs.Steps.{found_row}
 use Rattle.sweep.proofs.Marks.{mark_leaves, mark_none}
-use borrow.Author.Rules.{rules}
 use Rattle.sweep.proofs.mark_key.Goals as goal
 
 pub overflow_mul-p : goal.overflow_mul-p
@@ -20,7 +19,7 @@ overflow_mul-p c =
     let row : c.in-At.p < get_or
     (words c.args.log.now) 0 0 = found_row c.args.chunks c.args.width c.args.log.now c.requires
     c.args.k.0 _ (here) in
- let r = row in omega arith
+    let r = row in omega arith
 
 pub overflow_add-p : goal.overflow_add-p
 overflow_add-p c =
@@ -32,7 +31,7 @@ overflow_add-p c =
     let row : c.in-At.p < get_or
     (words c.args.log.now) 0 0 = found_row c.args.chunks c.args.width c.args.log.now c.requires
     c.args.k.0 _ (here) in
- let r = row in omega arith
+    let r = row in omega arith
 
 pub read-s-requires : goal.read-s-requires
 read-s-requires c =
@@ -44,7 +43,7 @@ read-s-requires c =
     let row : c.in-At.p < get_or
     (words c.args.log.now) 0 0 = found_row c.args.chunks c.args.width c.args.log.now c.requires
     c.args.k.0 _ (here) in
- let r = row in omega arith
+    let r = row in omega arith
 
 pub overflow_mul-p-in-At : goal.overflow_mul-p-in-At
 overflow_mul-p-in-At c =
@@ -56,7 +55,7 @@ overflow_mul-p-in-At c =
     let row : c.in-At.p < get_or
     (words c.args.log.now) 0 0 = found_row c.args.chunks c.args.width c.args.log.now c.requires
     c.args.k.0 _ (here) in
- let r = row in omega arith
+    let r = row in omega arith
 
 pub overflow_add-p-in-At : goal.overflow_add-p-in-At
 overflow_add-p-in-At c =
@@ -68,7 +67,7 @@ overflow_add-p-in-At c =
     let row : c.in-At.p < get_or
     (words c.args.log.now) 0 0 = found_row c.args.chunks c.args.width c.args.log.now c.requires
     c.args.k.0 _ (here) in
- let r = row in omega arith
+    let r = row in omega arith
 
 pub write-requires : goal.write-requires
 write-requires c =
@@ -80,7 +79,7 @@ write-requires c =
     let row : c.in-At.p < get_or
     (words c.args.log.now) 0 0 = found_row c.args.chunks c.args.width c.args.log.now c.requires
     c.args.k.0 _ (here) in
- let r = row in omega arith
+    let r = row in omega arith
 
 pub returns-in-At : goal.returns-in-At
 returns-in-At c =
@@ -89,7 +88,6 @@ returns-in-At c =
     (words c.args.log.now))
     c.args.k.0
     c.in-At.p = rw c.in-At.is at c.find.ensures in
-
     c.write.ensures ∙ mark_leaves c.args.chunks c.args.width c.args.log.now c.requires c.args.k.0 _
     c.read-s.result _ (here) c.read-s.ensures refl
 

@@ -1,11 +1,6 @@
-use lib.ListN.{length}
 use Rattle.words.specs.Words.{words}
-use Rattle.chunk_log.specs.Log.{write_log, read_log}
-use Rattle.chunk_log.specs.Steps.{tag}
-use Rattle.sweep.specs.Sweep.{triple_of}
 use Rattle.sweep.proofs.Steps.{triple_start, triple_small, triple_turn}
-use mathlib.Core.Path.{◌≡◌, ◌∙◌}
-use Prim.Native.Nat.{◌-◌, ◌≤◌}
+use mathlib.Core.Path.{◌∙◌}
 use native.Mathlib.Omega.{arith}
 use native.Mathlib.Numerals.{add-one}
 use Rattle.sweep.proofs.Marks.{triple_leaves}

@@ -3,13 +3,8 @@ use Rattle.words.specs.Words.{words}
 use Rattle.chunk_log.specs.Log.{write_log, read_log}
 use Rattle.chunk_log.specs.Steps.{tag}
 use Rattle.sweep.specs.Sweep.{triple_of}
-use Rattle.sweep.proofs.Steps.{triple_start, triple_small, triple_turn}
-use mathlib.Core.Path.{◌≡◌, ◌∙◌}
+use mathlib.Core.Path.{◌≡◌}
 use Prim.Native.Nat.{◌-◌, ◌≤◌}
-use native.Mathlib.Omega.{arith}
-use native.Mathlib.Numerals.{add-one}
-use Rattle.sweep.proofs.Marks.{triple_leaves}
-use borrow.Author.Rules.{rules}
 use Rattle.sweep.proofs.mark_saved.Given as goal
 
 abbrev pub invariant-loop-i : goal.invariant-loop-i

@@ -1,26 +1,23 @@
-use lib.ListN.{length}
 use Rattle.words.specs.Words.{words}
 use Rattle.chunk_log.specs.Log.{read_log}
-use Rattle.sweep.specs.Sweep.{packing, kept_first}
 use Rattle.chunk_log.proofs.Steps.{counted}
 use Rattle.sweep.proofs.Steps.{zero_kept, pack_low, pack_step, pack_turn}
 use Rattle.sweep.proofs.Swept.{pack_start}
 use mathlib.Core.Path.{◌≡◌}
-use Prim.Native.Nat.{◌+◌, ◌*◌, ◌-◌, ◌≤◌}
+use Prim.Native.Nat.{◌+◌, ◌*◌}
 use native.Mathlib.Omega.{arith}
 use native.Mathlib.Numerals.{add-one}
 use borrow.Author.Rules.{rules}
 use Rattle.sweep.proofs.pack.Goals as goal
 
 pub loop-i-init : goal.loop-i-init
-loop-i-init c =
-    (
-      search rules,
-      search rules,
-      zero_kept (read_log c.args.chunks c.args.width (words c.args.log.now)),
-      pack_start c.args.chunks c.args.width (words c.args.log.now)
-          (counted c.args.log.now (1 + 3 * c.args.chunks + c.args.chunks * c.args.width) c.requires.1) (omega arith),
-    )
+loop-i-init c = (
+  search rules,
+  search rules,
+  zero_kept (read_log c.args.chunks c.args.width (words c.args.log.now)),
+  pack_start c.args.chunks c.args.width (words c.args.log.now)
+      (counted c.args.log.now (1 + 3 * c.args.chunks + c.args.chunks * c.args.width) c.requires.1) (omega arith),
+)
 
 pub pack_at-o-requires : goal.pack_at-o-requires
 pack_at-o-requires c =

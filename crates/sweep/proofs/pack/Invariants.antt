@@ -2,14 +2,8 @@ use lib.ListN.{length}
 use Rattle.words.specs.Words.{words}
 use Rattle.chunk_log.specs.Log.{read_log}
 use Rattle.sweep.specs.Sweep.{packing, kept_first}
-use Rattle.chunk_log.proofs.Steps.{counted}
-use Rattle.sweep.proofs.Steps.{zero_kept, pack_low, pack_step, pack_turn}
-use Rattle.sweep.proofs.Swept.{pack_start}
 use mathlib.Core.Path.{◌≡◌}
-use Prim.Native.Nat.{◌+◌, ◌*◌, ◌-◌, ◌≤◌}
-use native.Mathlib.Omega.{arith}
-use native.Mathlib.Numerals.{add-one}
-use borrow.Author.Rules.{rules}
+use Prim.Native.Nat.{◌-◌, ◌≤◌}
 use Rattle.sweep.proofs.pack.Given as goal
 
 abbrev pub invariant-loop-i : goal.invariant-loop-i

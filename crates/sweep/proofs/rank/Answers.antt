@@ -1,27 +1,23 @@
-use lib.ListN.{length}
 use Rattle.words.specs.Words.{words}
-use Rattle.chunk_log.specs.Log.{saved_of, write_log, read_log}
-use Rattle.chunk_log.specs.Steps.{tag}
-use Rattle.sweep.specs.Sweep.{rank, tag_of}
+use Rattle.chunk_log.specs.Log.{saved_of, read_log}
+use Rattle.sweep.specs.Sweep.{tag_of}
 use Rattle.chunk_log.proofs.Steps.{tag_start}
 use Rattle.sweep.proofs.Steps.{rank_start, rank_small, rank_turn, rank_sum}
 use mathlib.Core.Path.{◌≡◌, sym, ◌∙◌}
-use Prim.Native.Nat.{◌-◌, ◌≤◌}
 use native.Mathlib.Omega.{arith}
 use native.Mathlib.Numerals.{add-one}
 use borrow.Author.Rules.{rules}
 use Rattle.sweep.proofs.rank.Goals as goal
 
 pub loop-i-init : goal.loop-i-init
-loop-i-init c =
-    (
-      search rules,
-      search rules,
-      sym (rank_start (saved_of (read_log c.args.chunks c.args.width (words c.args.log.now)))),
-      search rules,
-      tag_start c.args.chunks c.args.width c.args.log.now c.requires.log_with
-          (tag_of (read_log c.args.chunks c.args.width (words c.args.log.now))),
-    )
+loop-i-init c = (
+  search rules,
+  search rules,
+  sym (rank_start (saved_of (read_log c.args.chunks c.args.width (words c.args.log.now)))),
+  search rules,
+  tag_start c.args.chunks c.args.width c.args.log.now c.requires.log_with
+      (tag_of (read_log c.args.chunks c.args.width (words c.args.log.now))),
+)
 
 pub overflow_add-s : goal.overflow_add-s
 overflow_add-s c =

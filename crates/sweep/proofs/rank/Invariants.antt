@@ -3,13 +3,8 @@ use Rattle.words.specs.Words.{words}
 use Rattle.chunk_log.specs.Log.{saved_of, write_log, read_log}
 use Rattle.chunk_log.specs.Steps.{tag}
 use Rattle.sweep.specs.Sweep.{rank, tag_of}
-use Rattle.chunk_log.proofs.Steps.{tag_start}
-use Rattle.sweep.proofs.Steps.{rank_start, rank_small, rank_turn, rank_sum}
-use mathlib.Core.Path.{◌≡◌, sym, ◌∙◌}
+use mathlib.Core.Path.{◌≡◌}
 use Prim.Native.Nat.{◌-◌, ◌≤◌}
-use native.Mathlib.Omega.{arith}
-use native.Mathlib.Numerals.{add-one}
-use borrow.Author.Rules.{rules}
 use Rattle.sweep.proofs.rank.Given as goal
 
 abbrev pub invariant-loop-i : goal.invariant-loop-i

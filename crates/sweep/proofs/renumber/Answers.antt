@@ -1,25 +1,22 @@
-use lib.ListN.{length}
 use Rattle.words.specs.Words.{words}
 use Rattle.chunk_log.specs.Log.{position_at}
-use Rattle.sweep.specs.Sweep.{pick_first, put_positions}
 use Rattle.chunk_log.proofs.Steps.{counted}
 use Rattle.sweep.proofs.Steps.{zero_picked, renum_start, renum_pos, renum_low, renum_turn, renum_next}
 use mathlib.Core.Path.{◌≡◌}
-use Prim.Native.Nat.{◌+◌, ◌*◌, ◌-◌, ◌≤◌, ◌<◌}
+use Prim.Native.Nat.{◌+◌, ◌*◌, ◌<◌}
 use native.Mathlib.Omega.{arith}
 use native.Mathlib.Numerals.{add-one}
 use borrow.Author.Rules.{rules}
 use Rattle.sweep.proofs.renumber.Goals as goal
 
 pub loop-j-init : goal.loop-j-init
-loop-j-init c =
-    (
-      search rules,
-      search rules,
-      zero_picked c.args.chunks (words c.args.log.now),
-      renum_start c.args.chunks c.args.width (words c.args.log.now)
-          (counted c.args.log.now (1 + 3 * c.args.chunks + c.args.chunks * c.args.width) c.requires.n_le_chunks.1),
-    )
+loop-j-init c = (
+  search rules,
+  search rules,
+  zero_picked c.args.chunks (words c.args.log.now),
+  renum_start c.args.chunks c.args.width (words c.args.log.now)
+      (counted c.args.log.now (1 + 3 * c.args.chunks + c.args.chunks * c.args.width) c.requires.n_le_chunks.1),
+)
 
 pub renumber_at-o-requires : goal.renumber_at-o-requires
 renumber_at-o-requires c =

@@ -1,7 +1,5 @@
-use Prim.Native.Nat.{◌-◌}
 use Rattle.words.specs.Words.{words}
 use Rattle.sweep.proofs.Steps.{numbered_yes, numbered_no}
-use borrow.Author.Rules.{rules}
 use Rattle.sweep.proofs.renumber_at.Goals as goal
 
 pub returns-then-v-eq1 : goal.returns-then-v-eq1

@@ -5,7 +5,6 @@ use Rattle.words.specs.Words.{words}
 use Rattle.words.proofs.Laws.{room}
 use Rattle.lists.specs.Rows.{table_words}
 use Rattle.tables.proofs.Changes.{copied_run}
-use borrow.Author.Rules.{rules}
 use Rattle.tables.proofs.copy_table.Goals as goal
 
 pub overflow_mul-n : goal.overflow_mul-n

@@ -6,7 +6,6 @@ use borrow.Author.Tests.{ltb-true}
 use Rattle.lists.proofs.Ascending.{lower}
 use Rattle.words.specs.Words.{words}
 use Rattle.tables.specs.Tables.{first_at}
-use borrow.Author.Rules.{rules}
 use Rattle.tables.proofs.is_after.Goals as goal
 
 pub returns : goal.returns

@@ -5,7 +5,6 @@ use borrow.Author.Tests.{leb-true}
 use Rattle.lists.proofs.Ascending.{upper}
 use Rattle.words.specs.Words.{words}
 use Rattle.tables.specs.Tables.{first_at}
-use borrow.Author.Rules.{rules}
 use Rattle.tables.proofs.is_before.Goals as goal
 
 pub returns : goal.returns

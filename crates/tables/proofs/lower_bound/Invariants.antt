@@ -1,10 +1,7 @@
-use Prim.Native.Nat.{ℕ, ◌+◌, ◌-◌, ◌/◌, ◌≤◌, ◌<◌}
-use native.Mathlib.Omega.{arith}
+use Prim.Native.Nat.{ℕ, ◌-◌, ◌≤◌, ◌<◌}
 use lib.ListN.{get_or}
-use Rattle.lists.proofs.Ascending.{lower, upper}
 use Rattle.words.specs.Words.{words}
 use Rattle.tables.specs.Tables.{first_at}
-use borrow.Author.Rules.{rules}
 use Rattle.tables.proofs.lower_bound.Given as goal
 
 abbrev pub invariant-loop-lo : goal.invariant-loop-lo

@@ -5,7 +5,6 @@ use native.Mathlib.Nat.{mul-le-mul_right}
 use Rattle.words.specs.Words.{words}
 use Rattle.words.proofs.Laws.{length_words}
 use Rattle.tables.proofs.Changes.{removed}
-use borrow.Author.Rules.{rules}
 use Rattle.tables.proofs.remove_row.Goals as goal
 
 pub overflow_sub-end : goal.overflow_sub-end

@@ -7,7 +7,6 @@ use borrow.Author.Tests.{eq-eqb, ne_eqb}
 use Rattle.lists.specs.Tests.{◌and◌}
 use Rattle.words.specs.Words.{words}
 use Rattle.tables.specs.Tables.{same_rows}
-use borrow.Author.Rules.{rules}
 use Rattle.tables.proofs.same.Goals as goal
 
 pub returns-then-n-read : goal.returns-then-n-read

@@ -3,7 +3,6 @@ use native.Mathlib.Omega.{arith}
 use Rattle.words.specs.Words.{words}
 use Rattle.words.proofs.Laws.{length_words}
 use Rattle.tables.proofs.Changes.{word_set}
-use borrow.Author.Rules.{rules}
 use Rattle.tables.proofs.set_cell.Goals as goal
 
 pub returns : goal.returns

@@ -2,7 +2,6 @@ use mathlib.Core.Path.{◌≡◌, sym, ◌∙◌}
 use native.Mathlib.Omega.{arith}
 use Rattle.words.specs.Words.{words}
 use Rattle.tables.specs.Tables.{first_at}
-use borrow.Author.Rules.{rules}
 use Rattle.tables.proofs.spot_at.Goals as goal
 
 pub returns-then-read-x : goal.returns-then-read-x

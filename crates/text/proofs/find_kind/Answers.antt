@@ -5,7 +5,6 @@ use Rattle.text.specs.Kinds.{packed_upto, packed, packed_from, kind_of_packed}
 use Rattle.text.specs.Table.{kind_number}
 use Rattle.text.proofs.Laws.{Passed}
 use Rattle.text.proofs.Packed.{number_is, row_after, past_rows, other}
-use borrow.Author.Rules.{rules}
 use Rattle.text.proofs.find_kind.Goals as goal
 
 -- `text::find_kind` meets its contract.

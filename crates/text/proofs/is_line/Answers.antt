@@ -1,7 +1,6 @@
 use mathlib.Core.Path.{sym}
 use native.Mathlib.Omega.{arith}
 use Rattle.text.proofs.Lines.{no_bytes_no_line, too_long, by_last}
-use borrow.Author.Rules.{rules}
 use Rattle.text.proofs.is_line.Goals as goal
 
 -- `text::is_line` meets its contract.

@@ -1,10 +1,7 @@
-use mathlib.Core.Path.{◌≡◌, sym, ap, ◌∙◌}
+use mathlib.Core.Path.{◌≡◌}
 use Prim.Native.Nat.{◌-◌, ◌≤◌}
-use native.Mathlib.Omega.{arith}
-use borrow.Author.Rules.{rules}
 use lib.ListN.{length}
-use Rattle.text.specs.Kinds.{packed_upto, packed}
-use Rattle.text.proofs.Packed.{packed_none, packed_turn, packed_fits}
+use Rattle.text.specs.Kinds.{packed_upto}
 use Rattle.text.proofs.pack.Given as goal
 
 abbrev pub invariant-loop-i : goal.invariant-loop-i

@@ -2,7 +2,6 @@ use native.Mathlib.Omega.{arith}
 use lib.ListN.{length}
 use Rattle.rules.specs.Event.{ascii, kinds, kind_at}
 use Rattle.text.proofs.Laws.{word_fits, word_is, Passed, last_kind}
-use borrow.Author.Rules.{rules}
 use Rattle.text.proofs.put_word_to_6.Goals as goal
 
 -- `text::put_word_to_6` meets its contract.

@@ -2,7 +2,6 @@ use native.Mathlib.Omega.{arith}
 use Rattle.rules.specs.Event.{ascii, kinds, kind_at}
 use Rattle.text.specs.Table.{shape_of}
 use Rattle.text.proofs.Laws.{row_is, Passed, last_kind}
-use borrow.Author.Rules.{rules}
 use Rattle.text.proofs.shape_of.Goals as goal
 
 -- `text::shape_of` meets its contract.

@@ -1,9 +1,8 @@
-use mathlib.Core.Path.{◌≡◌, refl, sym, ◌∙◌}
-use Prim.Native.Nat.{◌+◌, ◌-◌}
+use mathlib.Core.Path.{refl, sym, ◌∙◌}
+use Prim.Native.Nat.{◌-◌}
 use native.Mathlib.Omega.{arith}
-use lib.ListN.{length}
 use lib.Seq.{length-take-le}
-use Rattle.trace.proofs.Goes.{Going, going_none, going_more, going_left, going_on, going_some, written_fits, on_any}
+use Rattle.trace.proofs.Goes.{going_none, going_more, going_left, going_on, going_some, written_fits, on_any}
 use Rattle.trace.proofs.take_all.Goals as goal
 
 pub loop-read-init : goal.loop-read-init
@@ -45,8 +44,8 @@ returns-in_err-write_all-clause-err g c =
     let l = c.loop-read in
     let p = c.take-taken in
     on_any _ (going_some c.args.trace c.args.room.now c.args.line.now c.args.input.now _ _ _ _
-        (going_more c.args.trace c.args.room.now c.args.line.now c.args.input.now l.room l.line l.now l.read l.invariant.0 l.out p.result
-        p.new.room p.new.line p.new.out p.ensures))
+    (going_more c.args.trace c.args.room.now c.args.line.now c.args.input.now l.room l.line l.now l.read l.invariant.0 l.out p.result
+    p.new.room p.new.line p.new.out p.ensures))
 
 pub returns-clause-ok : goal.returns-clause-ok
 returns-clause-ok g c =

@@ -1,6 +1,5 @@
 use native.Mathlib.Omega.{arith}
 use Rattle.layout.proofs.Bounds.{cells_small, store_small}
-use borrow.Author.Rules.{rules}
 use Rattle.transfer.proofs.cell_at.Goals as goal
 
 pub offset-requires : goal.offset-requires

@@ -1,6 +1,5 @@
 use mathlib.Core.Path.{◌∙◌, sym}
 use Rattle.words.proofs.Laws.{words_at}
-use borrow.Author.Rules.{rules}
 use Rattle.words.proofs.read.Goals as goal
 
 pub returns : goal.returns

@@ -1,7 +1,6 @@
 use mathlib.Core.Path.{◌∙◌, ap}
 use Rattle.words.specs.Words.{words}
 use Rattle.words.proofs.Laws.{store_word}
-use borrow.Author.Rules.{rules}
 use Rattle.words.proofs.write.Goals as goal
 
 pub returns : goal.returns

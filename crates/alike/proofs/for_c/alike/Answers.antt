@@ -1,6 +1,5 @@
 use mathlib.Core.Path.{sym, ap, ◌∙◌}
 use Rattle.alike.specs.Alike.{alike_number}
-use borrow.Author.Rules.{rules}
 use Rattle.alike.proofs.for_c.alike.Goals as goal
 
 -- `alike::for_c::alike` meets its contract.

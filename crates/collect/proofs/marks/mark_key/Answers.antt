@@ -3,7 +3,6 @@ use Prim.Native.Nat.{◌+◌, ◌*◌}
 use native.Mathlib.Omega.{arith}
 use lib.Dec.{eqb}
 use Rattle.collect.proofs.Marking.{lent_log, lent_marks}
-use borrow.Author.Rules.{rules}
 use Rattle.collect.proofs.marks.mark_key.Goals as goal
 
 pub mark_key-requires : goal.mark_key-requires

@@ -4,7 +4,6 @@ use lib.ListN.{length}
 use Rattle.words.specs.Words.{words}
 use Rattle.words.proofs.Laws.{room}
 use Rattle.collect.proofs.Marking.{named_none, named_table}
-use borrow.Author.Rules.{rules}
 use Rattle.collect.proofs.marks.mark_named.Goals as goal
 
 pub returns-then-from-eq0 : goal.returns-then-from-eq0

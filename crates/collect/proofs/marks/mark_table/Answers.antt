@@ -1,5 +1,5 @@
 use mathlib.Core.Path.{◌≡◌, refl, ap, ◌∙◌}
-use Prim.Native.Nat.{ℕ, ◌-◌, ◌≤◌}
+use Prim.Native.Nat.{ℕ, ◌-◌}
 use native.Mathlib.Omega.{arith}
 use lib.ListN.{length, get_or}
 use Rattle.words.specs.Words.{words}
@@ -11,13 +11,12 @@ use borrow.Author.Rules.{rules}
 use Rattle.collect.proofs.marks.mark_table.Goals as goal
 
 pub loop-i-init : goal.loop-i-init
-loop-i-init c =
-    (
-      search rules,
-      refl,
-      rows_start c.args.settings c.args.at (words c.args.store.now) (length c.args.store.now) (room _ _ c.requires.log_in.inside) c.requires.log_in
-          c.args.from c.requires.table_in,
-    )
+loop-i-init c = (
+  search rules,
+  refl,
+  rows_start c.args.settings c.args.at (words c.args.store.now) (length c.args.store.now) (room _ _ c.requires.log_in.inside) c.requires.log_in
+      c.args.from c.requires.table_in,
+)
 
 pub mark_key-requires : goal.mark_key-requires
 mark_key-requires c =
@@ -25,14 +24,13 @@ mark_key-requires c =
     (marks_log c.args.settings c.args.at (words c.args.store.now) (length c.args.store.now) (room _ _ c.requires.log_in.inside) c.requires.log_in _)
 
 pub loop-i-preserved : goal.loop-i-preserved
-loop-i-preserved c =
-    (
-      search rules,
-      search rules,
-      rows_turn c.args.settings c.args.at (words c.args.store.now) (length c.args.store.now) (room _ _ c.requires.log_in.inside) c.requires.log_in
-          c.args.from c.requires.table_in c.loop-i.i _ _ c.read-key.result (omega (arith, c.requires.table_in.few)) c.loop-i.invariant.2 c.read-key.ensures
-          c.mark_key.ensures,
-    )
+loop-i-preserved c = (
+  search rules,
+  search rules,
+  rows_turn c.args.settings c.args.at (words c.args.store.now) (length c.args.store.now) (room _ _ c.requires.log_in.inside) c.requires.log_in
+      c.args.from c.requires.table_in c.loop-i.i _ _ c.read-key.result (omega (arith, c.requires.table_in.few)) c.loop-i.invariant.2 c.read-key.ensures
+      c.mark_key.ensures,
+)
 
 pub returns : goal.returns
 returns c =

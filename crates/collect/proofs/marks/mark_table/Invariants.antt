@@ -1,13 +1,9 @@
-use mathlib.Core.Path.{◌≡◌, refl, ap, ◌∙◌}
-use Prim.Native.Nat.{ℕ, ◌-◌, ◌≤◌}
-use native.Mathlib.Omega.{arith}
-use lib.ListN.{length, get_or}
+use mathlib.Core.Path.{◌≡◌}
+use Prim.Native.Nat.{◌-◌, ◌≤◌}
+use lib.ListN.{length}
 use Rattle.words.specs.Words.{words}
-use Rattle.words.proofs.Laws.{room}
 use Rattle.named.specs.Tables.{names_first}
 use Rattle.collect.specs.Marked.{marks}
-use Rattle.collect.proofs.Marking.{marks_log, rows_start, rows_turn}
-use borrow.Author.Rules.{rules}
 use Rattle.collect.proofs.marks.mark_table.Given as goal
 
 abbrev pub invariant-loop-i : goal.invariant-loop-i

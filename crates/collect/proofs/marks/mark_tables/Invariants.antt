@@ -1,13 +1,9 @@
-use mathlib.Core.Path.{◌≡◌, refl, ap, ◌∙◌}
-use Prim.Native.Nat.{ℕ, ◌-◌, ◌≤◌}
-use native.Mathlib.Omega.{arith}
+use mathlib.Core.Path.{◌≡◌}
+use Prim.Native.Nat.{◌-◌, ◌≤◌}
 use lib.ListN.{length}
 use Rattle.words.specs.Words.{words}
-use Rattle.words.proofs.Laws.{room}
 use Rattle.rules.specs.Limits.{buckets}
 use Rattle.collect.specs.Marked.{marks, named_first}
-use Rattle.collect.proofs.Marking.{marks_log, tables_start, table_still, tables_turn}
-use borrow.Author.Rules.{rules}
 use Rattle.collect.proofs.marks.mark_tables.Given as goal
 
 abbrev pub invariant-loop-bucket : goal.invariant-loop-bucket

@@ -2,7 +2,6 @@ use mathlib.Core.Path.{refl}
 use Prim.Native.Nat.{◌+◌, ◌*◌}
 use native.Mathlib.Omega.{arith}
 use Rattle.collect.proofs.Marking.{lent_log, lent_sweeps}
-use borrow.Author.Rules.{rules}
 use Rattle.collect.proofs.marks.sweep_log.Goals as goal
 
 pub keep_marked-requires : goal.keep_marked-requires

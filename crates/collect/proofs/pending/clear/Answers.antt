@@ -11,7 +11,6 @@ use Rattle.layout.specs.Store.{brick_in, decode}
 use Rattle.lent.specs.Places.{Stands}
 use Rattle.entries.proofs.Sorted.{same_self}
 use Rattle.collect.proofs.Questions.{none_same}
-use borrow.Author.Rules.{rules}
 use Rattle.collect.proofs.pending.clear.Goals as goal
 
 pub memory-requires : goal.memory-requires

@@ -5,7 +5,6 @@ use Rattle.layout.specs.Contents.{Agreed}
 use Rattle.layout.specs.Store.{decode}
 use Rattle.collect.proofs.SameCopies.{not_ready, not_settled_primary, not_settled_backup, nothing_pending_last}
 use Rattle.collect.proofs.Collecting.{bucket_tables}
-use borrow.Author.Rules.{rules}
 use Rattle.collect.proofs.pending.nothing_pending.Goals as goal
 
 pub returns-then-not-agreed : goal.returns-then-not-agreed

@@ -6,7 +6,6 @@ use Rattle.layout.specs.Contents.{Brick, blank_brick}
 use Rattle.layout.specs.Store.{brick_in, decode}
 use Rattle.lent.specs.Places.{Stands}
 use Rattle.collect.proofs.Questions.{same_none, lent_same}
-use borrow.Author.Rules.{rules}
 use Rattle.collect.proofs.pending.same_memory.Goals as goal
 
 pub returns-in_default : goal.returns-in_default

@@ -8,7 +8,6 @@ use Rattle.layout.specs.Store.{brick_in, decode}
 use Rattle.lent.specs.Places.{Stands}
 use Rattle.entries.proofs.Sorted.{same_self}
 use Rattle.collect.proofs.Questions.{lent_same}
-use borrow.Author.Rules.{rules}
 use Rattle.collect.proofs.pending.settled.Goals as goal
 
 pub memory-requires : goal.memory-requires

@@ -1,6 +1,5 @@
 use native.Mathlib.Omega.{arith}
 use Rattle.rules.proofs.Limits.{few_buckets}
-use borrow.Author.Rules.{rules}
 use Rattle.layout.proofs.sizes.agreed_at.Goals as goal
 
 pub overflow_mul-result : goal.overflow_mul-result

@@ -1,7 +1,6 @@
 use Prim.Native.Nat.{◌*◌, ◌^◌, ◌≤◌}
 use native.Mathlib.Omega.{arith}
 use Rattle.layout.proofs.Bounds.{copies_small}
-use borrow.Author.Rules.{rules}
 use Rattle.layout.proofs.sizes.log_at.Goals as goal
 
 small : (c : goal.After-copies_words) → c.buckets.result * c.copies_words.result ≤ 2 ^ 19

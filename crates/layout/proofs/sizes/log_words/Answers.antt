@@ -1,6 +1,5 @@
 use native.Mathlib.Omega.{arith}
 use Rattle.layout.proofs.Bounds.{cells_small}
-use borrow.Author.Rules.{rules}
 use Rattle.layout.proofs.sizes.log_words.Goals as goal
 
 pub overflow_mul-result-2 : goal.overflow_mul-result-2

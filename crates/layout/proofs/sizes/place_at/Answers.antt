@@ -5,7 +5,6 @@ use Rattle.lists.proofs.Runs.{fits_in}
 use Rattle.rules.proofs.Limits.{few_buckets}
 use Rattle.layout.specs.Layout.{place_words}
 use Rattle.layout.proofs.Bounds.{places_small}
-use borrow.Author.Rules.{rules}
 use Rattle.layout.proofs.sizes.place_at.Goals as goal
 
 pub offset-requires : goal.offset-requires

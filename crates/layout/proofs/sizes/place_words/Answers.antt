@@ -1,6 +1,5 @@
 use native.Mathlib.Omega.{arith}
 use Rattle.layout.proofs.Bounds.{place_small}
-use borrow.Author.Rules.{rules}
 use Rattle.layout.proofs.sizes.place_words.Goals as goal
 
 pub overflow_add-result : goal.overflow_add-result

@@ -1,6 +1,5 @@
 use native.Mathlib.Omega.{arith}
 use Rattle.rules.proofs.Limits.{few_buckets}
-use borrow.Author.Rules.{rules}
 use Rattle.layout.proofs.sizes.proxy_at.Goals as goal
 
 pub overflow_add-result : goal.overflow_add-result

@@ -1,6 +1,5 @@
 use native.Mathlib.Omega.{arith}
 use Rattle.layout.proofs.Bounds.{store_small}
-use borrow.Author.Rules.{rules}
 use Rattle.layout.proofs.sizes.store_bytes.Goals as goal
 
 pub overflow_mul-result : goal.overflow_mul-result

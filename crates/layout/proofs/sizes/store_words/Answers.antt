@@ -2,7 +2,6 @@ use mathlib.Core.Path.{ap}
 use Prim.Native.Nat.{ℕ, ◌*◌}
 use native.Mathlib.Omega.{arith}
 use Rattle.layout.proofs.Bounds.{places_small, store_small}
-use borrow.Author.Rules.{rules}
 use Rattle.layout.proofs.sizes.store_words.Goals as goal
 
 pub overflow_mul-result : goal.overflow_mul-result

@@ -1,5 +1,4 @@
 use mathlib.Core.Path.{◌≡◌, sym, ap, ◌∙◌}
-use borrow.Author.Rules.{rules}
 use Rattle.lists.specs.Tests.{◌and◌}
 use Rattle.rules.specs.Derived.{up_member}
 use Rattle.words.specs.Words.{words}

@@ -1,8 +1,5 @@
-use mathlib.Core.Path.{◌≡◌, sym, ◌∙◌}
-use Prim.Native.Nat.{ℕ, ◌-◌, ◌≤◌, ◌<◌}
+use mathlib.Core.Path.{sym, ◌∙◌}
 use native.Mathlib.Omega.{arith}
-use Rattle.words.specs.Words.{words}
-use Rattle.layout.specs.Store.{decode}
 use borrow.Author.Count.{below_more}
 use borrow.Author.Rules.{rules}
 use Rattle.lent.proofs.Places.{nowhere}
@@ -24,11 +21,10 @@ returns-then-id c =
     }
 
 pub loop-p-preserved : goal.loop-p-preserved
-loop-p-preserved c =
-    (
-      search rules,
-      below_more _ c.loop-p.p c.loop-p.invariant.1 (λ e. c.if-id.false (c.id.ensures ∙ e)),
-    )
+loop-p-preserved c = (
+  search rules,
+  below_more _ c.loop-p.p c.loop-p.invariant.1 (λ e. c.if-id.false (c.id.ensures ∙ e)),
+)
 
 pub returns : goal.returns
 returns c =

@@ -1,11 +1,7 @@
-use mathlib.Core.Path.{◌≡◌, sym, ◌∙◌}
+use mathlib.Core.Path.{◌≡◌}
 use Prim.Native.Nat.{ℕ, ◌-◌, ◌≤◌, ◌<◌}
-use native.Mathlib.Omega.{arith}
 use Rattle.words.specs.Words.{words}
 use Rattle.layout.specs.Store.{decode}
-use borrow.Author.Count.{below_more}
-use borrow.Author.Rules.{rules}
-use Rattle.lent.proofs.Places.{nowhere}
 use Rattle.lent.proofs.brick.place_of.Given as goal
 
 abbrev pub invariant-loop-p : goal.invariant-loop-p

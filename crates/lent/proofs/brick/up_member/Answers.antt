@@ -5,7 +5,6 @@ use Rattle.rules.specs.Derived.{up_member}
 use Rattle.layout.specs.Contents.{Brick, blank_brick}
 use Rattle.layout.specs.Store.{brick_in, decode}
 use Rattle.lent.specs.Places.{Stands}
-use borrow.Author.Rules.{rules}
 use Rattle.lent.proofs.brick.up_member.Goals as goal
 
 pub up_member-requires : goal.up_member-requires

@@ -4,7 +4,6 @@ use native.Mathlib.Omega.{arith}
 use Rattle.layout.specs.Layout.{agreed_codec, agreed_at, agreed_words}
 use Rattle.layout.proofs.Lent.{lent}
 use Rattle.lent.proofs.Buckets.{agreed_is}
-use borrow.Author.Rules.{rules}
 use Rattle.lent.proofs.bucket.agreed.Goals as goal
 
 pub returns : goal.returns

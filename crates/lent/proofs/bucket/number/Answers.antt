@@ -1,6 +1,5 @@
 use native.Mathlib.Omega.{arith}
 use Rattle.rules.proofs.Derived.{bucket_below}
-use borrow.Author.Rules.{rules}
 use Rattle.lent.proofs.bucket.number.Goals as goal
 
 pub returns : goal.returns

@@ -3,7 +3,6 @@ use native.Mathlib.Omega.{arith}
 use Rattle.words.proofs.Laws.{lent_run}
 use Rattle.layout.specs.Layout.{agreed_codec, agreed_at, agreed_words}
 use Rattle.records.specs.Records.{agreed_of}
-use borrow.Author.Rules.{rules}
 use Rattle.lent.proofs.bucket.write.Goals as goal
 
 pub returns : goal.returns

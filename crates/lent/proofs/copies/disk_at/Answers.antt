@@ -1,5 +1,4 @@
 use native.Mathlib.Omega.{arith}
-use borrow.Author.Rules.{rules}
 use Rattle.layout.proofs.Bounds.{store_small}
 use Rattle.lent.proofs.copies.disk_at.Goals as goal
 

@@ -1,13 +1,11 @@
 use mathlib.Core.Path.{◌≡◌, ap, ap₂, ◌∙◌}
-use Prim.Native.Nat.{ℕ, ◌+◌, ◌*◌, ◌-◌, ◌≤◌}
+use Prim.Native.Nat.{ℕ, ◌+◌, ◌*◌, ◌-◌}
 use native.Mathlib.Omega.{arith}
 use lib.ListN.{length}
 use Rattle.words.specs.Words.{words}
 use Rattle.words.proofs.Laws.{length_words}
-use Rattle.codec.proofs.Loops.{written}
 use Rattle.rules.specs.Limits.{buckets}
-use Rattle.layout.specs.Layout.{copies_codec, copies_words}
-use Rattle.lent.proofs.MatchedCopies.{to_match, match_start, match_end, match_fit, match_turn}
+use Rattle.lent.proofs.MatchedCopies.{match_start, match_end, match_fit, match_turn}
 use borrow.Author.Rules.{rules}
 use Rattle.lent.proofs.copies.match_all.Goals as goal
 

@@ -9,7 +9,6 @@ use Rattle.layout.specs.Layout.{copies_codec}
 use Rattle.entries.specs.Entries.{copied_entries}
 use Rattle.lent.specs.Parts.{matched}
 use Rattle.lent.proofs.MatchedCopies.{copy_saved, copy_restored}
-use borrow.Author.Rules.{rules}
 use Rattle.lent.proofs.copies.match_two.Goals as goal
 
 pub returns-then-saving : goal.returns-then-saving

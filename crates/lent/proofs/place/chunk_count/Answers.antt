@@ -5,7 +5,6 @@ use lib.ListN.{length}
 use Rattle.words.specs.Words.{words}
 use Rattle.words.proofs.Laws.{length_words}
 use Rattle.chunk_log.proofs.Codec.{dec_length}
-use borrow.Author.Rules.{rules}
 use Rattle.lent.proofs.place.chunk_count.Goals as goal
 
 pub returns : goal.returns

@@ -1,6 +1,5 @@
 use native.Mathlib.Omega.{arith}
 use Rattle.layout.proofs.Bounds.{copies_small}
-use borrow.Author.Rules.{rules}
 use Rattle.lent.proofs.place.disk_at.Goals as goal
 
 pub overflow_add-result : goal.overflow_add-result

@@ -1,6 +1,5 @@
 use mathlib.Core.Path.{sym, ◌∙◌}
 use Rattle.lent.proofs.Places.{id_is}
-use borrow.Author.Rules.{rules}
 use Rattle.lent.proofs.place.id.Goals as goal
 
 pub returns : goal.returns

@@ -1,7 +1,6 @@
 use mathlib.Core.Path.{sym, ap, ◌∙◌}
 use Rattle.layout.specs.Contents.{Status, Brick}
 use Rattle.lent.proofs.Places.{zero_blank}
-use borrow.Author.Rules.{rules}
 use Rattle.lent.proofs.place.is_up.Goals as goal
 
 pub returns-then-id-eq0 : goal.returns-then-id-eq0

@@ -4,7 +4,6 @@ use native.Mathlib.Omega.{arith}
 use Rattle.lists.proofs.Runs.{fits_in}
 use Rattle.layout.specs.Layout.{copies_words}
 use Rattle.layout.proofs.Bounds.{place_small}
-use borrow.Author.Rules.{rules}
 use Rattle.lent.proofs.place.memory_at.Goals as goal
 
 -- the copies of all buckets are few words
@@ -18,7 +17,7 @@ offset-requires c = (omega arith, omega (arith, small c))
 pub overflow_add-result : goal.overflow_add-result
 overflow_add-result c =
     let small : c.buckets.result * c.copies_words.result < 2 ^ 27 = rw (c.buckets.ensures, c.copies_words.ensures) (omega (arith, place_small c.args.settings c.requires.0)) in
- omega (arith, small)
+    omega (arith, small)
 
 pub returns : goal.returns
 returns c =

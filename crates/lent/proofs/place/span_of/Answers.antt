@@ -1,6 +1,5 @@
 use native.Mathlib.Omega.{arith}
 use Rattle.layout.proofs.Bounds.{store_small}
-use borrow.Author.Rules.{rules}
 use Rattle.lent.proofs.place.span_of.Goals as goal
 
 pub overflow_mul-from : goal.overflow_mul-from

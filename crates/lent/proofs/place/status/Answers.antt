@@ -1,7 +1,6 @@
 use mathlib.Core.Path.{sym, ap, ◌∙◌}
 use Rattle.layout.specs.Contents.{Place}
 use Rattle.lent.proofs.Places.{place_is, id_is}
-use borrow.Author.Rules.{rules}
 use Rattle.lent.proofs.place.status.Goals as goal
 
 pub read_status-requires : goal.read_status-requires

@@ -1,6 +1,5 @@
 use mathlib.Core.Path.{◌∙◌}
 use Rattle.lent.proofs.Places.{member_up}
-use borrow.Author.Rules.{rules}
 use Rattle.lent.proofs.place.up_member.Goals as goal
 
 pub returns : goal.returns

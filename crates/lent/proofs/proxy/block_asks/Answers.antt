@@ -1,6 +1,5 @@
 use mathlib.Core.Path.{sym, ◌∙◌}
 use Rattle.lent.proofs.Proxies.{no_proxy, no_block, is_own, not_own}
-use borrow.Author.Rules.{rules}
 use Rattle.lent.proofs.proxy.block_asks.Goals as goal
 
 pub returns-then-proxy : goal.returns-then-proxy

@@ -1,7 +1,6 @@
 use mathlib.Core.Path.{ap, ◌∙◌}
 use mathlib.Core.List.{List}
 use Rattle.rules.specs.Entries.{Entry, has}
-use borrow.Author.Rules.{rules}
 use Rattle.lent.proofs.proxy.has_item.Goals as goal
 
 pub has-requires : goal.has-requires

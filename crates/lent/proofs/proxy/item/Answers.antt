@@ -1,7 +1,6 @@
 use mathlib.Core.Path.{ap, ◌∙◌}
 use mathlib.Core.List.{List}
 use Rattle.rules.specs.Entries.{Entry, key_for}
-use borrow.Author.Rules.{rules}
 use Rattle.lent.proofs.proxy.item.Goals as goal
 
 pub key_for-requires : goal.key_for-requires

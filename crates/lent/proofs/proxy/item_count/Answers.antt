@@ -4,7 +4,6 @@ use Rattle.words.specs.Words.{words}
 use Rattle.rules.specs.Limits.{max_items}
 use Rattle.layout.specs.Contents.{entry_row}
 use Rattle.entries.proofs.Tables.{count_is}
-use borrow.Author.Rules.{rules}
 use Rattle.lent.proofs.proxy.item_count.Goals as goal
 
 pub returns : goal.returns

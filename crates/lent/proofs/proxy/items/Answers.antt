@@ -1,7 +1,6 @@
 use Prim.Native.Nat.{◌+◌, ◌*◌}
 use native.Mathlib.Omega.{arith}
 use Rattle.lent.proofs.Proxies.{items_part}
-use borrow.Author.Rules.{rules}
 use Rattle.lent.proofs.proxy.items.Goals as goal
 
 pub returns : goal.returns

@@ -1,6 +1,5 @@
 use native.Mathlib.Omega.{arith}
 use Rattle.layout.proofs.Bounds.{store_small}
-use borrow.Author.Rules.{rules}
 use Rattle.lent.proofs.proxy.items_at.Goals as goal
 
 pub overflow_add-result : goal.overflow_add-result

@@ -5,7 +5,6 @@ use Rattle.words.specs.Words.{words}
 use Rattle.layout.specs.Layout.{proxy_at}
 use Rattle.layout.proofs.Parts.{view_read}
 use Rattle.lent.proofs.Proxies.{known_read}
-use borrow.Author.Rules.{rules}
 use Rattle.lent.proofs.proxy.knows_view.Goals as goal
 
 pub returns : goal.returns

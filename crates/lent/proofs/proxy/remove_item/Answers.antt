@@ -1,7 +1,6 @@
 use Prim.Native.Nat.{◌+◌, ◌*◌}
 use native.Mathlib.Omega.{arith}
 use Rattle.lent.proofs.Proxies.{items_part, item_gone}
-use borrow.Author.Rules.{rules}
 use Rattle.lent.proofs.proxy.remove_item.Goals as goal
 
 pub remove-requires : goal.remove-requires

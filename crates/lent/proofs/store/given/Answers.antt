@@ -1,7 +1,6 @@
 use mathlib.Core.Path.{sym, ◌∙◌}
 use Rattle.words.specs.Words.{words}
 use Rattle.layout.proofs.Parts.{given_read}
-use borrow.Author.Rules.{rules}
 use Rattle.lent.proofs.store.given.Goals as goal
 
 pub returns : goal.returns

@@ -1,6 +1,5 @@
 use mathlib.Core.Path.{sym, ◌∙◌}
 use Rattle.lent.proofs.Stores.{bag_count}
-use borrow.Author.Rules.{rules}
 use Rattle.lent.proofs.store.relay_count.Goals as goal
 
 pub returns : goal.returns

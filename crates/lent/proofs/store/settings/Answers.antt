@@ -1,7 +1,6 @@
 use mathlib.Core.Path.{sym}
 use Rattle.words.specs.Words.{words}
 use Rattle.layout.proofs.Parts.{settings_are}
-use borrow.Author.Rules.{rules}
 use Rattle.lent.proofs.Stores.{store_of}
 use Rattle.lent.proofs.store.settings.Goals as goal
 

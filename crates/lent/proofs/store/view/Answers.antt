@@ -1,7 +1,6 @@
 use mathlib.Core.Path.{sym, ◌∙◌}
 use Rattle.words.specs.Words.{words}
 use Rattle.layout.proofs.Parts.{view_read}
-use borrow.Author.Rules.{rules}
 use Rattle.lent.proofs.store.view.Goals as goal
 
 pub returns : goal.returns

@@ -4,7 +4,6 @@ use Rattle.lists.specs.Tests.{◌and◌}
 use Rattle.rules.proofs.Questions.{first_yes, first_stop, none_asked, stops_there, goes_on}
 use Rattle.lent.specs.Asks.{block_asks}
 use Rattle.lent.proofs.Proxies.{block_yes}
-use borrow.Author.Rules.{rules}
 use Rattle.mappings.proofs.asks.access_asks.Goals as goal
 
 pub returns-then-no-ne0 : goal.returns-then-no-ne0

@@ -5,7 +5,6 @@ use Rattle.words.specs.Words.{words}
 use Rattle.rules.proofs.Questions.{first_yes, first_stop, stops_there, goes_on}
 use Rattle.layout.specs.Store.{decode}
 use Rattle.mappings.specs.Asks.{access_asks}
-use borrow.Author.Rules.{rules}
 use Rattle.mappings.proofs.asks.served_asks.Goals as goal
 
 pub returns-then-no-ne0 : goal.returns-then-no-ne0

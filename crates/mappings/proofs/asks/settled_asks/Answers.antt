@@ -1,7 +1,6 @@
 use mathlib.Core.Path.{sym, ap, ◌∙◌}
 use mathlib.Core.Bool.{not}
 use Rattle.rules.proofs.Questions.{first_yes, first_stop, none_asked}
-use borrow.Author.Rules.{rules}
 use Rattle.mappings.proofs.asks.settled_asks.Goals as goal
 
 pub returns-then-pending : goal.returns-then-pending

@@ -2,7 +2,6 @@ use mathlib.Core.Path.{sym}
 use Rattle.words.specs.Words.{words}
 use Rattle.layout.specs.Store.{decode}
 use Rattle.mappings.proofs.Agreement.{disk_differs, memory_differs, last_decides}
-use borrow.Author.Rules.{rules}
 use Rattle.mappings.proofs.block.agree.Goals as goal
 
 pub returns-then-on_disk-key : goal.returns-then-on_disk-key

@@ -3,7 +3,6 @@ use Prim.Native.Nat.{ℕ}
 use Rattle.words.specs.Words.{words}
 use Rattle.layout.specs.Store.{agreed_in, decode}
 use Rattle.lent.proofs.Buckets.{number_is}
-use borrow.Author.Rules.{rules}
 use Rattle.mappings.proofs.block.agreed.Goals as goal
 
 pub returns : goal.returns

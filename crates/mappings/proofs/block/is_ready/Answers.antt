@@ -1,6 +1,5 @@
 use mathlib.Core.Path.{ap}
 use Rattle.layout.specs.Contents.{Agreed}
-use borrow.Author.Rules.{rules}
 use Rattle.mappings.proofs.block.is_ready.Goals as goal
 
 pub returns : goal.returns

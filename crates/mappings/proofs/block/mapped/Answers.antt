@@ -5,7 +5,6 @@ use Rattle.rules.specs.Entries.{key_for}
 use Rattle.layout.specs.Contents.{Agreed}
 use Rattle.layout.specs.Store.{decode}
 use Rattle.lent.proofs.Buckets.{number_is}
-use borrow.Author.Rules.{rules}
 use Rattle.mappings.proofs.block.mapped.Goals as goal
 
 pub returns : goal.returns

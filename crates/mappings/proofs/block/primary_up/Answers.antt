@@ -3,7 +3,6 @@ use Rattle.words.specs.Words.{words}
 use Rattle.rules.specs.Derived.{up_member}
 use Rattle.layout.specs.Contents.{Agreed}
 use Rattle.layout.specs.Store.{decode}
-use borrow.Author.Rules.{rules}
 use Rattle.mappings.proofs.block.primary_up.Goals as goal
 
 pub returns : goal.returns

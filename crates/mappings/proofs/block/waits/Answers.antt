@@ -3,7 +3,6 @@ use Rattle.words.specs.Words.{words}
 use Rattle.rules.specs.Entries.{has}
 use Rattle.layout.specs.Contents.{Agreed}
 use Rattle.layout.specs.Store.{decode}
-use borrow.Author.Rules.{rules}
 use Rattle.mappings.proofs.block.waits.Goals as goal
 
 pub returns : goal.returns

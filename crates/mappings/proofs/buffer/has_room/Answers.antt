@@ -9,7 +9,6 @@ use Rattle.layout.specs.Contents.{Brick, blank_brick, entry_row}
 use Rattle.layout.specs.Store.{brick_in, decode}
 use Rattle.lent.specs.Places.{Stands}
 use Rattle.entries.proofs.Tables.{count_is}
-use borrow.Author.Rules.{rules}
 use Rattle.mappings.proofs.buffer.has_room.Goals as goal
 
 pub buffer-requires : goal.buffer-requires

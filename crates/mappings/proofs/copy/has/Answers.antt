@@ -8,7 +8,6 @@ use Rattle.rules.specs.Entries.{Entry, has}
 use Rattle.layout.specs.Contents.{Brick, blank_brick}
 use Rattle.layout.specs.Store.{brick_in, decode}
 use Rattle.lent.specs.Places.{Stands}
-use borrow.Author.Rules.{rules}
 use Rattle.mappings.proofs.copy.has.Goals as goal
 
 pub memory-requires : goal.memory-requires

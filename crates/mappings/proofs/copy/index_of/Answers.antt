@@ -2,7 +2,6 @@ use native.Mathlib.Omega.{arith}
 use Rattle.words.specs.Words.{words}
 use Rattle.layout.specs.Store.{decode}
 use Rattle.lent.specs.Places.{Stands}
-use borrow.Author.Rules.{rules}
 use Rattle.mappings.proofs.copy.index_of.Goals as goal
 
 pub memory-requires : goal.memory-requires

@@ -5,7 +5,6 @@ use Prim.Native.Nat.{◌+◌, ◌*◌, ◌-◌}
 use Rattle.lists.proofs.Runs.{run_length}
 use Rattle.rules.specs.Entries.{Entry, takes}
 use Rattle.mappings.proofs.Entering.{memory_lent, entered}
-use borrow.Author.Rules.{rules}
 use Rattle.mappings.proofs.copy.insert.Goals as goal
 
 pub insert-requires : goal.insert-requires

@@ -7,7 +7,6 @@ use Rattle.rules.specs.Entries.{Entry, key_for}
 use Rattle.layout.specs.Contents.{Brick, blank_brick}
 use Rattle.layout.specs.Store.{brick_in, decode}
 use Rattle.lent.specs.Places.{Stands}
-use borrow.Author.Rules.{rules}
 use Rattle.mappings.proofs.copy.on_disk.Goals as goal
 
 pub disk-requires : goal.disk-requires

@@ -9,7 +9,6 @@ use Rattle.rules.specs.Entries.{Entry, has, takes}
 use Rattle.layout.specs.Contents.{Brick, blank_brick}
 use Rattle.layout.specs.Store.{brick_in, decode}
 use Rattle.lent.specs.Places.{Stands}
-use borrow.Author.Rules.{rules}
 use Rattle.mappings.proofs.copy.takes.Goals as goal
 
 pub memory-requires : goal.memory-requires

@@ -8,7 +8,6 @@ use Rattle.rules.proofs.Questions.{first_yes, first_stop, none_asked, stops_ther
 use Rattle.layout.specs.Store.{decode}
 use Rattle.mappings.specs.Asks.{access_asks, served_asks}
 use Rattle.mappings.proofs.Asking.{access_yes}
-use borrow.Author.Rules.{rules}
 use Rattle.maps.proofs.done.asks.Goals as goal
 
 -- the proxy is one
@@ -36,7 +35,7 @@ item-key-requires c =
     let is_proxy : c.args.proxy < proxies = let s = decode (words c.args.store.now) in
     (access_yes s c.args.proxy c.args.block (front_none (access_asks s c.args.proxy c.args.block) _
     (sym c.served_asks-no.ensures ∙ c.if-no-ne0.false))).block.proxy in
- (c.requires, is_proxy)
+    (c.requires, is_proxy)
 
 pub returns-then-mapped-key : goal.returns-then-mapped-key
 unfolding ◌and◌

@@ -7,7 +7,6 @@ use Rattle.rules.specs.Event.{Event}
 use Rattle.rules.specs.Step.{rule}
 use Rattle.layout.specs.Store.{decode}
 use Rattle.lent.proofs.Performs.{refused, accepted}
-use borrow.Author.Rules.{rules}
 use Rattle.maps.proofs.done.done.Goals as goal
 
 pub returns-then-no-ne0 : goal.returns-then-no-ne0

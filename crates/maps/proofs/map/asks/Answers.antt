@@ -5,7 +5,6 @@ use Rattle.rules.proofs.Questions.{stops_there, goes_on}
 use Rattle.layout.specs.Store.{decode}
 use Rattle.mappings.specs.Asks.{access_asks, settled_asks}
 use Rattle.mappings.proofs.Asking.{access_yes}
-use borrow.Author.Rules.{rules}
 use Rattle.maps.proofs.map.asks.Goals as goal
 
 pub returns-then-no-ne0 : goal.returns-then-no-ne0

@@ -8,14 +8,12 @@ use Rattle.records.specs.Records.{agreed_of}
 use Rattle.lent.specs.Places.{Stands}
 use Rattle.mappings.proofs.Buckets.{InBucket, in_bucket}
 use Rattle.maps.proofs.Mapping.{primary_stands, copy_takes, buffer_takes, mapped_entry, mapped_waiting}
-use borrow.Author.Rules.{rules}
 use Rattle.maps.proofs.map.enter.Goals as goal
 
 pub returns-in_default : goal.returns-in_default
 returns-in_default c =
     let read : InBucket (decode (words c.args.store.now)) c.args.settings.entries c.args.block.0 c.number-bucket.result
     (agreed_of c.agreed-agreed.result) = in_bucket c.args.settings c.args.store.now c.requires.0 c.args.block.0 _ c.number-bucket.ensures.0 _ c.agreed-agreed.ensures in
-
     let h : brick_in (decode (words c.args.store.now)) c.agreed-agreed.result.primary ≡ blank_brick =
     rw c.in_default.is at c.place_of.ensures in
     absurd (primary_stands _ _ c.requires.2 _ _ _ (read) h)
@@ -25,7 +23,6 @@ insert-requires c =
     let read : InBucket (decode (words c.args.store.now)) c.args.settings.entries c.args.block.0 c.number-bucket.result
     (agreed_of c.agreed-agreed.result) = in_bucket c.args.settings c.args.store.now c.requires.0 c.args.block.0 _ c.number-bucket.ensures.0 _ c.agreed-agreed.ensures in
     let stands : Stands c.args.settings (decode (words c.args.store.now)) c.agreed-agreed.result.primary c.in-At.place = rw c.in-At.is at c.place_of.ensures in
-
     let h = stands in
     let k = read in
     (c.requires.0, h.inside, c.number-bucket.ensures.1, omega (arith, h.some, h.here), copy_takes _ _ c.requires.2 _ _ _ k _ h.here c.if-agreed.true)
@@ -35,7 +32,6 @@ returns-then-agreed c =
     let read : InBucket (decode (words c.args.store.now)) c.args.settings.entries c.args.block.0 c.number-bucket.result
     (agreed_of c.agreed-agreed.result) = in_bucket c.args.settings c.args.store.now c.requires.0 c.args.block.0 _ c.number-bucket.ensures.0 _ c.agreed-agreed.ensures in
     let stands : Stands c.args.settings (decode (words c.args.store.now)) c.agreed-agreed.result.primary c.in-At.place = rw c.in-At.is at c.place_of.ensures in
-
     let item = c.item-key in
     c.insert.ensures
     ∙ ap (λ (t : State). render t (words c.args.store.now))
@@ -46,7 +42,6 @@ append-requires c =
     let read : InBucket (decode (words c.args.store.now)) c.args.settings.entries c.args.block.0 c.number-bucket.result
     (agreed_of c.agreed-agreed.result) = in_bucket c.args.settings c.args.store.now c.requires.0 c.args.block.0 _ c.number-bucket.ensures.0 _ c.agreed-agreed.ensures in
     let stands : Stands c.args.settings (decode (words c.args.store.now)) c.agreed-agreed.result.primary c.in-At.place = rw c.in-At.is at c.place_of.ensures in
-
     let h = stands in
     (c.requires.0, h.inside, omega (arith, h.some, h.here), buffer_takes _ _ c.requires.2 _ _ _ (read) _ h.here c.if-agreed.false)
 
@@ -55,7 +50,6 @@ returns c =
     let read : InBucket (decode (words c.args.store.now)) c.args.settings.entries c.args.block.0 c.number-bucket.result
     (agreed_of c.agreed-agreed.result) = in_bucket c.args.settings c.args.store.now c.requires.0 c.args.block.0 _ c.number-bucket.ensures.0 _ c.agreed-agreed.ensures in
     let stands : Stands c.args.settings (decode (words c.args.store.now)) c.agreed-agreed.result.primary c.in-At.place = rw c.in-At.is at c.place_of.ensures in
-
     let item = c.item-key in
     c.append.ensures
     ∙ ap (λ (t : State). render t (words c.args.store.now))

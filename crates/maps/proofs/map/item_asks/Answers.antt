@@ -9,7 +9,6 @@ use Rattle.rules.specs.Question.{◌asks◌, first_no}
 use Rattle.rules.proofs.Questions.{first_yes, first_stop, none_asked, stops_there, goes_on}
 use Rattle.layout.specs.Store.{decode}
 use Rattle.maps.specs.Asks.{room_asks, item_asks}
-use borrow.Author.Rules.{rules}
 use Rattle.maps.proofs.map.item_asks.Goals as goal
 
 pub returns-then-not-has_item : goal.returns-then-not-has_item
@@ -30,7 +29,7 @@ returns-then-saved_twice c =
     goes_on (room_asks state c.args.block.0) _ refl c.room_asks-no.ensures c.if-no-ne0.false
     (e ∙ ap (λ y. first_no ((11 asks y) ∷ [])) (c.saved_twice.ensures ∙ ap (saved_twice state) c.item.ensures))
     ∙ sym (first_yes 9 _ (sym c.has_item.ensures ∙ not-false _ c.if-not-has_item.false-raw)) in
- decides 0 (sym (first_yes 11 [] c.if-saved_twice.true ∙ none_asked))
+    decides 0 (sym (first_yes 11 [] c.if-saved_twice.true ∙ none_asked))
 
 pub returns : goal.returns
 unfolding ◌and◌
@@ -40,4 +39,4 @@ returns c =
     goes_on (room_asks state c.args.block.0) _ refl c.room_asks-no.ensures c.if-no-ne0.false
     (e ∙ ap (λ y. first_no ((11 asks y) ∷ [])) (c.saved_twice.ensures ∙ ap (saved_twice state) c.item.ensures))
     ∙ sym (first_yes 9 _ (sym c.has_item.ensures ∙ not-false _ c.if-not-has_item.false-raw)) in
- decides 11 (sym (first_stop 11 [] c.if-saved_twice.false))
+    decides 11 (sym (first_stop 11 [] c.if-saved_twice.false))

@@ -2,7 +2,6 @@ use Prim.Native.Nat.{◌*◌}
 use native.Mathlib.Omega.{arith}
 use Rattle.layout.proofs.Bounds.{place_small}
 use Rattle.maps.proofs.Saving.{copies_lent, copies_saved}
-use borrow.Author.Rules.{rules}
 use Rattle.maps.proofs.savemap.save_place.Goals as goal
 
 pub overflow_mul-end : goal.overflow_mul-end

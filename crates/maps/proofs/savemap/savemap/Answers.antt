@@ -8,7 +8,6 @@ use Rattle.lent.proofs.LentPlace.{LentPlace, lent_place, part_inside, part_fille
 use Rattle.lent.proofs.Performs.{refused, accepted}
 use Rattle.lent.proofs.Places.{UpPlace, place_yes}
 use Rattle.maps.proofs.Saving.{saved_place}
-use borrow.Author.Rules.{rules}
 use Rattle.maps.proofs.savemap.savemap.Goals as goal
 
 -- the place is there, and its bytes are known
@@ -35,14 +34,13 @@ pub save_place-requires : goal.save_place-requires
 save_place-requires c =
     let up : UpPlace c.args.settings (decode (words c.args.store.now)) c.args.place = place_yes c.args.settings c.args.store.now c.requires c.args.place (sym c.asks-no.ensures ∙ c.if-no-ne0.false) in
     let lent : LentPlace c.args.store.now c.args.settings c.args.place c.span_of-span.result.from c.span_of-span.result.to = lent_place c.requires c.span_of-span.ensures (up).inside in
- part_brick (lent) (up).filled
+    part_brick (lent) (up).filled
 
 pub returns : goal.returns
 unfolding rule savemap_effect
 returns c =
     let up : UpPlace c.args.settings (decode (words c.args.store.now)) c.args.place = place_yes c.args.settings c.args.store.now c.requires c.args.place (sym c.asks-no.ensures ∙ c.if-no-ne0.false) in
     let lent : LentPlace c.args.store.now c.args.settings c.args.place c.span_of-span.result.from c.span_of-span.result.to = lent_place c.requires c.span_of-span.ensures (up).inside in
-
     let l = lent in
     let save = c.save_place in
     accepted (Event.savemap c.args.place) (words c.args.store.now) _ (sym c.asks-no.ensures ∙ c.if-no-ne0.false)

@@ -18,11 +18,9 @@ is_up-requires c =
 pub returns-then-is_up : goal.returns-then-is_up
 returns-then-is_up c =
     let is-there : is_place (decode (words c.args.store.now)) c.args.place ≡ true = is_place_yes c.args.settings c.args.store.now c.requires c.args.place (omega arith) in
-
     sym (first_yes 3 _ (is-there) ∙ first_yes 13 _ (sym c.is_up.ensures ∙ c.if-is_up.true) ∙ none_asked)
 
 pub returns : goal.returns
 returns c =
     let is-there : is_place (decode (words c.args.store.now)) c.args.place ≡ true = is_place_yes c.args.settings c.args.store.now c.requires c.args.place (omega arith) in
-
     sym (first_yes 3 _ (is-there) ∙ first_stop 13 _ (sym c.is_up.ensures ∙ c.if-is_up.false))

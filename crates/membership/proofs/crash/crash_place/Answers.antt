@@ -15,7 +15,6 @@ use Rattle.lent.specs.Parts.{all_matched}
 use Rattle.lent.proofs.PlaceSteps.{all_copies_of, copies_fit, log_fits, step_changed}
 use Rattle.membership.specs.Places.{fallen, restored, crashed}
 use Rattle.membership.proofs.CrashSteps.{down, unbuffered, buffer_step}
-use borrow.Author.Rules.{rules}
 use Rattle.membership.proofs.crash.crash_place.Goals as goal
 
 -- bytes v are the part with its place changed by f
@@ -37,7 +36,6 @@ match_all-requires c =
       same = c.write.ensures ∙ buffer_step c.args.settings c.args.part.now c.requires _ (one).same;
       long = omega (arith, c.part-2-1.given, (one).long);
     } in
-
     let before = two in
     copies_fit c.args.settings c.args.part.now c.requires _ _ before.same before.long (8 * all_copies_at) (log_from) c.requires.filled refl refl
     (omega (arith, c.log_at-log.ensures))
@@ -69,7 +67,6 @@ keep_saved-requires c =
           ((refl, c.requires.filled), ((refl, refl), refl)) (all_matched false) refl done.new.copies done.auto.copies done.ensures;
       long = omega (arith, c.part-3-1.given, before.long);
     } in
-
     let before = three in
     let s = c.args.part.now in
     log_fits c.args.settings s c.requires _ _ before.same before.long (log_from) (length s) c.requires.filled refl
@@ -102,7 +99,6 @@ returns c =
           ((refl, c.requires.filled), ((refl, refl), refl)) (all_matched false) refl done.new.copies done.auto.copies done.ensures;
       long = omega (arith, c.part-3-1.given, before.long);
     } in
-
     let before = three in
     let t = c.args.settings in
     let s = c.args.part.now in

@@ -23,7 +23,6 @@ pub returns-then-given-ge-MAX_ID : goal.returns-then-given-ge-MAX_ID
 returns-then-given-ge-MAX_ID c =
     let is-there : is_place (decode (words c.args.store.now)) c.args.place ≡ true = is_place_yes c.args.settings c.args.store.now c.requires c.args.place (omega arith) in
     let highest : ℕ = (decode (words c.args.store.now)).given in
-
     let given = highest in
     sym (first_yes 3 _ (is-there) ∙ first_stop 12 _ (le-ltb given max_id (omega (arith, c.if-given-ge-MAX_ID.true, c.given.ensures))))
 
@@ -36,7 +35,6 @@ returns-then-id-eq0 c =
     let is-there : is_place (decode (words c.args.store.now)) c.args.place ≡ true = is_place_yes c.args.settings c.args.store.now c.requires c.args.place (omega arith) in
     let highest : ℕ = (decode (words c.args.store.now)).given in
     let is-left : ltb (highest) max_id ≡ true = lt-ltb (highest) max_id (omega (arith, c.if-given-ge-MAX_ID.false, c.given.ensures)) in
-
     sym (first_yes 3 _ (is-there) ∙ first_yes 12 _ (is-left)
     ∙ first_yes 13 _ (eq-eqb _ 0 (sym c.id.ensures ∙ c.if-id-eq0.true)) ∙ none_asked)
 
@@ -45,6 +43,5 @@ returns c =
     let is-there : is_place (decode (words c.args.store.now)) c.args.place ≡ true = is_place_yes c.args.settings c.args.store.now c.requires c.args.place (omega arith) in
     let highest : ℕ = (decode (words c.args.store.now)).given in
     let is-left : ltb (highest) max_id ≡ true = lt-ltb (highest) max_id (omega (arith, c.if-given-ge-MAX_ID.false, c.given.ensures)) in
-
     sym (first_yes 3 _ (is-there) ∙ first_yes 12 _ (is-left)
     ∙ first_stop 13 _ (ne_eqb _ 0 (λ z. c.if-id-eq0.false (c.id.ensures ∙ z))))

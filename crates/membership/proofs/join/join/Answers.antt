@@ -32,7 +32,6 @@ pub overflow_add-id : goal.overflow_add-id
 overflow_add-id c =
     let asked : first_no (join_asks (decode (words c.args.store.now)) c.args.place) ≡ 0 = sym c.asks-no.ensures ∙ c.if-no-ne0.false in
     let vacant : (c.args.place < c.args.settings.places) × ((decode (words c.args.store.now)).given < max_id) = join_yes c.args.settings c.args.store.now c.requires c.args.place (asked) in
-
     let left = vacant in
     let given = c.given-id.ensures in search rules
 
@@ -40,7 +39,6 @@ pub span_of-from-requires : goal.span_of-from-requires
 span_of-from-requires c =
     let asked : first_no (join_asks (decode (words c.args.store.now)) c.args.place) ≡ 0 = sym c.asks-no.ensures ∙ c.if-no-ne0.false in
     let vacant : (c.args.place < c.args.settings.places) × ((decode (words c.args.store.now)).given < max_id) = join_yes c.args.settings c.args.store.now c.requires c.args.place (asked) in
-
     (c.requires.limits, (vacant).0)
 
 pub slice_bounds-place-end : goal.slice_bounds-place-end
@@ -48,14 +46,13 @@ slice_bounds-place-end c =
     let asked : first_no (join_asks (decode (words c.args.store.now)) c.args.place) ≡ 0 = sym c.asks-no.ensures ∙ c.if-no-ne0.false in
     let vacant : (c.args.place < c.args.settings.places) × ((decode (words c.args.store.now)).given < max_id) = join_yes c.args.settings c.args.store.now c.requires c.args.place (asked) in
     let place : LentPlace c.args.store.now c.args.settings c.args.place c.span_of-from.result.from c.span_of-from.result.to = lent_place c.requires c.span_of-from.ensures (vacant).0 in
- part_inside (place)
+    part_inside (place)
 
 pub place-requires : goal.place-requires
 place-requires c =
     let asked : first_no (join_asks (decode (words c.args.store.now)) c.args.place) ≡ 0 = sym c.asks-no.ensures ∙ c.if-no-ne0.false in
     let vacant : (c.args.place < c.args.settings.places) × ((decode (words c.args.store.now)).given < max_id) = join_yes c.args.settings c.args.store.now c.requires c.args.place (asked) in
     let place : LentPlace c.args.store.now c.args.settings c.args.place c.span_of-from.result.from c.span_of-from.result.to = lent_place c.requires c.span_of-from.ensures (vacant).0 in
-
     (c.requires.limits, omega arith, part_length (place))
 
 pub returns : goal.returns
@@ -64,7 +61,6 @@ returns c =
     let asked : first_no (join_asks (decode (words c.args.store.now)) c.args.place) ≡ 0 = sym c.asks-no.ensures ∙ c.if-no-ne0.false in
     let vacant : (c.args.place < c.args.settings.places) × ((decode (words c.args.store.now)).given < max_id) = join_yes c.args.settings c.args.store.now c.requires c.args.place (asked) in
     let place : LentPlace c.args.store.now c.args.settings c.args.place c.span_of-from.result.from c.span_of-from.result.to = lent_place c.requires c.span_of-from.ensures (vacant).0 in
-
     let t = c.args.settings in
     let bs = c.args.store.now in
     let s = decode (words bs) in

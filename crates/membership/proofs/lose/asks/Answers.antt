@@ -20,11 +20,9 @@ id-requires c =
 pub returns-then-id-eq0 : goal.returns-then-id-eq0
 returns-then-id-eq0 c =
     let is-there : is_place (decode (words c.args.store.now)) c.args.place ≡ true = is_place_yes c.args.settings c.args.store.now c.requires c.args.place (omega arith) in
-
     sym (first_yes 3 _ (is-there) ∙ first_stop 13 _ (ap not (eq-eqb _ 0 (sym c.id.ensures ∙ c.if-id-eq0.true))))
 
 pub returns : goal.returns
 returns c =
     let is-there : is_place (decode (words c.args.store.now)) c.args.place ≡ true = is_place_yes c.args.settings c.args.store.now c.requires c.args.place (omega arith) in
-
     sym (first_yes 3 _ (is-there) ∙ first_yes 13 _ (ap not (ne_eqb _ 0 (λ z. c.if-id-eq0.false (c.id.ensures ∙ z)))) ∙ none_asked)

@@ -10,7 +10,6 @@ use Rattle.lent.proofs.Performs.{refused, accepted}
 use Rattle.lent.proofs.LentPlace.{LentPlace, lent_place, part_inside, part_filled, part_brick, part_changed}
 use Rattle.membership.proofs.Asked.{lose_yes}
 use Rattle.membership.proofs.Places.{lose_changes}
-use borrow.Author.Rules.{rules}
 use Rattle.membership.proofs.lose.lose.Goals as goal
 
 pub returns-then-no-ne0 : goal.returns-then-no-ne0
@@ -23,7 +22,6 @@ span_of-from-requires c =
     let asked : first_no (lose_asks (decode (words c.args.store.now)) c.args.place) ≡ 0 = sym c.asks-no.ensures ∙ c.if-no-ne0.false in
     let stands : let s = decode (words c.args.store.now) in
     Stands c.args.settings s (s.ids c.args.place) c.args.place = lose_yes c.args.settings c.args.store.now c.requires c.args.place (asked) in
-
     (c.requires.limits, (stands).inside)
 
 pub slice_bounds-set_id-end : goal.slice_bounds-set_id-end
@@ -32,7 +30,7 @@ slice_bounds-set_id-end c =
     let stands : let s = decode (words c.args.store.now) in
     Stands c.args.settings s (s.ids c.args.place) c.args.place = lose_yes c.args.settings c.args.store.now c.requires c.args.place (asked) in
     let place : LentPlace c.args.store.now c.args.settings c.args.place c.span_of-from.result.from c.span_of-from.result.to = lent_place c.requires c.span_of-from.ensures (stands).inside in
- part_inside (place)
+    part_inside (place)
 
 pub set_id-requires : goal.set_id-requires
 set_id-requires c =
@@ -40,7 +38,6 @@ set_id-requires c =
     let stands : let s = decode (words c.args.store.now) in
     Stands c.args.settings s (s.ids c.args.place) c.args.place = lose_yes c.args.settings c.args.store.now c.requires c.args.place (asked) in
     let place : LentPlace c.args.store.now c.args.settings c.args.place c.span_of-from.result.from c.span_of-from.result.to = lent_place c.requires c.span_of-from.ensures (stands).inside in
-
     let brick = part_brick (place) (stands).some in (brick.size, brick.filled, brick.clean)
 
 pub returns : goal.returns
@@ -50,7 +47,6 @@ returns c =
     let stands : let s = decode (words c.args.store.now) in
     Stands c.args.settings s (s.ids c.args.place) c.args.place = lose_yes c.args.settings c.args.store.now c.requires c.args.place (asked) in
     let place : LentPlace c.args.store.now c.args.settings c.args.place c.span_of-from.result.from c.span_of-from.result.to = lent_place c.requires c.span_of-from.ensures (stands).inside in
-
     let changed = lose_changes (decode (words c.args.store.now)) c.args.place (part_filled (place) (stands).some) in
     let done = c.set_id in
     accepted (Event.lose c.args.place) (words c.args.store.now) _ (asked)

@@ -21,7 +21,6 @@ id-requires c =
 pub returns-then-id-eq0 : goal.returns-then-id-eq0
 returns-then-id-eq0 c =
     let is-there : is_place (decode (words c.args.store.now)) c.args.place ≡ true = is_place_yes c.args.settings c.args.store.now c.requires c.args.place (omega arith) in
-
     sym (first_yes 3 _ (is-there) ∙ first_stop 13 _ (no_first _ _ (ap not (eq-eqb _ 0 (sym c.id.ensures ∙ c.if-id-eq0.true)))))
 
 pub is_up-requires : goal.is_up-requires
@@ -31,14 +30,12 @@ is_up-requires c =
 pub returns-then-is_up : goal.returns-then-is_up
 returns-then-is_up c =
     let is-there : is_place (decode (words c.args.store.now)) c.args.place ≡ true = is_place_yes c.args.settings c.args.store.now c.requires c.args.place (omega arith) in
-
     sym (first_yes 3 _ (is-there)
     ∙ first_stop 13 _ (no_second _ _ (ap not (sym c.is_up.ensures ∙ c.if-is_up.true))))
 
 pub returns : goal.returns
 returns c =
     let is-there : is_place (decode (words c.args.store.now)) c.args.place ≡ true = is_place_yes c.args.settings c.args.store.now c.requires c.args.place (omega arith) in
-
     let here = ap not (ne_eqb _ 0 (λ z. c.if-id-eq0.false (c.id.ensures ∙ z))) in
     let down = ap not (sym c.is_up.ensures ∙ c.if-is_up.false) in
     sym (first_yes 3 _ (is-there) ∙ first_yes 13 _ (both _ _ here down) ∙ none_asked)

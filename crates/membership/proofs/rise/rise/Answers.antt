@@ -10,7 +10,6 @@ use Rattle.lent.proofs.Performs.{refused, accepted}
 use Rattle.lent.proofs.LentPlace.{LentPlace, lent_place, part_inside, part_filled, part_brick, part_changed}
 use Rattle.membership.proofs.Asked.{rise_yes}
 use Rattle.membership.proofs.Places.{rise_changes}
-use borrow.Author.Rules.{rules}
 use Rattle.membership.proofs.rise.rise.Goals as goal
 
 pub returns-then-no-ne0 : goal.returns-then-no-ne0
@@ -23,7 +22,6 @@ span_of-from-requires c =
     let asked : first_no (rise_asks (decode (words c.args.store.now)) c.args.place) ≡ 0 = sym c.asks-no.ensures ∙ c.if-no-ne0.false in
     let stands : let s = decode (words c.args.store.now) in
     Stands c.args.settings s (s.ids c.args.place) c.args.place = rise_yes c.args.settings c.args.store.now c.requires c.args.place (asked) in
-
     (c.requires.limits, (stands).inside)
 
 pub slice_bounds-rise_place-end : goal.slice_bounds-rise_place-end
@@ -32,7 +30,7 @@ slice_bounds-rise_place-end c =
     let stands : let s = decode (words c.args.store.now) in
     Stands c.args.settings s (s.ids c.args.place) c.args.place = rise_yes c.args.settings c.args.store.now c.requires c.args.place (asked) in
     let place : LentPlace c.args.store.now c.args.settings c.args.place c.span_of-from.result.from c.span_of-from.result.to = lent_place c.requires c.span_of-from.ensures (stands).inside in
- part_inside (place)
+    part_inside (place)
 
 pub rise_place-requires : goal.rise_place-requires
 rise_place-requires c =
@@ -40,7 +38,6 @@ rise_place-requires c =
     let stands : let s = decode (words c.args.store.now) in
     Stands c.args.settings s (s.ids c.args.place) c.args.place = rise_yes c.args.settings c.args.store.now c.requires c.args.place (asked) in
     let place : LentPlace c.args.store.now c.args.settings c.args.place c.span_of-from.result.from c.span_of-from.result.to = lent_place c.requires c.span_of-from.ensures (stands).inside in
-
     part_brick (place) (stands).some
 
 pub returns : goal.returns
@@ -50,7 +47,6 @@ returns c =
     let stands : let s = decode (words c.args.store.now) in
     Stands c.args.settings s (s.ids c.args.place) c.args.place = rise_yes c.args.settings c.args.store.now c.requires c.args.place (asked) in
     let place : LentPlace c.args.store.now c.args.settings c.args.place c.span_of-from.result.from c.span_of-from.result.to = lent_place c.requires c.span_of-from.ensures (stands).inside in
-
     let changed = rise_changes (decode (words c.args.store.now)) c.args.place (part_filled (place) (stands).some) in
     let done = c.rise_place in
     accepted (Event.rise c.args.place) (words c.args.store.now) _ (asked)

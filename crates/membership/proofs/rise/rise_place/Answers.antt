@@ -4,7 +4,6 @@ use Rattle.layout.specs.Contents.{Status}
 use Rattle.layout.specs.Layout.{place_codec}
 use Rattle.records.specs.Records.{with_status}
 use Rattle.membership.specs.Places.{raised}
-use borrow.Author.Rules.{rules}
 use Rattle.membership.proofs.rise.rise_place.Goals as goal
 
 pub returns : goal.returns

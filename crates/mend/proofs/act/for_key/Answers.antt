@@ -11,7 +11,6 @@ use Rattle.layout.specs.Store.{decode}
 use Rattle.holders.specs.Members.{LiesAt}
 use Rattle.mend.proofs.OnStore.{stands}
 use Rattle.mend.proofs.Decided.{wants_not, wants_none, wants_some, wants_held}
-use borrow.Author.Rules.{rules}
 use Rattle.mend.proofs.act.for_key.Goals as goal
 
 pub returns-then-not-of_first_two : goal.returns-then-not-of_first_two
@@ -22,7 +21,6 @@ returns-then-not-of_first_two c =
     of_first_two (t.ids a.place) (members_from t (home_of a.key.0)) ≡ b = λ b e. let a = c.args in
     let t = decode (words a.store.now) in
     ap (λ (i : ℕ). of_first_two i (members_from t (home_of a.key.0))) (sym c.id-id.ensures) ∙ sym c.of_first_two.ensures ∙ e in
-
     let a = c.args in wants_not (decode (words a.store.now)) _ a.key.0
     (first _ (not-true _ c.if-not-of_first_two.true-raw))
 
@@ -41,7 +39,6 @@ returns-then-holds_at c =
     let is_first : let a = c.args in
     let t = decode (words a.store.now) in
     of_first_two (t.ids a.place) (members_from t (home_of a.key.0)) ≡ true = first _ (not-false _ c.if-not-of_first_two.false-raw) in
-
     let h = sym c.holds_at.ensures ∙ c.if-holds_at.true in
     (wants_held (decode (words c.args.store.now)) _ c.args.key.0 (is_first) (and_l _ _ c.requires.up) h, h)
 
@@ -56,7 +53,6 @@ returns-in-At c =
     let is_first : let a = c.args in
     let t = decode (words a.store.now) in
     of_first_two (t.ids a.place) (members_from t (home_of a.key.0)) ≡ true = first _ (not-false _ c.if-not-of_first_two.false-raw) in
-
     let a = c.args in
     let t = decode (words a.store.now) in
     let h : LiesAt a.settings t (holder t a.key.0) a.key.0 c.in-At.from c.in-At.row = rw c.in-At.is at c.holder.ensures in

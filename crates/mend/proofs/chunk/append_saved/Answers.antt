@@ -5,7 +5,6 @@ use Rattle.rules.specs.Chunks.{new_chunk, append}
 use Rattle.codec.specs.Codec.{change}
 use Rattle.layout.specs.Layout.{log_codec}
 use Rattle.lent.proofs.PlaceLogs.{part_log, part_room, part_back}
-use borrow.Author.Rules.{rules}
 use Rattle.mend.proofs.chunk.append_saved.Goals as goal
 
 pub append-requires : goal.append-requires

@@ -4,7 +4,6 @@ use Rattle.rules.specs.Chunks.{save_key}
 use Rattle.codec.specs.Codec.{change}
 use Rattle.layout.specs.Layout.{log_codec}
 use Rattle.lent.proofs.PlaceLogs.{part_log, part_back}
-use borrow.Author.Rules.{rules}
 use Rattle.mend.proofs.chunk.save_chunk.Goals as goal
 
 pub save_key-requires : goal.save_key-requires

@@ -6,7 +6,6 @@ use Rattle.rules.specs.Chunks.{new_chunk, append}
 use Rattle.holders.proofs.Contents.{row_lies}
 use Rattle.mend.proofs.OnStore.{lent_place, lent_room, place_back}
 use Rattle.mend.proofs.OneKey.{some_room, row_whole, added}
-use borrow.Author.Rules.{rules}
 use Rattle.mend.proofs.effect.bring.Goals as goal
 
 pub chunk-requires : goal.chunk-requires

@@ -8,7 +8,6 @@ use Rattle.mend.specs.Fit.{log_of}
 use Rattle.mend.specs.Keys.{wants}
 use Rattle.mend.specs.Acts.{Lacking}
 use Rattle.mend.proofs.OneKey.{unmended, saved}
-use borrow.Author.Rules.{rules}
 use Rattle.mend.proofs.effect.mend_key.Goals as goal
 
 pub bring-requires : goal.bring-requires

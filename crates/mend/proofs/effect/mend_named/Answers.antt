@@ -1,6 +1,5 @@
 use mathlib.Core.Path.{refl}
 use native.Mathlib.Omega.{arith}
-use borrow.Author.Rules.{rules}
 use Rattle.mend.proofs.effect.mend_named.Goals as goal
 
 pub returns-then-from-eq0 : goal.returns-then-from-eq0

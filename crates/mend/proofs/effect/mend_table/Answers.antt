@@ -1,14 +1,11 @@
-use mathlib.Core.Path.{◌≡◌, refl, sym, ap, ◌∙◌}
+use mathlib.Core.Path.{refl, sym, ap, ◌∙◌}
 use mathlib.Core.List.{List}
-use Prim.Native.Nat.{◌-◌, ◌≤◌}
+use Prim.Native.Nat.{◌-◌}
 use native.Mathlib.Omega.{arith}
-use lib.ListN.{length, take}
 use Rattle.lists.proofs.Runs.{below_of}
 use Rattle.words.specs.Words.{words}
 use Rattle.rules.specs.Chunks.{Chunk}
-use Rattle.rules.specs.Upkeep.{mend_keys}
-use Rattle.layout.specs.Store.{decode}
-use Rattle.mend.specs.Fit.{with_log_at, log_of, table_of}
+use Rattle.mend.specs.Fit.{with_log_at}
 use Rattle.mend.proofs.InTurn.{table_inside, rows_start, rows_end, row_mends, rows_turn}
 use borrow.Author.Rules.{rules}
 use Rattle.mend.proofs.effect.mend_table.Goals as goal

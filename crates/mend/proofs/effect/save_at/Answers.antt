@@ -1,7 +1,6 @@
 use native.Mathlib.Omega.{arith}
 use Rattle.rules.specs.Chunks.{save_key}
 use Rattle.mend.proofs.OnStore.{lent_place, place_back}
-use borrow.Author.Rules.{rules}
 use Rattle.mend.proofs.effect.save_at.Goals as goal
 
 pub save_chunk-requires : goal.save_chunk-requires

@@ -1,11 +1,10 @@
-use mathlib.Core.Path.{◌≡◌, sym}
+use mathlib.Core.Path.{sym}
 use Prim.Native.Nat.{◌-◌, ◌≤◌, ◌<◌}
 use native.Mathlib.Omega.{arith}
 use Rattle.rules.proofs.Limits.{few_buckets}
 use Rattle.words.specs.Words.{words}
-use Rattle.rules.specs.Limits.{buckets, max_chunks}
+use Rattle.rules.specs.Limits.{buckets}
 use Rattle.layout.specs.Store.{decode}
-use Rattle.mend.specs.Keys.{counted, adds_below}
 use Rattle.mend.proofs.Counting.{all_few}
 use Rattle.mend.proofs.Parts.{parts_start, part_turn, enough, too_many, rows_left}
 use native.Mathlib.Nat.{le_refl}
@@ -33,7 +32,7 @@ overflow_add-count c =
       omega (arith, few.0, b),
       omega (arith, few.1, b),
     ) in
- let b = bounds in omega (arith, b.0, b.2)
+    let b = bounds in omega (arith, b.0, b.2)
 
 pub overflow_add-count-in-loop-count : goal.overflow_add-count-in-loop-count
 overflow_add-count-in-loop-count c =
@@ -48,7 +47,7 @@ overflow_add-count-in-loop-count c =
       omega (arith, few.0, b),
       omega (arith, few.1, b),
     ) in
- let b = bounds in omega (arith, b.0, b.2, b.3)
+    let b = bounds in omega (arith, b.0, b.2, b.3)
 
 pub returns-then-count-part : goal.returns-then-count-part
 returns-then-count-part c =
@@ -69,7 +68,7 @@ overflow_add-base c =
       omega (arith, few.0, b),
       omega (arith, few.1, b),
     ) in
- let b = bounds in omega (arith, b.1)
+    let b = bounds in omega (arith, b.1)
 
 pub loop-count-smaller : goal.loop-count-smaller
 loop-count-smaller c =
@@ -84,7 +83,7 @@ loop-count-smaller c =
       omega (arith, few.0, b),
       omega (arith, few.1, b),
     ) in
- let b = bounds in omega (arith, b.1)
+    let b = bounds in omega (arith, b.1)
 
 pub loop-count-preserved : goal.loop-count-preserved
 loop-count-preserved c =

@@ -1,14 +1,9 @@
-use mathlib.Core.Path.{◌≡◌, sym}
+use mathlib.Core.Path.{◌≡◌}
 use Prim.Native.Nat.{◌-◌, ◌≤◌, ◌<◌}
-use native.Mathlib.Omega.{arith}
-use Rattle.rules.proofs.Limits.{few_buckets}
 use Rattle.words.specs.Words.{words}
 use Rattle.rules.specs.Limits.{buckets, max_chunks}
 use Rattle.layout.specs.Store.{decode}
 use Rattle.mend.specs.Keys.{counted, adds_below}
-use Rattle.mend.proofs.Counting.{all_few}
-use Rattle.mend.proofs.Parts.{parts_start, part_turn, enough, too_many, rows_left}
-use native.Mathlib.Nat.{le_refl}
 use Rattle.mend.proofs.room.at_most.Given as goal
 
 abbrev pub invariant-loop-count : goal.invariant-loop-count

@@ -5,8 +5,6 @@ use Rattle.rules.proofs.Limits.{few_buckets}
 use Rattle.words.specs.Words.{words}
 use Rattle.rules.specs.Limits.{buckets}
 use Rattle.layout.specs.Store.{decode}
-use Rattle.mend.specs.Keys.{before}
-use Rattle.mend.specs.Flags.{Met}
 use Rattle.mend.specs.Counts.{InAll}
 use Rattle.mend.proofs.Counting.{sum_start, bucket_turn, all_few}
 use borrow.Author.Rules.{rules}
@@ -32,7 +30,6 @@ overflow_add-inside c =
     let t = decode (words a.store.now) in
     all_few a.settings a.store.now a.tables.now c.requires.0.known (t.ids a.place) a.base (c.loop-bucket.bucket + 1) _ _
     (omega (arith, c.loop-bucket.invariant.1)) (sum) in
-
     omega (arith, (few).0, few_buckets c.args.settings, c.loop-bucket.invariant.1)
 
 pub overflow_add-beyond : goal.overflow_add-beyond
@@ -46,7 +43,6 @@ overflow_add-beyond c =
     let t = decode (words a.store.now) in
     all_few a.settings a.store.now a.tables.now c.requires.0.known (t.ids a.place) a.base (c.loop-bucket.bucket + 1) _ _
     (omega (arith, c.loop-bucket.invariant.1)) (sum) in
-
     omega (arith, (few).1, few_buckets c.args.settings, c.loop-bucket.invariant.1)
 
 pub loop-bucket-preserved : goal.loop-bucket-preserved
@@ -56,7 +52,6 @@ loop-bucket-preserved c =
     InAll t (t.ids a.place) a.base (c.loop-bucket.bucket + 1) (c.loop-bucket.inside + c.count_in-count.result.inside) (c.loop-bucket.beyond + c.count_in-count.result.beyond) = let a = c.args in
     let t = decode (words a.store.now) in
     bucket_turn t (t.ids a.place) a.base c.loop-bucket.bucket _ _ _ _ c.loop-bucket.invariant.2 c.count_in-count.ensures.0 in
-
     (search rules, search rules, sum, c.count_in-count.ensures.1)
 
 pub shape_of-flags : goal.shape_of-flags

@@ -1,15 +1,11 @@
-use mathlib.Core.Path.{◌≡◌, sym, ◌∙◌}
-use Prim.Native.Nat.{◌+◌, ◌*◌, ◌-◌, ◌≤◌}
-use native.Mathlib.Omega.{arith}
-use Rattle.rules.proofs.Limits.{few_buckets}
+use mathlib.Core.Path.{◌≡◌}
+use Prim.Native.Nat.{◌-◌, ◌≤◌}
 use Rattle.words.specs.Words.{words}
 use Rattle.rules.specs.Limits.{buckets}
 use Rattle.layout.specs.Store.{decode}
 use Rattle.mend.specs.Keys.{before}
 use Rattle.mend.specs.Flags.{Met}
 use Rattle.mend.specs.Counts.{InAll}
-use Rattle.mend.proofs.Counting.{sum_start, bucket_turn, all_few}
-use borrow.Author.Rules.{rules}
 use Rattle.mend.proofs.room.count_all.Given as goal
 
 abbrev pub invariant-loop-bucket : goal.invariant-loop-bucket

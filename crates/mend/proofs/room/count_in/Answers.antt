@@ -5,8 +5,7 @@ use lib.ListN.{length, get_or}
 use Rattle.words.specs.Words.{words}
 use Rattle.layout.specs.Store.{decode}
 use Rattle.named.specs.Tables.{named}
-use Rattle.mend.specs.Keys.{before, key_at}
-use Rattle.mend.specs.Flags.{Met}
+use Rattle.mend.specs.Keys.{key_at}
 use Rattle.mend.specs.Counts.{InBucket}
 use Rattle.mend.proofs.Counting.{table_fit, bucket_count, key_is, row_fits, count_start, entry_turn, bucket_done, bucket_few}
 use borrow.Author.Rules.{rules}
@@ -37,7 +36,7 @@ overflow_mul-i c =
     8 * (get_or a.tables.now a.bucket 0 + (2 + c.loop-i.i * 2)) + 8 ≤ length a.store.now = let a = c.args in
     row_fits _ _ _ c.requires.0.known a.bucket c.requires.1 c.loop-i.i
     (omega (arith, in_use)) in
- omega (arith, fits)
+    omega (arith, fits)
 
 pub overflow_add-i : goal.overflow_add-i
 overflow_add-i c =
@@ -47,7 +46,7 @@ overflow_add-i c =
     8 * (get_or a.tables.now a.bucket 0 + (2 + c.loop-i.i * 2)) + 8 ≤ length a.store.now = let a = c.args in
     row_fits _ _ _ c.requires.0.known a.bucket c.requires.1 c.loop-i.i
     (omega (arith, in_use)) in
- omega (arith, fits)
+    omega (arith, fits)
 
 pub overflow_add-from : goal.overflow_add-from
 overflow_add-from c =
@@ -57,7 +56,7 @@ overflow_add-from c =
     8 * (get_or a.tables.now a.bucket 0 + (2 + c.loop-i.i * 2)) + 8 ≤ length a.store.now = let a = c.args in
     row_fits _ _ _ c.requires.0.known a.bucket c.requires.1 c.loop-i.i
     (omega (arith, in_use)) in
- omega (arith, fits)
+    omega (arith, fits)
 
 pub read-requires : goal.read-requires
 read-requires c =
@@ -67,7 +66,7 @@ read-requires c =
     8 * (get_or a.tables.now a.bucket 0 + (2 + c.loop-i.i * 2)) + 8 ≤ length a.store.now = let a = c.args in
     row_fits _ _ _ c.requires.0.known a.bucket c.requires.1 c.loop-i.i
     (omega (arith, in_use)) in
- fits
+    fits
 
 pub count_key-count-requires : goal.count_key-count-requires
 count_key-count-requires c =
@@ -93,7 +92,7 @@ overflow_add-inside c =
     c.loop-i.invariant.1).0 in
     let few : (c.loop-i.inside + c.count_key-count.result.inside ≤ c.loop-i.i + 1) × (c.loop-i.beyond + c.count_key-count.result.beyond ≤ c.loop-i.i + 1) = let a = c.args in
     let t = decode (words a.store.now) in bucket_few t (t.ids a.place) a.base a.bucket _ _ _ (sum) in
- omega (arith, (few).0)
+    omega (arith, (few).0)
 
 pub overflow_add-beyond : goal.overflow_add-beyond
 overflow_add-beyond c =
@@ -115,7 +114,7 @@ overflow_add-beyond c =
     c.loop-i.invariant.1).0 in
     let few : (c.loop-i.inside + c.count_key-count.result.inside ≤ c.loop-i.i + 1) × (c.loop-i.beyond + c.count_key-count.result.beyond ≤ c.loop-i.i + 1) = let a = c.args in
     let t = decode (words a.store.now) in bucket_few t (t.ids a.place) a.base a.bucket _ _ _ (sum) in
- omega (arith, (few).1)
+    omega (arith, (few).1)
 
 pub loop-i-preserved : goal.loop-i-preserved
 loop-i-preserved c =
@@ -127,7 +126,6 @@ loop-i-preserved c =
     let t = decode (words a.store.now) in
     let p : c.loop-i.i < length (named t a.bucket) = omega (arith, in_use) in
     (p, c.read.ensures ∙ key_is _ _ _ c.requires.0.known a.bucket c.requires.1 c.loop-i.i p) in
-
     let a = c.args in
     let t = decode (words a.store.now) in
     let e = entry in
@@ -142,7 +140,6 @@ pub returns : goal.returns
 returns c =
     let in_use : let a = c.args in c.count_at-n.result ≡ length (named (decode (words a.store.now)) a.bucket) = let a = c.args in
     bucket_count _ _ _ c.requires.0.known a.bucket c.requires.1 _ c.count_at-n.ensures in
-
     let a = c.args in
     let t = decode (words a.store.now) in
     let e : c.loop-i.i ≡ length (named t a.bucket) = omega (arith, in_use) in (

@@ -1,15 +1,9 @@
-use mathlib.Core.Path.{◌≡◌, sym, ◌∙◌}
-use Prim.Native.Nat.{◌+◌, ◌*◌, ◌-◌, ◌≤◌, ◌<◌}
-use native.Mathlib.Omega.{arith}
-use lib.ListN.{length, get_or}
+use Prim.Native.Nat.{◌-◌, ◌≤◌}
 use Rattle.words.specs.Words.{words}
 use Rattle.layout.specs.Store.{decode}
-use Rattle.named.specs.Tables.{named}
-use Rattle.mend.specs.Keys.{before, key_at}
+use Rattle.mend.specs.Keys.{before}
 use Rattle.mend.specs.Flags.{Met}
 use Rattle.mend.specs.Counts.{InBucket}
-use Rattle.mend.proofs.Counting.{table_fit, bucket_count, key_is, row_fits, count_start, entry_turn, bucket_done, bucket_few}
-use borrow.Author.Rules.{rules}
 use Rattle.mend.proofs.room.count_in.Given as goal
 
 abbrev pub invariant-loop-i : goal.invariant-loop-i

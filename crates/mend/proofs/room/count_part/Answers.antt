@@ -3,7 +3,6 @@ use Rattle.layout.specs.Store.{decode}
 use Rattle.mend.specs.Keys.{before}
 use Rattle.mend.proofs.Flagged.{met_none}
 use Rattle.mend.proofs.Mending.{before_start}
-use borrow.Author.Rules.{rules}
 use Rattle.mend.proofs.room.count_part.Goals as goal
 
 pub count_all-requires : goal.count_all-requires

@@ -2,7 +2,6 @@ use mathlib.Core.Path.{refl, ap, ◌∙◌}
 use mathlib.Core.Bool.{Bool, cond}
 use native.Mathlib.Omega.{arith}
 use Rattle.lists.proofs.Tests.{flag_word}
-use borrow.Author.Rules.{rules}
 use Rattle.mend.proofs.room.count_row.Goals as goal
 
 pub returns-then-row-base : goal.returns-then-row-base

@@ -8,7 +8,6 @@ use Rattle.lent.proofs.Stores.{settings_are}
 use Rattle.mend.specs.Fit.{log_of}
 use Rattle.mend.proofs.OnStore.{stands}
 use Rattle.mend.proofs.Counting.{log_count, room_is, room_enough}
-use borrow.Author.Rules.{rules}
 use Rattle.mend.proofs.room.has_room.Goals as goal
 
 pub log-requires : goal.log-requires
@@ -26,7 +25,6 @@ pub returns-then-named_count-room : goal.returns-then-named_count-room
 returns-then-named_count-room c =
     let count : let a = c.args in c.read-held.result ≡ length (log_of a.place (words a.store.now)) = log_count c.args.settings _ _ c.log.ensures _ c.read-held.ensures in
     let left : let a = c.args in c.read-held.result + (a.settings.chunks - c.read-held.result) ≡ a.settings.chunks = omega (arith, c.read-held.ensures, c.log.ensures.log.few) in
-
     let a = c.args in
     let t = decode (words a.store.now) in
     sym (room_enough a.settings t (t.ids a.place) _ _ (settings_are a.settings a.store.now c.requires.there.store) (count) (left)
@@ -36,7 +34,6 @@ pub returns : goal.returns
 returns c =
     let count : let a = c.args in c.read-held.result ≡ length (log_of a.place (words a.store.now)) = log_count c.args.settings _ _ c.log.ensures _ c.read-held.ensures in
     let left : let a = c.args in c.read-held.result + (a.settings.chunks - c.read-held.result) ≡ a.settings.chunks = omega (arith, c.read-held.ensures, c.log.ensures.log.few) in
-
     let a = c.args in
     let t = decode (words a.store.now) in
     c.at_most.ensures

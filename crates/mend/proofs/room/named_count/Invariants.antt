@@ -1,13 +1,9 @@
-use mathlib.Core.Path.{◌≡◌, sym, ap, ◌∙◌}
-use Prim.Native.Nat.{◌+◌, ◌-◌, ◌≤◌}
-use native.Mathlib.Omega.{arith}
-use Rattle.rules.proofs.Limits.{few_buckets}
+use mathlib.Core.Path.{◌≡◌}
+use Prim.Native.Nat.{◌-◌, ◌≤◌}
 use Rattle.words.specs.Words.{words}
 use Rattle.rules.specs.Limits.{buckets}
 use Rattle.layout.specs.Store.{decode}
 use Rattle.mend.specs.Counts.{named_below}
-use Rattle.mend.proofs.Counting.{table_fit, names_start, names_more, bucket_count, named_at_most}
-use borrow.Author.Rules.{rules}
 use Rattle.mend.proofs.room.named_count.Given as goal
 
 abbrev pub invariant-loop-bucket : goal.invariant-loop-bucket

@@ -1,5 +1,4 @@
 use Rattle.mend.proofs.Flagged.{bit_some, bit_fits, raised_on, raised_off}
-use borrow.Author.Rules.{rules}
 use Rattle.mend.proofs.room.raise.Goals as goal
 
 pub nonzero_div-byte : goal.nonzero_div-byte

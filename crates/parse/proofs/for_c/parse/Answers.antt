@@ -1,6 +1,5 @@
 use mathlib.Core.Path.{sym, ap, ◌∙◌}
 use Rattle.parse.specs.Answers.{event_answer}
-use borrow.Author.Rules.{rules}
 use Rattle.parse.proofs.for_c.parse.Goals as goal
 
 -- `parse::for_c::parse` meets its contract.

@@ -1,6 +1,5 @@
 use mathlib.Core.Path.{sym, ap, ◌∙◌}
 use Rattle.parse.specs.Answers.{four_answer}
-use borrow.Author.Rules.{rules}
 use Rattle.parse.proofs.for_c.parse_settings.Goals as goal
 
 -- `parse::for_c::parse_settings` meets its contract.

@@ -1,6 +1,5 @@
 use Rattle.lists.specs.Tests.{◌and◌}
 use Rattle.part_checks.proofs.AgreedLaws.{agreed_is}
-use borrow.Author.Rules.{rules}
 use Rattle.part_checks.proofs.agreed.agreed_good.Goals as goal
 
 pub returns : goal.returns

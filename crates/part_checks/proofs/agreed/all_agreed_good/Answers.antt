@@ -1,6 +1,5 @@
 use mathlib.Core.Path.{◌≡◌, refl, sym, ap, ◌∙◌}
-use mathlib.Core.Bool.{true}
-use Prim.Native.Nat.{ℕ, ◌+◌, ◌*◌, ◌-◌, ◌^◌, ◌≤◌, ◌<◌}
+use Prim.Native.Nat.{◌+◌, ◌*◌, ◌-◌, ◌^◌, ◌≤◌, ◌<◌}
 use lib.ListN.{length}
 use borrow.Author.Count.{below_more, below_none}
 use borrow.Author.Tests.{not-true, not-false}
@@ -11,7 +10,6 @@ use Rattle.part_checks.specs.Agreed.{agreed_sound, agreed_at_sound}
 use Rattle.rules.proofs.Limits.{few_buckets}
 use Rattle.layout.proofs.Lent.{lent}
 use native.Mathlib.Omega.{arith}
-use borrow.Author.Rules.{rules}
 use Rattle.part_checks.proofs.agreed.all_agreed_good.Goals as goal
 
 -- the record ends within the store, and its bytes are numbered by a word
@@ -47,7 +45,7 @@ returns-then-not-agreed_good c =
     let at = c.agreed_at-a in
     ap (agreed_sound a.given) (sym (lent a.store.now (8 * at.result) (8 * at.result + 8 * agreed_words) (agreed_at c.loop-g.g) agreed_words
     (omega (arith, at.ensures.0)) refl (omega (arith, at.ensures.0, (room).0)))) ∙ sym c.agreed_good.ensures in
- sym (all_false _ _ c.loop-g.g (omega (arith, c.buckets-count.ensures)) (tested ∙ not-true _ c.if-not-agreed_good.true-raw))
+    sym (all_false _ _ c.loop-g.g (omega (arith, c.buckets-count.ensures)) (tested ∙ not-true _ c.if-not-agreed_good.true-raw))
 
 pub overflow_add-g : goal.overflow_add-g
 overflow_add-g c = omega (arith, c.buckets-count.ensures, few_buckets c.args.settings)
@@ -63,7 +61,7 @@ loop-g-preserved c =
     let at = c.agreed_at-a in
     ap (agreed_sound a.given) (sym (lent a.store.now (8 * at.result) (8 * at.result + 8 * agreed_words) (agreed_at c.loop-g.g) agreed_words
     (omega (arith, at.ensures.0)) refl (omega (arith, at.ensures.0, (room).0)))) ∙ sym c.agreed_good.ensures in
- (omega arith, below_more _ c.loop-g.g c.loop-g.invariant.1 (tested ∙ not-false _ c.if-not-agreed_good.false-raw))
+    (omega arith, below_more _ c.loop-g.g c.loop-g.invariant.1 (tested ∙ not-false _ c.if-not-agreed_good.false-raw))
 
 pub returns : goal.returns
 returns c = sym (all_true _ _ (λ k p. c.loop-g.invariant.1 k (omega (arith, c.buckets-count.ensures))))

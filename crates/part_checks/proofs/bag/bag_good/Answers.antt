@@ -1,12 +1,8 @@
-use mathlib.Core.Path.{◌≡◌, refl, sym, ◌∙◌}
-use Prim.Native.Nat.{◌-◌, ◌≤◌}
-use lib.ListN.{get_or}
+use mathlib.Core.Path.{refl, sym, ◌∙◌}
+use Prim.Native.Nat.{◌-◌}
 use borrow.Author.Tests.{not-true, not-false}
 use Rattle.words.specs.Words.{words}
-use Rattle.rules.specs.Sound.{sound_bag}
-use Rattle.layout.specs.Layout.{bag_codec}
-use Rattle.row_checks.specs.Rows.{key_below}
-use Rattle.part_checks.proofs.BagLaws.{relays_left, bag_over, bag_begin, bag_end, bag_bad, bag_next}
+use Rattle.part_checks.proofs.BagLaws.{bag_over, bag_begin, bag_end, bag_bad, bag_next}
 use native.Mathlib.Omega.{arith}
 use borrow.Author.Rules.{rules}
 use Rattle.part_checks.proofs.bag.bag_good.Goals as goal
@@ -23,12 +19,11 @@ returns-then-not-relay_good c =
     (sym c.relay_good.ensures ∙ not-true _ c.if-not-relay_good.true-raw))
 
 pub loop-i-preserved : goal.loop-i-preserved
-loop-i-preserved c =
-    (
-      search rules,
-      c.loop-i.invariant.1 ∙ bag_next _ _ (words c.args.bag.now) _ refl c.loop-i.i
-          (omega arith) (sym c.relay_good.ensures ∙ not-false _ c.if-not-relay_good.false-raw),
-    )
+loop-i-preserved c = (
+  search rules,
+  c.loop-i.invariant.1 ∙ bag_next _ _ (words c.args.bag.now) _ refl c.loop-i.i
+      (omega arith) (sym c.relay_good.ensures ∙ not-false _ c.if-not-relay_good.false-raw),
+)
 
 pub returns : goal.returns
 returns c =

@@ -1,14 +1,11 @@
-use mathlib.Core.Path.{◌≡◌, refl, sym, ◌∙◌}
+use mathlib.Core.Path.{◌≡◌, refl}
 use Prim.Native.Nat.{◌-◌, ◌≤◌}
 use lib.ListN.{get_or}
-use borrow.Author.Tests.{not-true, not-false}
 use Rattle.words.specs.Words.{words}
 use Rattle.rules.specs.Sound.{sound_bag}
 use Rattle.layout.specs.Layout.{bag_codec}
 use Rattle.row_checks.specs.Rows.{key_below}
-use Rattle.part_checks.proofs.BagLaws.{relays_left, bag_over, bag_begin, bag_end, bag_bad, bag_next}
-use native.Mathlib.Omega.{arith}
-use borrow.Author.Rules.{rules}
+use Rattle.part_checks.proofs.BagLaws.{relays_left}
 use Rattle.part_checks.proofs.bag.bag_good.Given as goal
 
 abbrev pub invariant-loop-i : goal.invariant-loop-i

@@ -1,6 +1,5 @@
 use Rattle.lists.specs.Tests.{◌and◌}
 use Rattle.rules.specs.Sound.{sound_relay, in_bucket}
-use borrow.Author.Rules.{rules}
 use Rattle.part_checks.proofs.bag.relay_good.Goals as goal
 
 pub returns : goal.returns

@@ -1,6 +1,5 @@
 use mathlib.Core.Path.{◌≡◌, sym, ◌∙◌}
-use mathlib.Core.Bool.{true}
-use Prim.Native.Nat.{ℕ, ◌-◌, ◌≤◌, ◌<◌}
+use Prim.Native.Nat.{◌-◌}
 use borrow.Author.Count.{below_more, below_none}
 use borrow.Author.Tests.{not-true, not-false}
 use Rattle.lists.proofs.Tests.{all_true, all_false}
@@ -19,22 +18,22 @@ loop-g-init c = (omega arith, below_none _)
 pub offset-a-requires : goal.offset-a-requires
 offset-a-requires c =
     let room : AllCopies c.args.settings c.buckets-count.result c.copies_words-size.result = all_copies _ _ _ c.requires.passed.small c.buckets-count.ensures c.copies_words-size.ensures in
- (omega arith, omega (arith, (room).small))
+    (omega arith, omega (arith, (room).small))
 
 pub overflow_mul-a : goal.overflow_mul-a
 overflow_mul-a c =
     let room : AllCopies c.args.settings c.buckets-count.result c.copies_words-size.result = all_copies _ _ _ c.requires.passed.small c.buckets-count.ensures c.copies_words-size.ensures in
- omega (arith, c.offset-a.ensures.1, (room).small)
+    omega (arith, c.offset-a.ensures.1, (room).small)
 
 pub overflow_mul-e : goal.overflow_mul-e
 overflow_mul-e c =
     let room : AllCopies c.args.settings c.buckets-count.result c.copies_words-size.result = all_copies _ _ _ c.requires.passed.small c.buckets-count.ensures c.copies_words-size.ensures in
- omega (arith, c.offset-a.ensures.1, (room).small)
+    omega (arith, c.offset-a.ensures.1, (room).small)
 
 pub overflow_add-e : goal.overflow_add-e
 overflow_add-e c =
     let room : AllCopies c.args.settings c.buckets-count.result c.copies_words-size.result = all_copies _ _ _ c.requires.passed.small c.buckets-count.ensures c.copies_words-size.ensures in
- omega (arith, c.offset-a.ensures.1, (room).small)
+    omega (arith, c.offset-a.ensures.1, (room).small)
 
 pub slice_bounds-copies_good-count : goal.slice_bounds-copies_good-count
 slice_bounds-copies_good-count c = omega arith
@@ -45,7 +44,7 @@ slice_bounds-copies_good-start c = omega arith
 pub slice_bounds-copies_good-end : goal.slice_bounds-copies_good-end
 slice_bounds-copies_good-end c =
     let room : AllCopies c.args.settings c.buckets-count.result c.copies_words-size.result = all_copies _ _ _ c.requires.passed.small c.buckets-count.ensures c.copies_words-size.ensures in
- omega (arith, c.offset-a.ensures.1, (room).same, c.requires.size)
+    omega (arith, c.offset-a.ensures.1, (room).same, c.requires.size)
 
 pub copies_good-requires : goal.copies_good-requires
 copies_good-requires c =
@@ -60,7 +59,7 @@ returns-then-not-copies_good c =
     copies_part a.settings (key_below a.bounds.now) a.up (words a.copies.now) _ c.loop-g.g
     (copies_of_bucket a.settings _ _ c.loop-g.g at.result a.copies.now (room) c.copies_words-size.ensures c.requires.size
     at.ensures.0 at.ensures.1) ∙ sym c.copies_good.ensures in
- sym (all_false _ _ c.loop-g.g (omega (arith, c.buckets-count.ensures)) (tested ∙ not-true _ c.if-not-copies_good.true-raw))
+    sym (all_false _ _ c.loop-g.g (omega (arith, c.buckets-count.ensures)) (tested ∙ not-true _ c.if-not-copies_good.true-raw))
 
 pub overflow_add-g : goal.overflow_add-g
 overflow_add-g c = omega (arith, c.buckets-count.ensures, few_buckets c.args.settings)
@@ -77,7 +76,7 @@ loop-g-preserved c =
     copies_part a.settings (key_below a.bounds.now) a.up (words a.copies.now) _ c.loop-g.g
     (copies_of_bucket a.settings _ _ c.loop-g.g at.result a.copies.now (room) c.copies_words-size.ensures c.requires.size
     at.ensures.0 at.ensures.1) ∙ sym c.copies_good.ensures in
- (omega arith, below_more _ c.loop-g.g c.loop-g.invariant.1 (tested ∙ not-false _ c.if-not-copies_good.false-raw))
+    (omega arith, below_more _ c.loop-g.g c.loop-g.invariant.1 (tested ∙ not-false _ c.if-not-copies_good.false-raw))
 
 pub returns : goal.returns
 returns c = sym (all_true _ _ (λ k p. c.loop-g.invariant.1 k (omega (arith, c.buckets-count.ensures))))

@@ -1,16 +1,9 @@
-use mathlib.Core.Path.{◌≡◌, sym, ◌∙◌}
+use mathlib.Core.Path.{◌≡◌}
 use mathlib.Core.Bool.{true}
 use Prim.Native.Nat.{ℕ, ◌-◌, ◌≤◌, ◌<◌}
-use borrow.Author.Count.{below_more, below_none}
-use borrow.Author.Tests.{not-true, not-false}
-use Rattle.lists.proofs.Tests.{all_true, all_false}
 use Rattle.words.specs.Words.{words}
 use Rattle.row_checks.specs.Rows.{key_below}
 use Rattle.part_checks.specs.Copies.{copies_sound}
-use Rattle.rules.proofs.Limits.{few_buckets}
-use Rattle.part_checks.proofs.CopyLaws.{AllCopies, all_copies, copies_of_bucket, copies_part}
-use native.Mathlib.Omega.{arith}
-use borrow.Author.Rules.{rules}
 use Rattle.part_checks.proofs.copies.all_copies_good.Given as goal
 
 abbrev pub invariant-loop-g : goal.invariant-loop-g

@@ -1,15 +1,10 @@
 use mathlib.Core.Path.{◌≡◌, refl, ◌∙◌}
-use Prim.Native.Nat.{◌-◌, ◌≤◌}
+use Prim.Native.Nat.{◌-◌}
 use native.Mathlib.Numerals.{add-one}
 use native.Mathlib.Omega.{arith}
-use lib.Dec.{eqb}
 use borrow.Author.Rules.{rules}
 use Rattle.lists.specs.Tests.{all_below}
-use Rattle.words.specs.Words.{words}
-use Rattle.tables.specs.Tables.{same_at}
 use Rattle.tables.proofs.Compared.{no_other}
-use Rattle.part_checks.proofs.copies.compare_words.Reads as reads
-use Rattle.part_checks.proofs.copies.compare_words.Lts as lts
 use Rattle.words.proofs.read.Reads as read-reads
 use Rattle.part_checks.proofs.copies.compare_words.Goals as goal
 

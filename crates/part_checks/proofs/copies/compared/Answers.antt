@@ -12,11 +12,8 @@ use Rattle.layout.specs.Layout.{copy_codec, copy_words, place_at, copies_at, all
 use Rattle.layout.proofs.Bounds.{store_small}
 use Rattle.layout.proofs.Lent.{lent}
 use Rattle.part_checks.proofs.CopyLaws.{AllCopies, all_copies}
-use Rattle.part_checks.proofs.copies.compared.Reads as reads
-use Rattle.part_checks.proofs.copies.compared.Lts as lts
 use Rattle.part_checks.proofs.copies.earlier.Reads as earlier-reads
 use Rattle.part_checks.proofs.copies.same_three.Reads as same-three-reads
-use Rattle.entries.proofs.same.Reads as same_Reads
 use Rattle.layout.proofs.sizes.copies_words.Reads as copies-words-reads
 use Rattle.layout.proofs.sizes.copy_words.Reads as copy-words-reads
 use Rattle.layout.proofs.sizes.place_at.Reads as place-at-reads
@@ -36,14 +33,12 @@ offset-from-requires c =
 pub overflow_add-from : goal.overflow_add-from
 overflow_add-from c =
     let room : AllCopies c.args.settings c.buckets.result c.copies_words-size.result = all_copies _ _ _ c.requires.small c.buckets.ensures c.copies_words-size.ensures in
-
     omega (arith, c.offset-from.ensures.1, (room).small)
 
 -- src/copies.rt:103:9
 pub earlier-q-requires : goal.earlier-q-requires
 earlier-q-requires c =
     let room : AllCopies c.args.settings c.buckets.result c.copies_words-size.result = all_copies _ _ _ c.requires.small c.buckets.ensures c.copies_words-size.ensures in
-
     record { small = c.requires.small; size = c.requires.size; inside = c.requires.inside; start = omega (arith, c.offset-from.ensures.1, (room).same) }
 
 -- src/copies.rt:105:9
@@ -54,14 +49,12 @@ returns-then-p-q c = record { known = λ e. impossible e; saved_value = c.same.e
 pub overflow_add-a : goal.overflow_add-a
 overflow_add-a c =
     let room : AllCopies c.args.settings c.buckets.result c.copies_words-size.result = all_copies _ _ _ c.requires.small c.buckets.ensures c.copies_words-size.ensures in
-
     omega (arith, c.offset-from.ensures.1, (room).small, c.place_at.ensures.1, store_small c.args.settings c.requires.small)
 
 -- src/copies.rt:110:13
 pub overflow_mul-a : goal.overflow_mul-a
 overflow_mul-a c =
     let room : AllCopies c.args.settings c.buckets.result c.copies_words-size.result = all_copies _ _ _ c.requires.small c.buckets.ensures c.copies_words-size.ensures in
-
     omega (arith, c.offset-from.ensures.1, (room).small, c.place_at.ensures.1, store_small c.args.settings c.requires.small)
 
 -- src/copies.rt:111:17
@@ -72,7 +65,6 @@ overflow_mul-e c = omega (arith, c.copy_words.ensures, c.requires.small.entries_
 pub overflow_add-e : goal.overflow_add-e
 overflow_add-e c =
     let room : AllCopies c.args.settings c.buckets.result c.copies_words-size.result = all_copies _ _ _ c.requires.small c.buckets.ensures c.copies_words-size.ensures in
-
     omega (
       arith,
       c.offset-from.ensures.1,
@@ -95,7 +87,6 @@ slice_bounds-same_three-start c = omega arith
 pub slice_bounds-same_three-end : goal.slice_bounds-same_three-end
 slice_bounds-same_three-end c =
     let room : AllCopies c.args.settings c.buckets.result c.copies_words-size.result = all_copies _ _ _ c.requires.small c.buckets.ensures c.copies_words-size.ensures in
-
     omega (
       arith,
       c.offset-from.ensures.1,
@@ -110,7 +101,6 @@ slice_bounds-same_three-end c =
 pub same_three-requires : goal.same_three-requires
 same_three-requires c =
     let room : AllCopies c.args.settings c.buckets.result c.copies_words-size.result = all_copies _ _ _ c.requires.small c.buckets.ensures c.copies_words-size.ensures in
-
     let n = c.args.settings in
     let g = c.args.bucket in
     let bs = c.args.store.now in
@@ -132,7 +122,6 @@ same_three-requires c =
 pub returns : goal.returns
 returns c =
     let room : AllCopies c.args.settings c.buckets.result c.copies_words-size.result = all_copies _ _ _ c.requires.small c.buckets.ensures c.copies_words-size.ensures in
-
     let n = c.args.settings in
     let g = c.args.bucket in
     let bs = c.args.store.now in
@@ -146,9 +135,12 @@ returns c =
     let below : q.result < c.args.p = omega arith in
     let m = lent bs (8 * (place.result + from)) (8 * (place.result + from) + 8 * half.result) (place_at n q.result + copies_at n g) (copy_words n)
     (omega (arith, at, place.ensures.0)) (omega (arith, half.ensures))
-    (omega (arith, at, off.ensures.1, (room).same, size.ensures, place.ensures, c.requires.size)) in record { known = λ y. record {
+    (omega (arith, at, off.ensures.1, (room).same, size.ensures, place.ensures, c.requires.size)) in record {
+      known = λ y. record {
         place = q.result;
         below = below;
         brick = q.ensures.brick below;
         same = ap (copy_codec n).dec (sym m) ∙ sym ((same_entries_test _ _).0 (sym c.same_three.ensures.known_value ∙ y));
-      }; saved_value = c.same_three.ensures.saved_value }
+      };
+      saved_value = c.same_three.ensures.saved_value;
+    }

@@ -9,8 +9,6 @@ use Rattle.row_checks.specs.declared.rows.Whose.TheVariants.{Bucket}
 use Rattle.row_checks.specs.Rows.{key_below}
 use Rattle.row_checks.proofs.RowLaws.{table_over}
 use Rattle.part_checks.proofs.CopyLaws.{copies_lent, disk_bad, disk_same, disk_other, disk_alone}
-use Rattle.part_checks.proofs.copies.copies_good.Reads as reads
-use Rattle.part_checks.proofs.copies.copies_good.Lts as lts
 use Rattle.part_checks.proofs.copies.compared.Reads as compared-reads
 use Rattle.part_checks.proofs.copies.memory_good.Reads as memory-good-reads
 use Rattle.row_checks.proofs.rows.table_good.Reads as table-good-reads

@@ -1,7 +1,4 @@
 use mathlib.Core.Path.{sym}
-use borrow.Author.Rules.{rules}
-use Rattle.part_checks.proofs.copies.memory_good.Reads as reads
-use Rattle.part_checks.proofs.copies.memory_good.Lts as lts
 use Rattle.row_checks.proofs.rows.table_good.Reads as table-good-reads
 use Rattle.part_checks.proofs.copies.memory_good.Goals as goal
 

@@ -5,7 +5,6 @@ use Prim.Native.Nat.{ℕ, ◌*◌, ◌≤◌}
 use native.Mathlib.Omega.{arith}
 use lib.Dec.{eqb}
 use lib.ListN.{length, get_or}
-use borrow.Author.Rules.{rules}
 use Rattle.lists.specs.Tests.{◌and◌, all_below}
 use Rattle.words.specs.Words.{words}
 use Rattle.words.proofs.Laws.{length_words}
@@ -14,8 +13,6 @@ use Rattle.lists.specs.Rows.{table_words}
 use Rattle.tables.specs.Tables.{same_at, same_rows}
 use Rattle.entries.proofs.Words.{same_is_rows}
 use Rattle.layout.specs.Layout.{entries_codec}
-use Rattle.part_checks.proofs.copies.same_three.Reads as reads
-use Rattle.part_checks.proofs.copies.same_three.Lts as lts
 use Rattle.part_checks.proofs.copies.compare_words.Reads as compare-words-reads
 use Rattle.words.proofs.read.Reads as read-reads
 use Rattle.part_checks.proofs.copies.same_three.Goals as goal
@@ -35,6 +32,9 @@ returns c =
     let words_of : ((x : List ℕ) → length x ≡ 8 * table_words 2 a.most → length (words x) ≡ table_words 2 a.most) = λ x h. length_words x ∙ omega arith in
     let one = words_of a.one.now c.requires.table.size in
     let n = c.read-n in
-    let same = c.compare_words-same.ensures in record { known_value = rows_same a.most _ _ one (words_of a.second.now c.requires.table_2.size) c.requires.table.few c.requires.table_2.few _ _ _ n.ensures
-          c.read-second_rows.ensures same.known_value; saved_value = rows_same a.most _ _ one (words_of a.third.now c.requires.table_3.size) c.requires.table.few c.requires.table_3.few _ _ _ n.ensures
-          c.read-third_rows.ensures same.saved_value }
+    let same = c.compare_words-same.ensures in record {
+      known_value = rows_same a.most _ _ one (words_of a.second.now c.requires.table_2.size) c.requires.table.few c.requires.table_2.few _ _ _ n.ensures
+          c.read-second_rows.ensures same.known_value;
+      saved_value = rows_same a.most _ _ one (words_of a.third.now c.requires.table_3.size) c.requires.table.few c.requires.table_3.few _ _ _ n.ensures
+          c.read-third_rows.ensures same.saved_value;
+    }

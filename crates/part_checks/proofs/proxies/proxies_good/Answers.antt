@@ -1,13 +1,12 @@
 use mathlib.Core.Path.{◌≡◌, refl, sym, ap, ◌∙◌}
 use mathlib.Core.List.{List}
-use mathlib.Core.Bool.{Bool, true}
+use mathlib.Core.Bool.{Bool}
 use Prim.Native.Nat.{ℕ, ◌+◌, ◌*◌, ◌-◌, ◌^◌, ◌≤◌, ◌<◌}
 use lib.ListN.{length}
 use borrow.Author.Count.{below_more, below_none}
 use borrow.Author.Tests.{not-true, not-false}
 use Rattle.lists.proofs.Tests.{all_true, all_false}
 use Rattle.words.specs.Words.{words}
-use Rattle.rules.specs.Limits.{proxies}
 use Rattle.rules.specs.Sound.{sound_proxy}
 use Rattle.layout.specs.Layout.{proxy_codec, proxy_words, proxy_at}
 use Rattle.row_checks.specs.Rows.{key_below}
@@ -54,7 +53,7 @@ returns-then-not-proxy_good c =
     ap (test (key_below a.bounds.now) c.loop-p.p) (sym (lent a.store.now (8 * at.result) (8 * at.result + 8 * proxy_words)
     (proxy_at a.settings c.loop-p.p) proxy_words (omega (arith, at.ensures.0)) refl (omega (arith, at.ensures.0, (room).0))))
     ∙ sym c.proxy_good.ensures in
- sym (all_false _ _ c.loop-p.p (omega arith) (tested ∙ not-true _ c.if-not-proxy_good.true-raw))
+    sym (all_false _ _ c.loop-p.p (omega arith) (tested ∙ not-true _ c.if-not-proxy_good.true-raw))
 
 pub loop-p-preserved : goal.loop-p-preserved
 unfolding proxy_sound
@@ -66,7 +65,7 @@ loop-p-preserved c =
     ap (test (key_below a.bounds.now) c.loop-p.p) (sym (lent a.store.now (8 * at.result) (8 * at.result + 8 * proxy_words)
     (proxy_at a.settings c.loop-p.p) proxy_words (omega (arith, at.ensures.0)) refl (omega (arith, at.ensures.0, (room).0))))
     ∙ sym c.proxy_good.ensures in
- (search rules, below_more _ c.loop-p.p c.loop-p.invariant.1 (tested ∙ not-false _ c.if-not-proxy_good.false-raw))
+    (search rules, below_more _ c.loop-p.p c.loop-p.invariant.1 (tested ∙ not-false _ c.if-not-proxy_good.false-raw))
 
 pub returns : goal.returns
 returns c = sym (all_true _ _ (λ k p. c.loop-p.invariant.1 k (omega arith)))

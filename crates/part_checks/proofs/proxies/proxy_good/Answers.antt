@@ -9,7 +9,6 @@ use Rattle.lists.proofs.Tests.{no_first, yes_first}
 use Rattle.layout.proofs.Lent.{lent}
 use Rattle.part_checks.proofs.ProxyLaws.{proxy_is}
 use native.Mathlib.Omega.{arith}
-use borrow.Author.Rules.{rules}
 use Rattle.part_checks.proofs.proxies.proxy_good.Goals as goal
 
 pub returns-then-read-gt-MAX_VIEW_OR_ORDER : goal.returns-then-read-gt-MAX_VIEW_OR_ORDER

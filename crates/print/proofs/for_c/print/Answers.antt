@@ -1,6 +1,5 @@
 use mathlib.Core.Path.{sym, ap, ◌∙◌}
 use Rattle.print.specs.Answers.{line_answer}
-use borrow.Author.Rules.{rules}
 use Rattle.print.proofs.for_c.print.Goals as goal
 
 -- `print::for_c::print` meets its contract.

@@ -4,7 +4,6 @@ use Rattle.words.specs.Words.{words}
 use Rattle.words.proofs.Laws.{length_words}
 use Rattle.records.specs.Records.{head_of}
 use Rattle.records.proofs.Steps.{head_written}
-use borrow.Author.Rules.{rules}
 use Rattle.records.proofs.head.write.Goals as goal
 
 pub returns : goal.returns

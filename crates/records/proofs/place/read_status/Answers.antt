@@ -4,7 +4,6 @@ use Rattle.words.specs.Words.{words}
 use Rattle.words.proofs.Laws.{length_words, words_part}
 use Rattle.layout.specs.Layout.{status_codec, status_words, up_at}
 use Rattle.records.proofs.Change.{status_seen}
-use borrow.Author.Rules.{rules}
 use Rattle.records.proofs.place.read_status.Goals as goal
 
 pub returns : goal.returns

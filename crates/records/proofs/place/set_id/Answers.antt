@@ -3,7 +3,6 @@ use native.Mathlib.Omega.{arith}
 use Rattle.words.specs.Words.{words}
 use Rattle.words.proofs.Laws.{length_words}
 use Rattle.records.proofs.Change.{id_changed}
-use borrow.Author.Rules.{rules}
 use Rattle.records.proofs.place.set_id.Goals as goal
 
 pub returns : goal.returns

@@ -5,7 +5,6 @@ use Rattle.words.proofs.Laws.{length_words, lent_run}
 use Rattle.layout.specs.Layout.{status_codec, status_words, up_at}
 use Rattle.records.specs.Records.{status_of}
 use Rattle.records.proofs.Change.{status_changed}
-use borrow.Author.Rules.{rules}
 use Rattle.records.proofs.place.write_status.Goals as goal
 
 pub returns : goal.returns

@@ -4,7 +4,6 @@ use Rattle.words.specs.Words.{words}
 use Rattle.words.proofs.Laws.{length_words}
 use Rattle.codec.proofs.Focus.{read_word}
 use Rattle.layout.proofs.Foci.{known_in}
-use borrow.Author.Rules.{rules}
 use Rattle.records.proofs.proxy.known.Goals as goal
 
 pub returns : goal.returns

@@ -1,6 +1,5 @@
 use Rattle.words.specs.Words.{words}
 use Rattle.records.proofs.Steps.{status_read}
-use borrow.Author.Rules.{rules}
 use Rattle.records.proofs.status.read.Goals as goal
 
 pub returns : goal.returns

@@ -5,7 +5,6 @@ use Rattle.words.specs.Words.{words}
 use Rattle.entries.specs.Entries.{copied_entries}
 use Rattle.recovery.specs.Copies.{memory_word, disk_word}
 use Rattle.recovery.proofs.Replaced.{few_still}
-use borrow.Author.Rules.{rules}
 use Rattle.recovery.proofs.copies.replace.Goals as goal
 
 pub copy-requires : goal.copy-requires
@@ -22,7 +21,6 @@ copy-requires-2 c =
     ≡ copied_entries c.args.settings.entries (memory_word c.args.settings c.args.bucket c.args.from)
     (disk_word c.args.settings c.args.bucket c.args.to) (words c.args.store.now) = c.copy.ensures ∙ ap₂ (λ (i j : ℕ). copied_entries c.args.settings.entries i j (words c.args.store.now))
     c.memory_at-source.ensures.0 c.disk_at-disk.ensures.0 in
-
     let ws = words c.args.store.now in
     record {
       first_in = omega (arith, c.requires.size, c.memory_at-source.ensures.1);
@@ -37,7 +35,6 @@ returns c =
     ≡ copied_entries c.args.settings.entries (memory_word c.args.settings c.args.bucket c.args.from)
     (disk_word c.args.settings c.args.bucket c.args.to) (words c.args.store.now) = c.copy.ensures ∙ ap₂ (λ (i j : ℕ). copied_entries c.args.settings.entries i j (words c.args.store.now))
     c.memory_at-source.ensures.0 c.disk_at-disk.ensures.0 in
-
     let t = c.args.settings in
     c.copy-2.ensures
     ∙ ap₂ (λ (i j : ℕ). copied_entries t.entries i j (words c.copy.new.s)) c.memory_at-source.ensures.0

@@ -10,7 +10,6 @@ use Rattle.lent.specs.Places.{Stands}
 use Rattle.recovery.specs.Fetch.{fetched_record}
 use Rattle.recovery.proofs.Questions.{source_up}
 use Rattle.recovery.proofs.FetchLaws.{fetch_few, fetch_steps}
-use borrow.Author.Rules.{rules}
 use Rattle.recovery.proofs.fetch.replace.Goals as goal
 
 pub agreed-agreed-requires : goal.agreed-agreed-requires
@@ -36,7 +35,6 @@ replace-requires c =
     c.place-from.ensures in
     let to : Stands c.args.settings (state) ((state).bucket c.args.bucket).primary c.place-to.result = subst (λ (i : ℕ). Stands c.args.settings (state) i c.place-to.result) (ap (λ (k : Agreed). k.primary) c.agreed-agreed.ensures)
     c.place-to.ensures in
-
     let v = c.requires.0 in
     record {
       limits = v.limits;
@@ -62,7 +60,6 @@ returns c =
     c.place-from.ensures in
     let to : Stands c.args.settings (state) ((state).bucket c.args.bucket).primary c.place-to.result = subst (λ (i : ℕ). Stands c.args.settings (state) i c.place-to.result) (ap (λ (k : Agreed). k.primary) c.agreed-agreed.ensures)
     c.place-to.ensures in
-
     fetch_steps c.args.settings c.args.store.now c.requires.0 c.args.bucket c.requires.1.inside _ _ (from) (to) _ _ _
     (c.fetched.ensures ∙ ap (λ (k : Agreed). fetched_record k) c.agreed-agreed.ensures)
     c.replace.ensures c.write.ensures

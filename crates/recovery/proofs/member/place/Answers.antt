@@ -5,7 +5,6 @@ use Rattle.rules.specs.Derived.{up_member}
 use Rattle.words.specs.Words.{words}
 use Rattle.layout.specs.Store.{decode}
 use Rattle.lent.specs.Places.{MemberAt}
-use borrow.Author.Rules.{rules}
 use Rattle.recovery.proofs.member.place.Goals as goal
 
 pub returns-in-At : goal.returns-in-At

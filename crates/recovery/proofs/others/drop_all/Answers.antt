@@ -1,18 +1,15 @@
-use mathlib.Core.Path.{◌≡◌, ap}
+use mathlib.Core.Path.{ap}
 use Prim.Native.Nat.{ℕ, ◌+◌, ◌*◌, ◌-◌}
 use native.Mathlib.Omega.{arith}
-use Rattle.layout.specs.Layout.{place_words}
-use Rattle.lent.proofs.AllPlaces.{Changed, none_changed, all_changed, next_place, one_more}
+use Rattle.lent.proofs.AllPlaces.{none_changed, all_changed, next_place, one_more}
 use Rattle.recovery.specs.Ready.{dropped_copies}
-use borrow.Author.Rules.{rules}
 use Rattle.recovery.proofs.others.drop_all.Goals as goal
 
 pub loop-place-init : goal.loop-place-init
-loop-place-init c =
-    (
-      ap (λ (k : ℕ). c.args.settings.places * k) c.place_words-size.ensures,
-      none_changed (dropped_copies c.args.bucket c.args.primary c.args.backup) c.args.settings c.args.part.now c.requires.0,
-    )
+loop-place-init c = (
+  ap (λ (k : ℕ). c.args.settings.places * k) c.place_words-size.ensures,
+  none_changed (dropped_copies c.args.bucket c.args.primary c.args.backup) c.args.settings c.args.part.now c.requires.0,
+)
 
 pub drop_at-requires : goal.drop_at-requires
 drop_at-requires c =

@@ -1,10 +1,8 @@
-use mathlib.Core.Path.{◌≡◌, ap}
-use Prim.Native.Nat.{ℕ, ◌+◌, ◌*◌, ◌-◌}
-use native.Mathlib.Omega.{arith}
+use mathlib.Core.Path.{◌≡◌}
+use Prim.Native.Nat.{◌*◌, ◌-◌}
 use Rattle.layout.specs.Layout.{place_words}
-use Rattle.lent.proofs.AllPlaces.{Changed, none_changed, all_changed, next_place, one_more}
+use Rattle.lent.proofs.AllPlaces.{Changed}
 use Rattle.recovery.specs.Ready.{dropped_copies}
-use borrow.Author.Rules.{rules}
 use Rattle.recovery.proofs.others.drop_all.Given as goal
 
 abbrev pub invariant-loop-place : goal.invariant-loop-place

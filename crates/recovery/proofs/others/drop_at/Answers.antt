@@ -3,7 +3,6 @@ use native.Mathlib.Omega.{arith}
 use Rattle.words.specs.Words.{words}
 use Rattle.layout.specs.Contents.{Status}
 use Rattle.recovery.proofs.PlaceLaws.{outside_down, outside_primary, outside_backup, outside_up, place_stays, place_drops, empty_stays}
-use borrow.Author.Rules.{rules}
 use Rattle.recovery.proofs.others.drop_at.Goals as goal
 
 pub id-id-requires : goal.id-id-requires
@@ -26,12 +25,11 @@ returns-then-id-backup c =
     (outside_backup c.args.primary c.args.backup _ _ (sym c.id-id.ensures ∙ c.if-id-backup.true))
 
 pub read_status-status-requires : goal.read_status-status-requires
-read_status-status-requires c =
-    (
-      c.requires.0.size,
-      omega
-          (arith, c.id-id.ensures, c.if-id-eq0.false),
-    )
+read_status-status-requires c = (
+  c.requires.0.size,
+  omega
+      (arith, c.id-id.ensures, c.if-id-eq0.false),
+)
 
 pub empty-requires : goal.empty-requires
 empty-requires c =

@@ -8,7 +8,6 @@ use Rattle.words.proofs.Laws.{length_words, lent_run}
 use Rattle.layout.specs.Layout.{copy_codec, copy_words, copies_at}
 use Rattle.layout.proofs.Lent.{lent_length}
 use Rattle.recovery.proofs.PlaceLaws.{emptied_steps}
-use borrow.Author.Rules.{rules}
 use Rattle.recovery.proofs.others.empty.Goals as goal
 
 pub returns : goal.returns

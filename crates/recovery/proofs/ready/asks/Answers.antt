@@ -12,7 +12,6 @@ use Rattle.rules.specs.Views.{ready_asks}
 use mathlib.Core.List.{◌∷◌}
 use Rattle.layout.specs.Store.{agreed_in}
 use Rattle.recovery.specs.Asks.{fetched_asks}
-use borrow.Author.Rules.{rules}
 use Rattle.recovery.proofs.ready.asks.Goals as goal
 
 abbrev state : goal.Else-no-ne0 → State
@@ -25,7 +24,6 @@ returns-then-no-ne0 c =
 pub agreed-agreed-requires : goal.agreed-agreed-requires
 agreed-agreed-requires c =
     let none : first_no (bucket_asks (state c) c.args.bucket) ≡ 0 = sym c.bucket_asks-no.ensures ∙ c.if-no-ne0.false in
-
     (c.requires, (bucket_yes c.args.settings c.args.store.now c.requires c.args.bucket (none)).inside)
 
 pub returns-then-up_member : goal.returns-then-up_member
@@ -37,7 +35,6 @@ returns-then-up_member c =
     ∷ fetched_asks (agreed_in ((state).bucket c.args.bucket))) = bucket_more c.args.settings c.args.store.now c.requires c.args.bucket (none) _ in
     let backup : c.up_member.result
     ≡ up_member (state) ((state).bucket c.args.bucket).backup = c.up_member.ensures ∙ ap (λ (k : Agreed). up_member (state) k.backup) c.agreed-agreed.ensures in
-
     sym (later ∙ first_yes 6 _ (sym (backup) ∙ c.if-up_member.true)
     ∙ ap (λ (k : Agreed). first_no (fetched_asks k)) (sym c.agreed-agreed.ensures) ∙ sym c.fetched_asks.ensures)
 
@@ -50,5 +47,4 @@ returns c =
     ∷ fetched_asks (agreed_in ((state).bucket c.args.bucket))) = bucket_more c.args.settings c.args.store.now c.requires c.args.bucket (none) _ in
     let backup : c.up_member.result
     ≡ up_member (state) ((state).bucket c.args.bucket).backup = c.up_member.ensures ∙ ap (λ (k : Agreed). up_member (state) k.backup) c.agreed-agreed.ensures in
-
     sym (later ∙ first_stop 6 _ (sym (backup) ∙ c.if-up_member.false))

@@ -16,7 +16,6 @@ use Rattle.lent.specs.Places.{Stands}
 use Rattle.lent.proofs.AllPlaces.{places_lent, places_changed}
 use Rattle.recovery.specs.Ready.{dropped_copies, ready_record}
 use Rattle.recovery.proofs.ReadyLaws.{others_drop, place_dropped, records_kept, ready_few, ready_moves, ready_steps}
-use borrow.Author.Rules.{rules}
 use Rattle.recovery.proofs.ready.make_ready.Goals as goal
 
 pub agreed-agreed-requires : goal.agreed-agreed-requires
@@ -72,7 +71,6 @@ replace-requires c =
     c.drop_all.new.part (long)
     (c.drop_all.ensures ∙ ap (λ (k : Agreed). change (all_places_codec t) (λ places p. dropped_copies g k.primary k.backup (places p))
     (words (take (length bs - o) (drop o bs)))) c.agreed-agreed.ensures) in
-
     let v = c.requires.0 in
     record {
       limits = v.limits;
@@ -115,7 +113,6 @@ drain-requires c =
     c.drop_all.new.part (long)
     (c.drop_all.ensures ∙ ap (λ (k : Agreed). change (all_places_codec t) (λ places p. dropped_copies g k.primary k.backup (places p))
     (words (take (length bs - o) (drop o bs)))) c.agreed-agreed.ensures) in
-
     ready_moves c.args.settings c.args.store.now c.requires.0 c.args.bucket c.requires.1.inside _ _ (primary) (backup) _ _ (dropped)
     c.replace.ensures _ (c.replace.auto.store ∙ dropped-length)
 
@@ -129,9 +126,7 @@ write-requires c =
     c.drop_all.auto.part ∙ run_length o (length bs - o) bs (omega (arith, c.places_at-places.ensures, c.requires.0.size)) in
     let dropped-length : length (after) ≡ length c.args.store.now = let bs = c.args.store.now in
     let o = 8 * c.places_at-places.result in
-    lent_length bs c.drop_all.new.part o (length bs - o) (omega (arith, c.places_at-places.ensures, c.requires.0.size)) (long) in
-
-    (
+    lent_length bs c.drop_all.new.part o (length bs - o) (omega (arith, c.places_at-places.ensures, c.requires.0.size)) (long) in (
       c.drain.auto.store ∙ c.replace.auto.store
           ∙ dropped-length ∙ c.requires.0.size,
       c.requires.1.inside,
@@ -148,7 +143,6 @@ shape_of-store c =
     let dropped-length : length (after) ≡ length c.args.store.now = let bs = c.args.store.now in
     let o = 8 * c.places_at-places.result in
     lent_length bs c.drop_all.new.part o (length bs - o) (omega (arith, c.places_at-places.ensures, c.requires.0.size)) (long) in
-
     c.write.auto.store ∙ c.drain.auto.store ∙ c.replace.auto.store
     ∙ dropped-length
 
@@ -181,7 +175,6 @@ returns c =
     c.drop_all.new.part (long)
     (c.drop_all.ensures ∙ ap (λ (k : Agreed). change (all_places_codec t) (λ places p. dropped_copies g k.primary k.backup (places p))
     (words (take (length bs - o) (drop o bs)))) c.agreed-agreed.ensures) in
-
     ready_steps c.args.settings c.args.store.now c.requires.0 c.args.bucket c.requires.1.inside _ _ (primary) (backup) _ _ _ _ _
     (c.readied.ensures ∙ ap (λ (k : Agreed). ready_record k) c.agreed-agreed.ensures) (dropped)
     c.replace.ensures c.drain.ensures c.write.ensures

@@ -4,7 +4,6 @@ use Rattle.rules.specs.Step.{rule}
 use Rattle.words.specs.Words.{words}
 use Rattle.lent.proofs.Performs.{refused, accepted}
 use Rattle.recovery.proofs.Questions.{ready_yes}
-use borrow.Author.Rules.{rules}
 use Rattle.recovery.proofs.ready.ready.Goals as goal
 
 pub returns-then-no-ne0 : goal.returns-then-no-ne0

@@ -17,7 +17,6 @@ use Rattle.layout.proofs.Lent.{lent}
 use Rattle.layout.proofs.Bounds.{store_small}
 use Rattle.buffers.specs.Steps.{drained_words}
 use Rattle.recovery.proofs.Moved.{still_few}
-use borrow.Author.Rules.{rules}
 use Rattle.recovery.proofs.waiting.drain.Goals as goal
 
 pub overflow_add-buffer : goal.overflow_add-buffer

@@ -7,7 +7,6 @@ use Rattle.words.specs.Words.{words}
 use Rattle.layout.specs.Store.{decode}
 use Rattle.relays.specs.Relays.{relay_of, takes_relay, FoundAt, Takeable}
 use Rattle.relays.proofs.Delivering.{deliver_none, deliver_aside, deliver_no, deliver_yes}
-use borrow.Author.Rules.{rules}
 use Rattle.relays.proofs.deliver.deliver.Goals as goal
 
 pub returns-then-relay_count-index : goal.returns-then-relay_count-index
@@ -17,7 +16,6 @@ returns-then-relay_count-index c =
 pub read-found-requires : goal.read-found-requires
 read-found-requires c =
     let inside : c.args.index < length (decode (words c.args.store.now)).bag = omega (arith, c.relay_count.ensures, c.if-relay_count-index.false) in
-
     (c.requires, inside)
 
 pub returns-then-no-ne0 : goal.returns-then-no-ne0
@@ -28,7 +26,6 @@ returns-then-no-ne0 c =
     let decided : (x : Bool) → c.is_taken.result ≡ x
     → let s = decode (words c.args.store.now) in
     takes_relay s (relay_of s c.read-found.result) ≡ x = λ x y. sym c.is_taken.ensures ∙ y in
-
     deliver_no (words c.args.store.now) c.args.index _ (found) c.requires.sound
     (decided _ c.if-is_taken.true) _ c.asks-no.ensures c.if-no-ne0.true
 
@@ -46,7 +43,6 @@ take-requires c =
       taken = decided _ c.if-is_taken.true;
       asked = sym c.asks-no.ensures ∙ c.if-no-ne0.false;
     } in
-
     (c.requires, takeable)
 
 pub returns-then-is_taken : goal.returns-then-is_taken
@@ -63,14 +59,12 @@ returns-then-is_taken c =
       taken = decided _ c.if-is_taken.true;
       asked = sym c.asks-no.ensures ∙ c.if-no-ne0.false;
     } in
-
     let done = c.take in
     deliver_yes (words c.args.store.now) c.args.index _ (takeable) (words done.new.store) done.ensures
 
 pub remove-requires : goal.remove-requires
 remove-requires c =
     let inside : c.args.index < length (decode (words c.args.store.now)).bag = omega (arith, c.relay_count.ensures, c.if-relay_count-index.false) in
-
     (c.requires, inside)
 
 pub returns : goal.returns
@@ -81,7 +75,6 @@ returns c =
     let decided : (x : Bool) → c.is_taken.result ≡ x
     → let s = decode (words c.args.store.now) in
     takes_relay s (relay_of s c.read-found.result) ≡ x = λ x y. sym c.is_taken.ensures ∙ y in
-
     let done = c.remove in
     deliver_aside (words c.args.store.now) c.args.index _ (found) (decided _ c.if-is_taken.false)
     (words done.new.store) done.ensures

@@ -3,7 +3,6 @@ use Rattle.words.specs.Words.{words}
 use Rattle.layout.specs.Store.{decode}
 use Rattle.records.specs.Records.{agreed_of}
 use Rattle.relays.proofs.Delivering.{old_relay, new_relay}
-use borrow.Author.Rules.{rules}
 use Rattle.relays.proofs.deliver.is_taken.Goals as goal
 
 pub returns-then-relay-view : goal.returns-then-relay-view

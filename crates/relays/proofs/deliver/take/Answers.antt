@@ -9,14 +9,12 @@ use Rattle.records.specs.Records.{agreed_of}
 use Rattle.lent.specs.Places.{Stands}
 use Rattle.mappings.proofs.Buckets.{InBucket, in_bucket}
 use Rattle.relays.proofs.Delivering.{backup_stands, copy_takes, Entered, entered_rule, bag_stays, delivered}
-use borrow.Author.Rules.{rules}
 use Rattle.relays.proofs.deliver.take.Goals as goal
 
 pub returns-in_default : goal.returns-in_default
 returns-in_default c =
     let read : InBucket (decode (words c.args.store.now)) c.args.settings.entries c.args.relay.block.0 c.number-bucket.result
     (agreed_of c.agreed-agreed.result) = in_bucket c.args.settings c.args.store.now c.requires.0 c.args.relay.block.0 _ c.number-bucket.ensures.0 _ c.agreed-agreed.ensures in
-
     let h : brick_in (decode (words c.args.store.now)) c.agreed-agreed.result.backup ≡ blank_brick =
     rw c.in_default.is at c.place_of.ensures in
     absurd (backup_stands _ c.args.relay _ _ _ (read) c.args.index c.requires.1 h)
@@ -26,7 +24,6 @@ insert-requires c =
     let read : InBucket (decode (words c.args.store.now)) c.args.settings.entries c.args.relay.block.0 c.number-bucket.result
     (agreed_of c.agreed-agreed.result) = in_bucket c.args.settings c.args.store.now c.requires.0 c.args.relay.block.0 _ c.number-bucket.ensures.0 _ c.agreed-agreed.ensures in
     let stands : Stands c.args.settings (decode (words c.args.store.now)) c.agreed-agreed.result.backup c.in-At.place = rw c.in-At.is at c.place_of.ensures in
-
     let h = stands in (
       c.requires.0,
       h.inside,
@@ -53,7 +50,6 @@ remove-requires c =
           c.insert.ensures;
       size = omega (arith, c.store-1.given);
     } in
-
     let k = bag_stays (entered) in record { table = k.table; i_bound = omega (arith, k.count, c.requires.1.found.inside) }
 
 pub returns : goal.returns
@@ -74,7 +70,6 @@ returns c =
           c.insert.ensures;
       size = omega (arith, c.store-1.given);
     } in
-
     let removed = c.remove in
     c.write.ensures
     ∙ delivered (entered) removed.new.t removed.auto.t removed.ensures _

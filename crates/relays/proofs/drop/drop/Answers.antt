@@ -10,7 +10,6 @@ use Rattle.rules.specs.Step.{rule}
 use Rattle.rules.proofs.Questions.{first_stop}
 use Rattle.layout.specs.Store.{decode}
 use Rattle.lent.proofs.Performs.{refused, accepts}
-use borrow.Author.Rules.{rules}
 use Rattle.relays.proofs.drop.drop.Goals as goal
 
 pub returns-then-relay_count-index : goal.returns-then-relay_count-index
@@ -23,14 +22,12 @@ returns-then-relay_count-index c =
 pub remove-requires : goal.remove-requires
 remove-requires c =
     let inside : c.args.index < length (decode (words c.args.store.now)).bag = omega (arith, c.relay_count.ensures, c.if-relay_count-index.false) in
-
     (c.requires, inside)
 
 pub returns : goal.returns
 unfolding rule
 returns c =
     let inside : c.args.index < length (decode (words c.args.store.now)).bag = omega (arith, c.relay_count.ensures, c.if-relay_count-index.false) in
-
     let removed = c.remove in
     accepts (Event.drop c.args.index) (words c.args.store.now) (words removed.new.store)
     (lt-ltb c.args.index _ (inside), tt) removed.ensures

@@ -1,5 +1,4 @@
 use Rattle.relays.proofs.Bag.{bag_lent}
-use borrow.Author.Rules.{rules}
 use Rattle.relays.proofs.relay.bag_part.Goals as goal
 
 pub returns : goal.returns

@@ -1,6 +1,5 @@
 use Rattle.words.specs.Words.{words}
 use Rattle.relays.proofs.Bag.{relay_read}
-use borrow.Author.Rules.{rules}
 use Rattle.relays.proofs.relay.read.Goals as goal
 
 pub returns : goal.returns

@@ -1,7 +1,6 @@
 use native.Mathlib.Omega.{arith}
 use Rattle.rules.specs.Maps.{remove_at, drop_effect}
 use Rattle.relays.proofs.Bag.{bag_lent, bag_becomes}
-use borrow.Author.Rules.{rules}
 use Rattle.relays.proofs.relay.remove.Goals as goal
 
 pub remove-requires : goal.remove-requires

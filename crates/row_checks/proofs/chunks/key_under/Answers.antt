@@ -4,9 +4,6 @@ use lib.Bits.{bit_or}
 use Rattle.words.specs.Words.{words}
 use Rattle.chunk_log.specs.Log.{row_saved}
 use Rattle.chunk_log.proofs.Check.{row_key_by}
-use borrow.Author.Rules.{rules}
-use Rattle.row_checks.proofs.chunks.key_under.Reads as reads
-use Rattle.row_checks.proofs.chunks.key_under.Lts as lts
 use Rattle.words.proofs.read.Reads as read-reads
 use Rattle.row_checks.proofs.chunks.key_under.Goals as goal
 

@@ -5,7 +5,6 @@ use Rattle.row_checks.specs.Rows.{key_below}
 use Rattle.row_checks.proofs.RowLaws.{zero_not_below}
 use Rattle.row_checks.proofs.ChunkLaws.{log_over, log_pass}
 use native.Mathlib.Omega.{arith}
-use borrow.Author.Rules.{rules}
 use Rattle.row_checks.proofs.chunks.log_good.Goals as goal
 
 pub returns-then-chunks-count : goal.returns-then-chunks-count

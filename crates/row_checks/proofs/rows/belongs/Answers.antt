@@ -1,6 +1,5 @@
 use Rattle.rules.specs.Sound.{in_bucket}
 use Rattle.row_checks.specs.Rows.{belongs_to}
-use borrow.Author.Rules.{rules}
 use Rattle.row_checks.proofs.rows.belongs.Goals as goal
 
 pub returns-in-Bucket : goal.returns-in-Bucket

@@ -1,9 +1,6 @@
 use mathlib.Core.Path.{sym, ◌∙◌}
 use native.Mathlib.Omega.{arith}
-use borrow.Author.Rules.{rules}
 use borrow.Author.Tests.{not-false}
-use Rattle.row_checks.proofs.rows.block_under.Reads as reads
-use Rattle.row_checks.proofs.rows.block_under.Lts as lts
 use Rattle.row_checks.proofs.rows.key_below.Reads as key-below-reads
 use Rattle.words.proofs.read.Reads as read-reads
 use Rattle.row_checks.proofs.rows.block_under.Goals as goal

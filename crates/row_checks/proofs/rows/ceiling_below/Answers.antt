@@ -1,5 +1,4 @@
 use Rattle.row_checks.specs.Rows.{ceiling_below}
-use borrow.Author.Rules.{rules}
 use Rattle.row_checks.proofs.rows.ceiling_below.Goals as goal
 
 pub returns-in-Bucket : goal.returns-in-Bucket

@@ -2,7 +2,6 @@ use mathlib.Core.Path.{sym, ◌∙◌}
 use borrow.Author.Tests.{not-true, not-false}
 use Rattle.lists.proofs.Tests.{no_first, yes_first}
 use Rattle.row_checks.specs.Rows.{entry_fits}
-use borrow.Author.Rules.{rules}
 use Rattle.row_checks.proofs.rows.entry_fits.Goals as goal
 
 pub returns-then-not-belongs : goal.returns-then-not-belongs

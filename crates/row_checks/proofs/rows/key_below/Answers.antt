@@ -1,5 +1,4 @@
 use Rattle.row_checks.specs.Rows.{key_below}
-use borrow.Author.Rules.{rules}
 use Rattle.row_checks.proofs.rows.key_below.Goals as goal
 
 pub returns : goal.returns

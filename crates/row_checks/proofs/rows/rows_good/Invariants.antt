@@ -1,16 +1,9 @@
-use mathlib.Core.Path.{◌≡◌, refl, sym, ap, ◌∙◌}
-use mathlib.Core.Bool.{Bool}
-use Prim.Native.Nat.{ℕ, suc, ◌-◌, ◌≤◌, ◌<◌}
-use native.Mathlib.Omega.{arith}
-use borrow.Author.Tests.{not-true, not-false}
+use mathlib.Core.Path.{◌≡◌}
+use Prim.Native.Nat.{◌-◌, ◌≤◌}
 use Rattle.rules.specs.Numbers.{block_count}
 use Rattle.words.specs.Words.{words}
 use Rattle.row_checks.specs.Rows.{key_below}
-use Rattle.row_checks.proofs.RowLaws.{ceiling_range, rows_under, under_none, under_high, under_bad, under_next, rows_are}
-use Rattle.row_checks.proofs.StretchLaws.{stretch_under}
-use borrow.Author.Rules.{rules}
-use Rattle.row_checks.proofs.rows.rows_good.Reads as reads
-use Rattle.row_checks.proofs.rows.rows_good.Lts as lts
+use Rattle.row_checks.proofs.RowLaws.{rows_under}
 use Rattle.row_checks.proofs.rows.ceiling_below.Reads as ceiling-below-reads
 use Rattle.row_checks.proofs.rows.entry_fits.Reads as entry-fits-reads
 use Rattle.row_checks.proofs.rows.stretch.Reads as stretch-reads

@@ -1,10 +1,5 @@
-use native.Mathlib.Omega.{arith}
-use borrow.Author.Rules.{rules}
 use Rattle.words.specs.Words.{words}
 use Rattle.row_checks.specs.Stretches.{Stretch}
-use Rattle.row_checks.proofs.StretchLaws.{stretch_start, stretch_four}
-use Rattle.row_checks.proofs.rows.stretch.Reads as reads
-use Rattle.row_checks.proofs.rows.stretch.Lts as lts
 use Rattle.row_checks.proofs.rows.block_under.Reads as block-under-reads
 use Rattle.words.proofs.read.Reads as read-reads
 use Rattle.row_checks.proofs.rows.stretch.Given as goal

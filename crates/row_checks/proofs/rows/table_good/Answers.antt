@@ -2,7 +2,6 @@ use mathlib.Core.Path.{sym, ◌∙◌}
 use Rattle.words.specs.Words.{words}
 use Rattle.row_checks.specs.Rows.{key_below}
 use Rattle.row_checks.proofs.RowLaws.{table_over, table_rows}
-use borrow.Author.Rules.{rules}
 use Rattle.row_checks.proofs.rows.table_good.Goals as goal
 
 pub returns-then-most-count : goal.returns-then-most-count

@@ -11,7 +11,6 @@ use Rattle.calls.proofs.Performed.{store_sound}
 use Rattle.reads.proofs.Outcomes.{size_is}
 use Rattle.reads.proofs.Zeros.{zeros_are}
 use Rattle.step.proofs.Parts.{unsound_part, unlent_part, got_part}
-use borrow.Author.Rules.{rules}
 use Rattle.step.proofs.get.get.Goals as goal
 
 -- the store is sound, and made of bytes
@@ -32,7 +31,6 @@ returns-then-not-is_zero_block c =
     let checked : SoundStore c.args.store.now = store_sound _ (sym c.is_sound.ensures ∙ not-false _ c.if-not-is_sound.false-raw) in
     let below : Below 256 c.args.store.now = below_of 256 _ (λ i. omega (arith, c.type_inv.store i)) in
     let zero_block : is_zero_block (decode_bytes c.args.store.now).settings.size c.args.blank.now ≡ c.is_zero_block.result = ap (λ (n : ℕ). is_zero_block n c.args.blank.now) (sym (size_is _ c.args.store.now c.settings-settings.ensures)) ∙ sym c.is_zero_block.ensures in
-
     unlent_part c.args.store.now c.args.blank.now c.args.proxy c.args.block (checked) (below)
     (zero_block ∙ not-true _ c.if-not-is_zero_block.true-raw)
 
@@ -46,6 +44,5 @@ returns c =
     let checked : SoundStore c.args.store.now = store_sound _ (sym c.is_sound.ensures ∙ not-false _ c.if-not-is_sound.false-raw) in
     let below : Below 256 c.args.store.now = below_of 256 _ (λ i. omega (arith, c.type_inv.store i)) in
     let zero_block : is_zero_block (decode_bytes c.args.store.now).settings.size c.args.blank.now ≡ c.is_zero_block.result = ap (λ (n : ℕ). is_zero_block n c.args.blank.now) (sym (size_is _ c.args.store.now c.settings-settings.ensures)) ∙ sym c.is_zero_block.ensures in
-
     got_part c.args.store.now c.args.blank.now c.args.proxy c.args.block (checked) (below)
     (zero_block ∙ not-false _ c.if-not-is_zero_block.false-raw) _ _ _ c.get-bytes.ensures

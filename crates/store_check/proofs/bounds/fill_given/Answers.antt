@@ -1,5 +1,5 @@
-use Prim.Native.Nat.{◌+◌, ◌-◌, ◌≤◌}
-use Rattle.store_check.proofs.BoundLaws.{GivenBelow, given_start, given_turn, given_end}
+use Prim.Native.Nat.{◌-◌}
+use Rattle.store_check.proofs.BoundLaws.{given_start, given_turn, given_end}
 use native.Mathlib.Omega.{arith}
 use borrow.Author.Rules.{rules}
 use Rattle.store_check.proofs.bounds.fill_given.Goals as goal

@@ -1,7 +1,5 @@
 use Prim.Native.Nat.{◌+◌, ◌-◌, ◌≤◌}
-use Rattle.store_check.proofs.BoundLaws.{GivenBelow, given_start, given_turn, given_end}
-use native.Mathlib.Omega.{arith}
-use borrow.Author.Rules.{rules}
+use Rattle.store_check.proofs.BoundLaws.{GivenBelow}
 use Rattle.store_check.proofs.bounds.fill_given.Given as goal
 
 abbrev pub invariant-loop-i : goal.invariant-loop-i

@@ -1,8 +1,7 @@
 use mathlib.Core.Path.{◌≡◌, ap, ◌∙◌}
-use Prim.Native.Nat.{ℕ, ◌+◌, ◌-◌, ◌≤◌}
+use Prim.Native.Nat.{ℕ, ◌+◌, ◌-◌}
 use lib.ListN.{get_or}
 use Rattle.words.specs.Words.{words}
-use Rattle.store_check.specs.Bounds.{Filled}
 use Rattle.layout.specs.Layout.{next_at}
 use Rattle.layout.proofs.Bounds.{store_small}
 use Rattle.store_check.proofs.BoundLaws.{fill_start, fill_turn}

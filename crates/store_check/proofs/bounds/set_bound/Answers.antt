@@ -1,7 +1,6 @@
 use mathlib.Core.Path.{sym}
 use Rattle.store_check.proofs.BoundLaws.{with_none, with_set, given_zero, given_far, given_yes}
 use native.Mathlib.Omega.{arith}
-use borrow.Author.Rules.{rules}
 use Rattle.store_check.proofs.bounds.set_bound.Goals as goal
 
 pub returns-then-id-eq0 : goal.returns-then-id-eq0

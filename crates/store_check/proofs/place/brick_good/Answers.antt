@@ -19,7 +19,6 @@ use Rattle.rules.specs.Sound.{sound_buffer}
 use Rattle.layout.proofs.Lent.{lent}
 use Rattle.store_check.proofs.PlaceLaws.{up_is}
 use native.Mathlib.Omega.{arith}
-use borrow.Author.Rules.{rules}
 use Rattle.store_check.proofs.place.brick_good.Goals as goal
 
 pub returns-then-not-status_good : goal.returns-then-not-status_good

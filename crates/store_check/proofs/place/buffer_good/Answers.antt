@@ -6,7 +6,6 @@ use Rattle.layout.specs.Layout.{buffer_at, buffer_codec}
 use Rattle.layout.proofs.Lent.{lent}
 use Rattle.store_check.proofs.PlaceLaws.{buffer_down, buffer_up}
 use native.Mathlib.Omega.{arith}
-use borrow.Author.Rules.{rules}
 use Rattle.store_check.proofs.place.buffer_good.Goals as goal
 
 pub returns-then-not-up : goal.returns-then-not-up

@@ -10,7 +10,6 @@ use Rattle.store_check.specs.Places.{brick_sound}
 use Rattle.layout.proofs.Lent.{lent}
 use Rattle.store_check.proofs.PlaceLaws.{place_empty, place_far, place_twice, place_brick}
 use native.Mathlib.Omega.{arith}
-use borrow.Author.Rules.{rules}
 use Rattle.store_check.proofs.place.place_good.Goals as goal
 
 pub place_at-at-requires : goal.place_at-at-requires

@@ -1,12 +1,8 @@
-use mathlib.Core.Path.{◌≡◌, sym, ◌∙◌}
-use mathlib.Core.Bool.{true}
-use Prim.Native.Nat.{ℕ, ◌-◌, ◌≤◌, ◌<◌}
+use mathlib.Core.Path.{sym, ◌∙◌}
+use Prim.Native.Nat.{◌-◌}
 use borrow.Author.Count.{below_more, below_none}
 use borrow.Author.Tests.{not-true, not-false}
 use Rattle.lists.proofs.Tests.{all_true, all_false}
-use Rattle.words.specs.Words.{words}
-use Rattle.row_checks.specs.Rows.{key_below}
-use Rattle.store_check.specs.Places.{place_sound}
 use Rattle.store_check.proofs.PlaceLaws.{passed_below}
 use native.Mathlib.Omega.{arith}
 use borrow.Author.Rules.{rules}
@@ -17,8 +13,11 @@ loop-p-init c = (search rules, below_none _)
 
 pub place_good-requires : goal.place_good-requires
 place_good-requires c =
-    let l = c.loop-p in record { places_fit = c.requires; passed = passed_below c.args.settings c.args.bounds.now c.args.store.now c.args.given l.p c.requires.small c.requires.size (omega arith)
-          l.invariant.1 }
+    let l = c.loop-p in record {
+      places_fit = c.requires;
+      passed = passed_below c.args.settings c.args.bounds.now c.args.store.now c.args.given l.p c.requires.small c.requires.size (omega arith)
+          l.invariant.1;
+    }
 
 pub returns-then-not-place_good : goal.returns-then-not-place_good
 returns-then-not-place_good c = sym (all_false _ _ c.loop-p.p (search rules) (sym c.place_good.ensures ∙ not-true _ c.if-not-place_good.true-raw))

@@ -1,15 +1,9 @@
-use mathlib.Core.Path.{◌≡◌, sym, ◌∙◌}
+use mathlib.Core.Path.{◌≡◌}
 use mathlib.Core.Bool.{true}
 use Prim.Native.Nat.{ℕ, ◌-◌, ◌≤◌, ◌<◌}
-use borrow.Author.Count.{below_more, below_none}
-use borrow.Author.Tests.{not-true, not-false}
-use Rattle.lists.proofs.Tests.{all_true, all_false}
 use Rattle.words.specs.Words.{words}
 use Rattle.row_checks.specs.Rows.{key_below}
 use Rattle.store_check.specs.Places.{place_sound}
-use Rattle.store_check.proofs.PlaceLaws.{passed_below}
-use native.Mathlib.Omega.{arith}
-use borrow.Author.Rules.{rules}
 use Rattle.store_check.proofs.place.places_good.Given as goal
 
 abbrev pub invariant-loop-p : goal.invariant-loop-p

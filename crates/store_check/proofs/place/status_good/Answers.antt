@@ -1,6 +1,5 @@
 use Rattle.lists.specs.Tests.{◌and◌}
 use Rattle.store_check.proofs.PlaceLaws.{status_words_sound}
-use borrow.Author.Rules.{rules}
 use Rattle.store_check.proofs.place.status_good.Goals as goal
 
 pub returns : goal.returns

@@ -1,10 +1,8 @@
 use mathlib.Core.Path.{◌≡◌, ap}
-use mathlib.Core.List.{◌++◌}
-use Prim.Native.Nat.{◌*◌, ◌-◌, ◌≤◌}
+use Prim.Native.Nat.{◌*◌, ◌-◌}
 use native.Mathlib.Omega.{arith}
-use lib.ListN.{length, drop, length-set}
+use lib.ListN.{length-set}
 use borrow.Author.Rules.{rules}
-use Rattle.rules.specs.Pairs.{assignments_of}
 use Rattle.words.specs.Words.{words}
 use Rattle.layout.specs.Contents.{Agreed}
 use Rattle.layout.specs.Store.{decode}

@@ -2,7 +2,6 @@ use mathlib.Core.Path.{◌≡◌}
 use Prim.Native.Nat.{◌-◌}
 use native.Mathlib.Omega.{arith}
 use lib.ListN.{length-take}
-use borrow.Author.Rules.{rules}
 use Rattle.rules.proofs.Limits.{few_buckets}
 use Rattle.words.specs.Words.{words}
 use Rattle.layout.specs.Store.{decode}

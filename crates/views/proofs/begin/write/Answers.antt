@@ -16,7 +16,6 @@ use Rattle.lent.proofs.AllPlaces.{places_lent}
 use Rattle.views.specs.Begin.{renewed}
 use Rattle.views.proofs.Counts.{view_pairs_long}
 use Rattle.views.proofs.EffectLaws.{head_written, records_written, headed, viewed}
-use borrow.Author.Rules.{rules}
 use Rattle.views.proofs.begin.write.Goals as goal
 
 pub overflow_add-view : goal.overflow_add-view
@@ -54,7 +53,6 @@ begin_all-requires c =
     later_effect t bs v (all_agreed_in t) (refl, refl) (head_written t bs v n) refl refl c.write-2.new.s (head) (head_length) 64 (8 * p.result)
     (omega arith) (omega (arith, p.ensures)) (records_written t bs v n assigned) refl (refl, refl) c.renew_all.new.part (omega (arith, long, p.ensures))
     (λ old g. renewed (id_in assigned (2 * g)) (id_in assigned (2 * g + 1)) (old g)) refl c.renew_all.ensures in
-
     let bs = c.args.store.now in
     let q = c.places_at-places_at in
     places_lent c.args.settings bs c.requires.0 (records_written c.args.settings bs c.requires.0 c.args.started c.args.pairs.now) refl refl
@@ -83,7 +81,6 @@ returns c =
     later_effect t bs v (all_agreed_in t) (refl, refl) (head_written t bs v n) refl refl c.write-2.new.s (head) (head_length) 64 (8 * p.result)
     (omega arith) (omega (arith, p.ensures)) (records_written t bs v n assigned) refl (refl, refl) c.renew_all.new.part (omega (arith, long, p.ensures))
     (λ old g. renewed (id_in assigned (2 * g)) (id_in assigned (2 * g + 1)) (old g)) refl c.renew_all.ensures in
-
     let bs = c.args.store.now in
     let q = c.places_at-places_at in
     viewed c.args.settings bs c.requires.0 c.args.started c.args.pairs.now c.requires.1.up c.requires.2 (after) (records) (records-length)

@@ -1,12 +1,9 @@
-use mathlib.Core.Path.{◌≡◌, sym, ◌∙◌}
+use mathlib.Core.Path.{◌≡◌}
 use Prim.Native.Nat.{◌-◌, ◌≤◌}
-use native.Mathlib.Omega.{arith}
 use Rattle.lists.specs.Tests.{count_below}
 use Rattle.words.specs.Words.{words}
 use Rattle.layout.specs.Store.{decode}
 use Rattle.views.specs.Begin.{counted}
-use Rattle.views.proofs.Counts.{count_yes, count_no, count_none}
-use borrow.Author.Rules.{rules}
 use Rattle.views.proofs.members.count.Given as goal
 
 abbrev pub invariant-loop-place : goal.invariant-loop-place

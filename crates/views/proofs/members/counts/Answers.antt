@@ -4,7 +4,6 @@ use Rattle.layout.specs.Contents.{Status, Brick}
 use Rattle.layout.specs.Store.{decode}
 use Rattle.lent.proofs.Places.{zero_blank}
 use Rattle.views.proofs.Counts.{not_counted, counted_stayed, counted_up}
-use borrow.Author.Rules.{rules}
 use Rattle.views.proofs.members.counts.Goals as goal
 
 pub returns-then-id-eq0 : goal.returns-then-id-eq0

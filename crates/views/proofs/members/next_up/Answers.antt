@@ -1,11 +1,8 @@
 use mathlib.Core.Path.{◌≡◌, sym, ◌∙◌}
-use Prim.Native.Nat.{◌-◌, ◌≤◌}
+use Prim.Native.Nat.{◌-◌}
 use native.Mathlib.Omega.{arith}
 use borrow.Author.Rules.{rules}
-use Rattle.words.specs.Words.{words}
-use Rattle.rules.proofs.Ids.{Lowest, lowest_start, lowest_hit, lowest_miss}
-use Rattle.layout.specs.Store.{decode}
-use Rattle.views.specs.Members.{ids}
+use Rattle.rules.proofs.Ids.{lowest_start, lowest_hit, lowest_miss}
 use Rattle.views.proofs.UpIds.{next_found}
 use Rattle.views.proofs.members.next_up.Goals as goal
 

@@ -1,12 +1,8 @@
-use mathlib.Core.Path.{◌≡◌, ◌∙◌}
-use Prim.Native.Nat.{◌-◌, suc}
+use mathlib.Core.Path.{◌∙◌}
+use Prim.Native.Nat.{◌-◌}
 use native.Mathlib.Omega.{arith}
-use lib.ListN.{length}
 use borrow.Author.Rules.{rules}
-use Rattle.rules.specs.Limits.{max_id}
-use Rattle.words.specs.Words.{words}
-use Rattle.layout.specs.Store.{decode}
-use Rattle.views.proofs.UpIds.{all_from, Listed, listed_start, listed_turn}
+use Rattle.views.proofs.UpIds.{all_from, listed_start, listed_turn}
 use Rattle.views.proofs.members.up_ids.Goals as goal
 
 pub loop-id-init : goal.loop-id-init

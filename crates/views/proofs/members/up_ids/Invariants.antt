@@ -1,12 +1,10 @@
-use mathlib.Core.Path.{◌≡◌, ◌∙◌}
+use mathlib.Core.Path.{◌≡◌}
 use Prim.Native.Nat.{◌-◌, suc}
-use native.Mathlib.Omega.{arith}
 use lib.ListN.{length}
-use borrow.Author.Rules.{rules}
 use Rattle.rules.specs.Limits.{max_id}
 use Rattle.words.specs.Words.{words}
 use Rattle.layout.specs.Store.{decode}
-use Rattle.views.proofs.UpIds.{all_from, Listed, listed_start, listed_turn}
+use Rattle.views.proofs.UpIds.{Listed}
 use Rattle.views.proofs.members.up_ids.Given as goal
 
 abbrev pub invariant-loop-id : goal.invariant-loop-id

@@ -9,7 +9,6 @@ use Rattle.layout.specs.Layout.{buffer_codec, buffer_at}
 use Rattle.records.specs.Records.{status_of}
 use Rattle.views.specs.Begin.{begun_status}
 use Rattle.views.proofs.PlaceLaws.{begin_empty, begin_brick}
-use borrow.Author.Rules.{rules}
 use Rattle.views.proofs.place.begin.Goals as goal
 
 pub returns-then-id-eq0 : goal.returns-then-id-eq0

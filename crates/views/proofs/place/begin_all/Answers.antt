@@ -1,10 +1,8 @@
-use mathlib.Core.Path.{◌≡◌, ap}
+use mathlib.Core.Path.{ap}
 use Prim.Native.Nat.{ℕ, ◌+◌, ◌*◌, ◌-◌}
 use native.Mathlib.Omega.{arith}
-use Rattle.layout.specs.Layout.{place_words}
-use Rattle.lent.proofs.AllPlaces.{Changed, none_changed, all_changed, next_place, one_more}
+use Rattle.lent.proofs.AllPlaces.{none_changed, all_changed, next_place, one_more}
 use Rattle.views.specs.Begin.{begun}
-use borrow.Author.Rules.{rules}
 use Rattle.views.proofs.place.begin_all.Goals as goal
 
 pub loop-place-init : goal.loop-place-init

@@ -1,5 +1,4 @@
 use mathlib.Core.Path.{ap, ◌∙◌}
-use borrow.Author.Rules.{rules}
 use Rattle.words.specs.Words.{words}
 use Rattle.layout.specs.Contents.{Agreed}
 use Rattle.layout.specs.Layout.{agreed_codec}

@@ -1,18 +1,12 @@
-use mathlib.Core.Path.{◌≡◌, ap, ◌∙◌}
-use Prim.Native.Nat.{ℕ, ◌+◌, ◌*◌, ◌-◌, ◌≤◌}
-use native.Mathlib.Omega.{arith}
+use mathlib.Core.Path.{◌≡◌}
+use Prim.Native.Nat.{◌+◌, ◌*◌, ◌-◌, ◌≤◌}
 use lib.ListN.{length}
-use borrow.Author.Rules.{rules}
-use Rattle.lists.proofs.Runs.{run_length}
 use Rattle.rules.specs.Pairs.{id_in}
 use Rattle.words.specs.Words.{words}
-use Rattle.words.proofs.Laws.{length_words}
-use Rattle.codec.specs.Codec.{enc_many}
-use Rattle.codec.proofs.Loops.{written, loop_start, loop_end}
-use Rattle.layout.specs.Contents.{Agreed, blank_agreed}
+use Rattle.codec.proofs.Loops.{written}
+use Rattle.layout.specs.Contents.{blank_agreed}
 use Rattle.layout.specs.Layout.{agreed_codec}
-use Rattle.layout.proofs.Codecs.{agreed_law}
-use Rattle.layout.proofs.Lent.{each_changed, change_turn}
+use Rattle.layout.proofs.Lent.{each_changed}
 use Rattle.views.specs.Begin.{renewed}
 use Rattle.views.proofs.record.renew_all.Given as goal
 

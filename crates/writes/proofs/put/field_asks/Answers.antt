@@ -1,7 +1,6 @@
 use mathlib.Core.Path.{◌∙◌}
 use native.Mathlib.Omega.{arith}
 use Rattle.writes.proofs.PutAsks.{no_place, no_data, of_block}
-use borrow.Author.Rules.{rules}
 use Rattle.writes.proofs.put.field_asks.Goals as goal
 
 pub returns-then-settings-place : goal.returns-then-settings-place

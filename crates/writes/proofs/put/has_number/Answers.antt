@@ -1,6 +1,5 @@
 use mathlib.Core.Path.{refl}
 use Rattle.lists.specs.Tests.{◌or◌}
-use borrow.Author.Rules.{rules}
 use Rattle.writes.proofs.put.has_number.Goals as goal
 
 pub returns : goal.returns

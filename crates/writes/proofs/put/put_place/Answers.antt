@@ -8,7 +8,6 @@ use Rattle.writes.specs.Logs.{with_chunk}
 use Rattle.writes.specs.Puts.{counted}
 use Rattle.writes.proofs.Logs.{append_fits, log_grown}
 use Rattle.writes.proofs.Puts.{status_counted}
-use borrow.Author.Rules.{rules}
 use Rattle.writes.proofs.put.put_place.Goals as goal
 
 pub read_status-old-requires : goal.read_status-old-requires
@@ -36,7 +35,6 @@ append-requires c =
     c.write_status.ensures
     ∙ ap (λ (r : Status). codec.enc (with_status r old) w)
     (status_counted (status_of read.result) old.snd.status _ _ read.ensures refl c.raised.ensures) in
-
     append_fits c.args.settings c.args.part.now c.requires.brick (new) c.requires.brick.filled refl _ (same) c.write_status.auto.part
     c.args.bytes.now c.requires.room c.requires.size
 
@@ -50,7 +48,6 @@ returns c =
     c.write_status.ensures
     ∙ ap (λ (r : Status). codec.enc (with_status r old) w)
     (status_counted (status_of read.result) old.snd.status _ _ read.ensures refl c.raised.ensures) in
-
     c.append.ensures
     ∙ log_grown c.args.settings c.args.part.now c.requires.brick (new) c.requires.brick.filled refl _ (same) c.write_status.auto.part
     (with_chunk c.args.key.0 c.args.bytes.now)

@@ -1,6 +1,5 @@
 use borrow.Author.Tests.{eq-eqb, ne_eqb}
 use Rattle.rules.specs.Writes.{raised}
-use borrow.Author.Rules.{rules}
 use Rattle.writes.proofs.put.raised.Goals as goal
 
 pub returns-then-next-ceiling : goal.returns-then-next-ceiling

@@ -23,7 +23,6 @@ use Rattle.layout.specs.Store.{decode}
 use Rattle.lent.proofs.Places.{up_filled}
 use Rattle.lent.proofs.Stores.{settings_are, facts}
 use Rattle.writes.specs.Puts.{store_asks}
-use borrow.Author.Rules.{rules}
 use Rattle.writes.proofs.put.store_asks.Goals as goal
 
 pub returns-then-not-up_member : goal.returns-then-not-up_member
@@ -38,7 +37,7 @@ returns-then-has_item c =
     let questions : List Question = store_asks (state) c.args.proxy c.args.place c.args.block.0 in
     let live : up_member (state) ((state).ids c.args.place) ≡ true = sym c.up_member.ensures ∙ not-false _ c.if-not-up_member.false-raw in
     let past-member : let qs = questions in first_no qs ≡ first_no (drop 1 qs) = first_yes 6 _ (live) in
- sym (past-member ∙ first_stop 9 _ (ap not (sym c.has_item.ensures ∙ c.if-has_item.true)))
+    sym (past-member ∙ first_stop 9 _ (ap not (sym c.has_item.ensures ∙ c.if-has_item.true)))
 
 pub item_count-requires : goal.item_count-requires
 item_count-requires c = (c.requires.0, c.requires.1)
@@ -51,7 +50,6 @@ returns-then-item_count c =
     let live : up_member (state) ((state).ids c.args.place) ≡ true = sym c.up_member.ensures ∙ not-false _ c.if-not-up_member.false-raw in
     let past-member : let qs = questions in first_no qs ≡ first_no (drop 1 qs) = first_yes 6 _ (live) in
     let past-item : let qs = questions in first_no qs ≡ first_no (drop 2 qs) = past-member ∙ first_yes 9 _ (ap not (sym c.has_item.ensures ∙ c.if-has_item.false)) in
-
     let count = length (items) in
     sym (past-item ∙ first_stop 10 _ (le-ltb count max_items (omega (arith, c.if-item_count.true, c.item_count.ensures))))
 
@@ -60,7 +58,7 @@ chunk_count-requires c =
     let state : State = decode (words c.args.store.now) in
     let live : up_member (state) ((state).ids c.args.place) ≡ true = sym c.up_member.ensures ∙ not-false _ c.if-not-up_member.false-raw in
     let filled : 0 < (state).ids c.args.place = up_filled c.args.settings c.args.store.now c.requires.0 c.args.place (and_l _ _ (live)) in
- (c.requires.0, c.requires.2, filled)
+    (c.requires.0, c.requires.2, filled)
 
 pub returns-then-settings-chunk_count : goal.returns-then-settings-chunk_count
 returns-then-settings-chunk_count c =
@@ -74,7 +72,6 @@ returns-then-settings-chunk_count c =
     let past-item : let qs = questions in first_no qs ≡ first_no (drop 2 qs) = past-member ∙ first_yes 9 _ (ap not (sym c.has_item.ensures ∙ c.if-has_item.false)) in
     let past-items : let qs = questions in first_no qs ≡ first_no (drop 3 qs) = let count = length (items) in
     past-item ∙ first_yes 10 _ (lt-ltb count max_items (omega (arith, c.if-item_count.false, c.item_count.ensures))) in
-
     let few = c.chunk_count.ensures in
     let no = le-ltb (length (log)) (state).settings.chunks (omega (arith, c.if-settings-chunk_count.true, few, chunks_are)) in
     sym (past-items ∙ first_stop 10 _ no)
@@ -84,12 +81,11 @@ status-status-requires c =
     let state : State = decode (words c.args.store.now) in
     let live : up_member (state) ((state).ids c.args.place) ≡ true = sym c.up_member.ensures ∙ not-false _ c.if-not-up_member.false-raw in
     let filled : 0 < (state).ids c.args.place = up_filled c.args.settings c.args.store.now c.requires.0 c.args.place (and_l _ _ (live)) in
- (c.requires.0, c.requires.2, filled)
+    (c.requires.0, c.requires.2, filled)
 
 pub has_number-requires : goal.has_number-requires
 has_number-requires c =
     let state : State = decode (words c.args.store.now) in
-
     let most = (facts c.args.settings c.args.store.now c.requires.0).numbers.most ((state).ids c.args.place) in
     let ceiling = ap (λ (x : Status). x.ceiling) c.status-status.ensures in
     omega (arith, most, ceiling)
@@ -112,7 +108,7 @@ returns-then-has_number c =
     let number : let id = (state).ids c.args.place in
     let old = (state).bricks in
     c.has_number.result ≡ (ltb (old.next id) (old.ceiling id) or leb (old.ceiling id + ceiling_step) sequences) = c.has_number.ensures ∙ ap (λ (x : Status). ltb x.next x.ceiling or leb (x.ceiling + ceiling_step) sequences) c.status-status.ensures in
- sym (past-log ∙ first_yes 12 _ (sym (number) ∙ c.if-has_number.true) ∙ none_asked)
+    sym (past-log ∙ first_yes 12 _ (sym (number) ∙ c.if-has_number.true) ∙ none_asked)
 
 pub returns : goal.returns
 returns c =
@@ -132,4 +128,4 @@ returns c =
     let number : let id = (state).ids c.args.place in
     let old = (state).bricks in
     c.has_number.result ≡ (ltb (old.next id) (old.ceiling id) or leb (old.ceiling id + ceiling_step) sequences) = c.has_number.ensures ∙ ap (λ (x : Status). ltb x.next x.ceiling or leb (x.ceiling + ceiling_step) sequences) c.status-status.ensures in
- sym (past-log ∙ first_stop 12 _ (sym (number) ∙ c.if-has_number.false))
+    sym (past-log ∙ first_stop 12 _ (sym (number) ∙ c.if-has_number.false))

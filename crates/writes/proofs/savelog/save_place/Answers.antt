@@ -8,7 +8,6 @@ use Rattle.layout.specs.Layout.{place_codec}
 use Rattle.layout.proofs.Foci.{log_of}
 use Rattle.lent.specs.Places.{on_log}
 use Rattle.lent.proofs.PlaceSteps.{log_fits, step_changed}
-use borrow.Author.Rules.{rules}
 use Rattle.writes.proofs.savelog.save_place.Goals as goal
 
 pub save_all-requires : goal.save_all-requires
