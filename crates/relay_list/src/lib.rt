@@ -1,5 +1,5 @@
-// The bag of relays as a lent slice of records, of which the first `count` are in use, oldest first. A slice of structs is proved by hand: what works on one is
-// thin, and leaves the rest to `flat` and `stored`.
+// The bag of relays as a lent slice of records, of which the first `count` are in use, oldest first. What works on records is thin, and leaves the rest to
+// `flat` and `stored`.
 
 #![tactic(auto)]
 
