@@ -1,8 +1,7 @@
 # What the scripts that run several suites share: a script goes to the project's root and reads this file with '.'. It runs each suite by `run`, adds its
-# counts by `count`, and ends with `finish`. A folder that it names in $memory is removed at its end.
+# counts by `count`, and ends with `finish`.
 out=$(mktemp) || exit 2
-memory=''
-trap 'rm -rf "$out" "$out.status" ${memory:+"$memory"}' EXIT
+trap 'rm -rf "$out" "$out.status"' EXIT
 passed=0
 failed=0
 
