@@ -3,6 +3,7 @@ ghost use Rattle.std.specs.Prelude.{◌≡◌, ◌+◌, ◌≤◌, ◌<◌, leng
 ghost use Rattle.words.specs.Words.{words};
 ghost use Rattle.rules.specs.Limits.{buckets};
 ghost use Rattle.rules.specs.Derived.{up_member, is_up};
+ghost use Rattle.rules.specs.Refusals.{code_of};
 ghost use Rattle.rules.specs.Question.{first_no};
 ghost use Rattle.rules.specs.Limits.{Limits};
 ghost use Rattle.layout.specs.Layout.{copy_words, copies_words, copies_at, log_at};
@@ -15,6 +16,7 @@ ghost use Rattle.lent.specs.Parts.{CopyPart, BufferPart, LogPart};
 
 use layout::sizes;
 use records::status::Status;
+use rules::refusal::Refusal;
 use rules::settings::Settings;
 
 // The bytes of a place.
@@ -92,18 +94,19 @@ pub fn up_member(store: &[u8], settings: Settings, place: usize) -> bool
     is_member(store, settings, place)
 }
 
-// Is there such a place, and does it hold an up member? The number of the first no, or 0.
-pub fn asks(store: &[u8], settings: Settings, place: u64) -> u64
+// Is there such a place, and does it hold an up member?
+pub fn asks(store: &[u8], settings: Settings, place: u64) -> Result<(), Refusal>
     requires { StoreOf settings store.now }
-    ensures { result ≡ first_no (place_asks (decode (words store.now)) place) }
+    ensures { code_of result ≡ first_no (place_asks (decode (words store.now)) place) }
 {
     if settings.places as u64 <= place {
-        return 3;
+        return Err(Refusal::BadInput);
     }
     if up_member(store, settings, place as usize) {
-        return 0;
+        Ok(())
+    } else {
+        Err(Refusal::NoMember)
     }
-    6
 }
 
 // ---- the parts of a place that holds a brick

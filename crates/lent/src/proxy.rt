@@ -5,6 +5,7 @@ ghost use Rattle.rules.specs.Entries.{insert, takes};
 ghost use Rattle.rules.specs.Limits.{proxies, max_items};
 ghost use Rattle.rules.specs.Maps.{item_goes};
 ghost use Rattle.rules.specs.Derived.{item};
+ghost use Rattle.rules.specs.Refusals.{code_of};
 ghost use Rattle.rules.specs.Question.{first_no, knows_view, has_item};
 ghost use Rattle.layout.specs.Layout.{items_codec, items_at, proxy_at, store_words};
 ghost use Rattle.layout.specs.Store.{decode, render};
@@ -16,22 +17,24 @@ ghost use Rattle.lent.specs.Stores.{StoreOf};
 use layout::sizes;
 use rules::constants;
 use rules::numbers::{BlockNumber, ChunkKey};
+use rules::refusal::Refusal;
 use rules::settings::Settings;
 
-// The first questions of what a proxy does with a block: the number of the first no, or 0.
-pub fn block_asks(proxy: u64, block: u64) -> u64
-    ensures { result ≡ first_no (block_asks proxy block) }
+// The first questions of what a proxy does with a block.
+pub fn block_asks(proxy: u64, block: u64) -> Result<(), Refusal>
+    ensures { code_of result ≡ first_no (block_asks proxy block) }
 {
     if constants::PROXIES as u64 <= proxy {
-        return 3;
+        return Err(Refusal::BadInput);
     }
     if constants::BLOCKS <= block {
-        return 3;
+        return Err(Refusal::BadInput);
     }
     if BlockNumber(block).proxy() == proxy {
-        return 0;
+        Ok(())
+    } else {
+        Err(Refusal::WrongProxy)
     }
-    4
 }
 
 // Does the proxy know the present view?

@@ -11,3 +11,4 @@ pub mod Sound
 pub mod Placed
 pub mod SoundTest
 pub mod Examples
+pub mod Refusals

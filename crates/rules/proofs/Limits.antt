@@ -7,7 +7,8 @@ use lib.Dec.{eqb}
 use borrow.Author.Tests.{leb-true, eqb-true}
 use Rattle.lists.proofs.Tests.{by, and_l, and_r, both}
 use Rattle.rules.specs.declared.settings.Settings.{Settings}
-use Rattle.rules.specs.declared.settings.Checked.TheVariants.{Good, Bad}
+use Rattle.rules.specs.declared.refusal.Refusal.TheVariants.{BadSettings}
+use Rattle.std.specs.Prelude.{Ok, Err}
 use Rattle.rules.specs.Limits.{Limits, in_range, in_limits, checked, buckets, max_buckets}
 
 -- the five tests of question 1
@@ -59,11 +60,11 @@ limits c y =
 abbrev settings : ℕ → ℕ → ℕ → ℕ → Settings
 settings n s m l = record { places = n; size = s; entries = m; chunks = l }
 
-pub good : (n s m l : ℕ) → Tests (settings n s m l) → Good (settings n s m l) ≡ checked n s m l
+pub good : (n s m l : ℕ) → Tests (settings n s m l) → Ok (settings n s m l) ≡ checked n s m l
 unfolding checked
 good n s m l t = rw (all_tests (settings n s m l) t)
 
-pub bad : (n s m l : ℕ) → (Tests (settings n s m l) → ⊥) → Bad ≡ checked n s m l
+pub bad : (n s m l : ℕ) → (Tests (settings n s m l) → ⊥) → Err BadSettings ≡ checked n s m l
 unfolding checked
 bad n s m l h = by (in_limits (settings n s m l)) (λ y. absurd (h (tests (settings n s m l) y))) (λ q. rw q)
 

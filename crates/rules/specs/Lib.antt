@@ -1,3 +1,4 @@
+pub mod Refusals
 pub mod Limits
 pub mod Numbers
 pub mod Entries

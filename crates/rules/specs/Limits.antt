@@ -1,9 +1,9 @@
 -- Settings and limits. The settings are the code's struct; its associated constants are these limits, by the proof of its constructor.
-use Rattle.std.specs.Prelude.{◌≡◌, Bool, cond, ℕ, ◌-◌, ◌%◌, ◌^◌, ◌≤◌, leb, eqb}
+use Rattle.std.specs.Prelude.{Result, Ok, Err, ◌≡◌, Bool, cond, ℕ, ◌-◌, ◌%◌, ◌^◌, ◌≤◌, leb, eqb}
 use Rattle.lists.specs.Tests.{◌and◌}
 use Rattle.rules.specs.declared.settings.Settings.{Settings}
-use Rattle.rules.specs.declared.settings.Checked.{Checked}
-use Rattle.rules.specs.declared.settings.Checked.TheVariants.{Good, Bad}
+use Rattle.rules.specs.declared.refusal.Refusal.{Refusal}
+use Rattle.rules.specs.declared.refusal.Refusal.TheVariants.{BadSettings}
 
 -- places N 3 to 8
 abbrev pub min_places : ℕ
@@ -58,10 +58,10 @@ pub record Limits (c : Settings) : Type 0 where
   pub chunks_to : c.chunks ≤ max_chunks
 
 -- what the constructor of settings answers
-unfoldable pub checked : ℕ → ℕ → ℕ → ℕ → Checked
+unfoldable pub checked : ℕ → ℕ → ℕ → ℕ → Result Settings Refusal
 checked places size entries chunks =
     let settings : Settings = record { places = places; size = size; entries = entries; chunks = chunks } in
-    cond (in_limits settings) (Good settings) Bad
+    cond (in_limits settings) (Ok settings) (Err BadSettings)
 
 -- there are 4 proxies and 16 buckets; whatever speaks of buckets takes their number from the settings
 abbrev pub proxies : ℕ

@@ -9,17 +9,17 @@ use crate::settings::Settings;
 
 // A virtual disk's block, below 2^51.
 #[repr(C)]
-#[derive(Clone, Copy)]
+#[derive(Clone, Copy, PartialEq, Eq)]
 pub struct BlockNumber(pub u64);
 
 // The id of the brick that made a chunk, times 2^56, plus a sequence number.
 #[repr(C)]
-#[derive(Clone, Copy)]
+#[derive(Clone, Copy, PartialEq, Eq)]
 pub struct ChunkKey(pub u64);
 
 // The number of an agreed view, 32 bits.
 #[repr(C)]
-#[derive(Clone, Copy)]
+#[derive(Clone, Copy, PartialEq, Eq)]
 pub struct ViewNumber(pub u64);
 
 // The rules divide by powers of 2; the code takes bits, of any 64-bit number.

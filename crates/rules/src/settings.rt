@@ -3,8 +3,9 @@ ghost use Rattle.std.specs.Prelude.{◌≡◌};
 ghost use Rattle.rules.specs.Limits.{in_range, checked, buckets};
 
 use crate::constants;
+use crate::refusal::Refusal;
 
-#[derive(Clone, Copy)]
+#[derive(Clone, Copy, Debug, PartialEq, Eq)]
 pub struct Settings {
     // places for bricks
     pub places: usize,
@@ -16,13 +17,6 @@ pub struct Settings {
     pub chunks: usize,
 }
 
-// Settings within their limits, or none.
-#[derive(Clone, Copy)]
-pub enum Checked {
-    Good(Settings),
-    Bad,
-}
-
 impl Settings {
     pub const MIN_PLACES: usize = 3;
 
@@ -31,6 +25,7 @@ impl Settings {
     pub const MIN_SIZE: usize = 8;
 
     pub const MAX_SIZE: usize = 8192;
+
     // a block is whole words
     pub const SIZE_STEP: usize = 8;
 
@@ -43,25 +38,23 @@ impl Settings {
     pub const MAX_CHUNKS: usize = 65536;
 
     // Question 1 of the settings.
-    pub fn new(places: usize, size: usize, entries: usize, chunks: usize) -> Checked
+    pub fn new(
+        places: usize,
+        size: usize,
+        entries: usize,
+        chunks: usize,
+    ) -> Result<Settings, Refusal>
         ensures { result ≡ checked places size entries chunks }
     {
-        if !within(Settings::MIN_PLACES, Settings::MAX_PLACES, places) {
-            return Checked::Bad;
+        let good = within(Settings::MIN_PLACES, Settings::MAX_PLACES, places)
+            & within(Settings::MIN_SIZE, Settings::MAX_SIZE, size)
+            & (size % Settings::SIZE_STEP == 0)
+            & within(Settings::MIN_ENTRIES, Settings::MAX_ENTRIES, entries)
+            & within(Settings::MIN_CHUNKS, Settings::MAX_CHUNKS, chunks);
+        if !good {
+            return Err(Refusal::BadSettings);
         }
-        if !within(Settings::MIN_SIZE, Settings::MAX_SIZE, size) {
-            return Checked::Bad;
-        }
-        if size % Settings::SIZE_STEP != 0 {
-            return Checked::Bad;
-        }
-        if !within(Settings::MIN_ENTRIES, Settings::MAX_ENTRIES, entries) {
-            return Checked::Bad;
-        }
-        if !within(Settings::MIN_CHUNKS, Settings::MAX_CHUNKS, chunks) {
-            return Checked::Bad;
-        }
-        Checked::Good(Settings {
+        Ok(Settings {
             places,
             size,
             entries,
@@ -80,8 +73,5 @@ impl Settings {
 fn within(low: usize, high: usize, n: usize) -> bool
     ensures { result ≡ in_range low high n }
 {
-    if n < low {
-        return false;
-    }
-    n <= high
+    (low <= n) & (n <= high)
 }

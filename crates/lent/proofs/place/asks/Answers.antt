@@ -17,7 +17,7 @@ returns-then-up_member c =
     sym (first_yes 3 _ (is_place_yes c.args.settings c.args.store.now c.requires c.args.place (omega arith))
     ∙ first_yes 6 _ (sym c.up_member.ensures ∙ c.if-up_member.true) ∙ none_asked)
 
-pub returns : goal.returns
-returns c =
+pub returns-else-up_member : goal.returns-else-up_member
+returns-else-up_member c =
     sym (first_yes 3 _ (is_place_yes c.args.settings c.args.store.now c.requires c.args.place (omega arith))
     ∙ first_stop 6 _ (sym c.up_member.ensures ∙ c.if-up_member.false))

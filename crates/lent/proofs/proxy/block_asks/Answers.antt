@@ -14,8 +14,8 @@ returns-then-proxy-2 c =
     let if2 = c.if-block-ge-BLOCKS in
     is_own c.args.proxy c.args.block if1.false if2.false (sym c.proxy.ensures ∙ c.if-proxy-2.true)
 
-pub returns : goal.returns
-returns c =
+pub returns-else-proxy-2 : goal.returns-else-proxy-2
+returns-else-proxy-2 c =
     let if1 = c.if-proxy in
     let if2 = c.if-block-ge-BLOCKS in
     not_own c.args.proxy c.args.block if1.false if2.false (λ e. c.if-proxy-2.false (c.proxy.ensures ∙ e))

@@ -10,7 +10,7 @@ pub returns-then-waits : goal.returns-then-waits
 returns-then-waits c =
     sym (first_yes 8 _ (ap not (sym c.pending.ensures ∙ c.if-pending.false)) ∙ first_stop 8 _ (ap not (sym c.waits.ensures ∙ c.if-waits.true)))
 
-pub returns : goal.returns
-returns c =
+pub returns-else-waits : goal.returns-else-waits
+returns-else-waits c =
     sym (first_yes 8 _ (ap not (sym c.pending.ensures ∙ c.if-pending.false)) ∙ first_yes 8 _ (ap not (sym c.waits.ensures ∙ c.if-waits.false))
     ∙ none_asked)
