@@ -1,5 +1,7 @@
 -- What the calls on a lent store answer and leave.
-use Rattle.std.specs.Prelude.{◌≡◌, List, Bool, cond, ℕ, eqb, length}
+use Rattle.std.specs.Prelude.{◌≡◌, List, Bool, cond, ℕ, eqb, length, Result, Ok, Err}
+use Rattle.rules.specs.declared.refusal.Refusal.{Refusal}
+use Rattle.rules.specs.declared.refusal.Refusal.TheVariants.{BadSettings}
 use Rattle.lists.specs.Tests.{◌and◌}
 use Rattle.rules.specs.declared.settings.Settings.{Settings}
 use Rattle.rules.specs.Limits.{in_limits}
@@ -9,7 +11,10 @@ use Rattle.layout.specs.Store.{render_bytes, store_bytes, sound_bytes}
 abbrev pub settings : ℕ → ℕ → ℕ → ℕ → Settings
 settings n s m l = record { places = n; size = s; entries = m; chunks = l }
 
--- length: the bytes to lend; 0 where question 1 says no
+-- length: the bytes to lend, or a no to question 1; as a number, 0
+unfoldable pub length_of : Settings → Result ℕ Refusal
+length_of c = cond (in_limits c) (Ok (store_bytes c)) (Err BadSettings)
+
 unfoldable pub length_answer : Settings → ℕ
 length_answer c = cond (in_limits c) (store_bytes c) 0
 

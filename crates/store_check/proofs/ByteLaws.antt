@@ -11,7 +11,9 @@ use Rattle.lists.proofs.Tests.{by, and_l, clash, no_first, yes_first}
 use Rattle.words.specs.Words.{words}
 use Rattle.words.proofs.Laws.{length_words, words_below}
 use Rattle.rules.specs.declared.settings.Settings.{Settings}
-use Rattle.rules.specs.declared.settings.Checked.TheVariants.{Good, Bad}
+use Rattle.std.specs.Prelude.{Ok, Err}
+use Rattle.rules.specs.declared.refusal.Refusal.{Refusal}
+use Rattle.rules.specs.declared.refusal.Refusal.TheVariants.{BadSettings}
 use Rattle.rules.specs.Limits.{in_limits, checked, max_id}
 use Rattle.rules.specs.Sound.{sound_header, sound_key}
 use Rattle.layout.specs.Layout.{layout_version, head_words, settings_of, store_words, version_at}
@@ -35,17 +37,17 @@ module _ (ws : List ℕ) (n s m l : ℕ) (en : n ≡ get_or ws 1 0) (es : s ≡ 
   own : settings_of ws ≡ read
   own = settings_are ws ∙ rw (en, es, em, el)
 
-  pub settings_bad : Bad ≡ checked n s m l → in_limits (settings_of ws) ≡ false
+  pub settings_bad : (r : Refusal) → Err r ≡ checked n s m l → in_limits (settings_of ws) ≡ false
   unfolding checked
-  settings_bad e = rw own (by (in_limits read) (λ y. let z : Bad ≡ Good read = e ∙ rw y in let o : ◌≡◌ {A = ℕ} 0 1 = cc in absurd (omega arith)) (λ q. q))
+  settings_bad r e = rw own (by (in_limits read) (λ y. let z : Err r ≡ Ok read = e ∙ rw y in let o : ◌≡◌ {A = ℕ} 0 1 = cc in absurd (omega arith)) (λ q. q))
 
-  pub settings_own : (c : Settings) → Good c ≡ checked n s m l → (settings_of ws ≡ c) × (in_limits (settings_of ws) ≡ true)
+  pub settings_own : (c : Settings) → Ok c ≡ checked n s m l → (settings_of ws ≡ c) × (in_limits (settings_of ws) ≡ true)
   unfolding checked
   settings_own c e =
       by (in_limits read)
-      (λ y. let z : Good c ≡ Good read = e ∙ rw y in
+      (λ y. let z : Ok c ≡ Ok read = e ∙ rw y in
       let q : c ≡ read = cc in (own ∙ sym q, rw own y))
-      (λ q. let z : Good c ≡ Bad = e ∙ rw q in let o : ◌≡◌ {A = ℕ} 0 1 = cc in absurd (omega arith))
+      (λ q. let z : Ok c ≡ Err BadSettings = e ∙ rw q in let o : ◌≡◌ {A = ℕ} 0 1 = cc in absurd (omega arith))
 
 -- ---- bytes that can't be a store
 module _ (bs : List ℕ) where

@@ -13,7 +13,7 @@ ghost use Rattle.store_check.specs.Store.{contents_sound, parts_sound, StoreFit}
 
 use layout::sizes;
 use rules::constants;
-use rules::settings::{Checked, Settings};
+use rules::settings::Settings;
 
 pub mod bounds;
 pub mod place;
@@ -86,7 +86,7 @@ pub fn is_sound(store: &[u8]) -> bool
     let size = words::read(store, sizes::BLOCK_SIZE_AT) as usize;
     let entries = words::read(store, sizes::MAX_ENTRIES_AT) as usize;
     let chunks = words::read(store, sizes::MAX_CHUNKS_AT) as usize;
-    let Checked::Good(settings) = Settings::new(places, size, entries, chunks) else {
+    let Ok(settings) = Settings::new(places, size, entries, chunks) else {
         return false;
     };
     if store.len() != 8 * sizes::store_words(settings) {

@@ -1,11 +1,11 @@
-use mathlib.Core.Path.{sym, ◌∙◌}
+use mathlib.Core.Path.{sym}
 use Rattle.store.specs.Calls.{check_answer}
 use Rattle.store.proofs.check.Goals as goal
 
 pub returns-then-is_sound : goal.returns-then-is_sound
 unfolding check_answer
-returns-then-is_sound c = rw (sym c.is_sound.ensures ∙ c.if-is_sound.true)
+returns-then-is_sound c = rw (sym c.if-is_sound.ensures)
 
-pub returns : goal.returns
+pub returns-else-is_sound : goal.returns-else-is_sound
 unfolding check_answer
-returns c = rw (sym c.is_sound.ensures ∙ c.if-is_sound.false)
+returns-else-is_sound c = rw (sym c.if-is_sound.ensures)

@@ -29,34 +29,34 @@ pub returns-in_default : goal.returns-in_default
 returns-in_default c =
     let s = c.args.store.now in
     sym (limit_bytes s (settings_bad (words s) _ _ _ _ c.read-places.ensures c.read-size.ensures c.read-entries.ensures
-    c.read-chunks.ensures (sym c.in_default.is ∙ c.new.ensures)))
+    c.read-chunks.ensures _ (sym c.in_default.is ∙ c.new.ensures)))
 
 pub store_words-requires : goal.store_words-requires
 store_words-requires c =
-    let own : (settings_of (words c.args.store.now) ≡ c.in-Good.settings) × (in_limits (settings_of (words c.args.store.now)) ≡ true) = settings_own (words c.args.store.now) _ _ _ _ c.read-places.ensures c.read-size.ensures c.read-entries.ensures c.read-chunks.ensures
-    c.in-Good.settings (sym c.in-Good.is ∙ c.new.ensures) in
-    let small : Limits c.in-Good.settings = subst Limits (own).0 (limits _ (own).1) in
+    let own : (settings_of (words c.args.store.now) ≡ c.in-Ok.settings) × (in_limits (settings_of (words c.args.store.now)) ≡ true) = settings_own (words c.args.store.now) _ _ _ _ c.read-places.ensures c.read-size.ensures c.read-entries.ensures c.read-chunks.ensures
+    c.in-Ok.settings (sym c.in-Ok.is ∙ c.new.ensures) in
+    let small : Limits c.in-Ok.settings = subst Limits (own).0 (limits _ (own).1) in
     small
 
 pub overflow_mul-store_words : goal.overflow_mul-store_words
 overflow_mul-store_words c =
-    let own : (settings_of (words c.args.store.now) ≡ c.in-Good.settings) × (in_limits (settings_of (words c.args.store.now)) ≡ true) = settings_own (words c.args.store.now) _ _ _ _ c.read-places.ensures c.read-size.ensures c.read-entries.ensures c.read-chunks.ensures
-    c.in-Good.settings (sym c.in-Good.is ∙ c.new.ensures) in
-    let small : Limits c.in-Good.settings = subst Limits (own).0 (limits _ (own).1) in
+    let own : (settings_of (words c.args.store.now) ≡ c.in-Ok.settings) × (in_limits (settings_of (words c.args.store.now)) ≡ true) = settings_own (words c.args.store.now) _ _ _ _ c.read-places.ensures c.read-size.ensures c.read-entries.ensures c.read-chunks.ensures
+    c.in-Ok.settings (sym c.in-Ok.is ∙ c.new.ensures) in
+    let small : Limits c.in-Ok.settings = subst Limits (own).0 (limits _ (own).1) in
     omega (arith, store_small _ (small))
 
 pub returns-then-store-store_words : goal.returns-then-store-store_words
 returns-then-store-store_words c =
-    let own : (settings_of (words c.args.store.now) ≡ c.in-Good.settings) × (in_limits (settings_of (words c.args.store.now)) ≡ true) = settings_own (words c.args.store.now) _ _ _ _ c.read-places.ensures c.read-size.ensures c.read-entries.ensures c.read-chunks.ensures
-    c.in-Good.settings (sym c.in-Good.is ∙ c.new.ensures) in
+    let own : (settings_of (words c.args.store.now) ≡ c.in-Ok.settings) × (in_limits (settings_of (words c.args.store.now)) ≡ true) = settings_own (words c.args.store.now) _ _ _ _ c.read-places.ensures c.read-size.ensures c.read-entries.ensures c.read-chunks.ensures
+    c.in-Ok.settings (sym c.in-Ok.is ∙ c.new.ensures) in
     sym (other_bytes c.args.store.now (λ e. c.if-store-store_words.true (e ∙ ap (λ (c : Settings). 8 * store_words c) (own).0
     ∙ ap (λ (k : ℕ). 8 * k) (sym c.store_words.ensures))))
 
 pub parts_good-requires : goal.parts_good-requires
 parts_good-requires c =
-    let own : (settings_of (words c.args.store.now) ≡ c.in-Good.settings) × (in_limits (settings_of (words c.args.store.now)) ≡ true) = settings_own (words c.args.store.now) _ _ _ _ c.read-places.ensures c.read-size.ensures c.read-entries.ensures c.read-chunks.ensures
-    c.in-Good.settings (sym c.in-Good.is ∙ c.new.ensures) in
-    let small : Limits c.in-Good.settings = subst Limits (own).0 (limits _ (own).1) in
+    let own : (settings_of (words c.args.store.now) ≡ c.in-Ok.settings) × (in_limits (settings_of (words c.args.store.now)) ≡ true) = settings_own (words c.args.store.now) _ _ _ _ c.read-places.ensures c.read-size.ensures c.read-entries.ensures c.read-chunks.ensures
+    c.in-Ok.settings (sym c.in-Ok.is ∙ c.new.ensures) in
+    let small : Limits c.in-Ok.settings = subst Limits (own).0 (limits _ (own).1) in
     record {
       small = small;
       size = c.if-store-store_words.false ∙ ap (λ (k : ℕ). 8 * k) c.store_words.ensures;
@@ -65,8 +65,8 @@ parts_good-requires c =
 
 pub returns : goal.returns
 returns c =
-    let own : (settings_of (words c.args.store.now) ≡ c.in-Good.settings) × (in_limits (settings_of (words c.args.store.now)) ≡ true) = settings_own (words c.args.store.now) _ _ _ _ c.read-places.ensures c.read-size.ensures c.read-entries.ensures c.read-chunks.ensures
-    c.in-Good.settings (sym c.in-Good.is ∙ c.new.ensures) in
+    let own : (settings_of (words c.args.store.now) ≡ c.in-Ok.settings) × (in_limits (settings_of (words c.args.store.now)) ≡ true) = settings_own (words c.args.store.now) _ _ _ _ c.read-places.ensures c.read-size.ensures c.read-entries.ensures c.read-chunks.ensures
+    c.in-Ok.settings (sym c.in-Ok.is ∙ c.new.ensures) in
     let s = c.args.store.now in
     let o = own in
     let size = c.if-store-store_words.false ∙ ap (λ (k : ℕ). 8 * k) c.store_words.ensures ∙ ap (λ (c : Settings). 8 * store_words c) (sym o.0) in
