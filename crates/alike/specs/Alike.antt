@@ -1,5 +1,8 @@
 -- Alike, of two lent stores.
-use Rattle.std.specs.Prelude.{List, Bool, not, cond, ℕ}
+use Rattle.std.specs.Prelude.{List, Bool, true, false, not, cond, ℕ, Result, Ok, Err}
+use Rattle.rules.specs.declared.refusal.Refusal.{Refusal}
+use Rattle.rules.specs.declared.refusal.Refusal.TheVariants.{Unsound}
+use Rattle.rules.specs.Refusals.{number}
 use Rattle.lists.specs.Tests.{◌and◌, ◌or◌}
 use Rattle.rules.specs.declared.settings.Settings.{Settings}
 use Rattle.rules.specs.State.{State}
@@ -8,17 +11,15 @@ use Rattle.rules.specs.Sound.{same_entries}
 use Rattle.rules.specs.Alike.{alike}
 use Rattle.layout.specs.Store.{decode_bytes, sound_bytes}
 use Rattle.lent.specs.Stores.{StoreOf}
-use Rattle.alike.specs.declared.Compared.{Compared}
-use Rattle.alike.specs.declared.Compared.TheVariants.{Alike, Different, Unsound}
 
-unfoldable pub alike_answer : List ℕ → List ℕ → Compared
-alike_answer one other = cond (sound_bytes one and sound_bytes other) (cond (alike (decode_bytes one) (decode_bytes other)) Alike Different) Unsound
+unfoldable pub alike_answer : List ℕ → List ℕ → Result Bool Refusal
+alike_answer one other = cond (sound_bytes one and sound_bytes other) (Ok (alike (decode_bytes one) (decode_bytes other))) (Err Unsound)
 
 -- the numbers: 0 says yes as in every call, 2 is question 2, and 1 is left for no; cmp and diff answer by the same three
-unfoldable pub alike_number : Compared → ℕ
-alike_number Alike = 0
-alike_number Different = 1
-alike_number Unsound = 2
+unfoldable pub alike_number : Result Bool Refusal → ℕ
+alike_number (Ok true) = 0
+alike_number (Ok false) = 1
+alike_number (Err refusal) = number refusal
 
 -- ---- its parts, as they are walked
 -- two sound stores of the same settings

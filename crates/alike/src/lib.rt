@@ -18,15 +18,8 @@ pub mod for_c;
 
 use lent::brick::Found;
 use lent::{brick, bucket, place, store};
+use rules::refusal::Refusal;
 use rules::settings::Settings;
-
-// A yes or no over two sound stores, or one of them is not sound.
-#[derive(Clone, Copy)]
-pub enum Compared {
-    Alike,
-    Different,
-    Unsound,
-}
 
 fn same_settings(one: Settings, other: Settings) -> bool
     ensures { result ≡ same_settings one other }
@@ -152,18 +145,15 @@ fn are_alike(one: &[u8], other: &[u8]) -> bool
     false
 }
 
-// Are two lent stores alike?
-pub fn alike(one: &[u8], other: &[u8]) -> Compared
+// Are two lent stores alike? Refused where one of them is not sound.
+pub fn alike(one: &[u8], other: &[u8]) -> Result<bool, Refusal>
     ensures { result ≡ alike_answer one.now other.now }
 {
     if !store_check::is_sound(one) {
-        return Compared::Unsound;
+        return Err(Refusal::Unsound);
     }
     if !store_check::is_sound(other) {
-        return Compared::Unsound;
+        return Err(Refusal::Unsound);
     }
-    if are_alike(one, other) {
-        return Compared::Alike;
-    }
-    Compared::Different
+    Ok(are_alike(one, other))
 }

@@ -8,6 +8,9 @@ use native.Mathlib.Omega.{arith}
 use lib.Dec.{leb}
 use lib.ListN.{length, set}
 use borrow.Author.Tests.{eq-eqb, ne_eqb}
+use Rattle.std.specs.Prelude.{Result, Err}
+use Rattle.rules.specs.declared.refusal.Refusal.{Refusal}
+use Rattle.rules.specs.declared.refusal.Refusal.TheVariants.{BadInput}
 use Rattle.lists.specs.Runs.{Below}
 use Rattle.lists.proofs.Tests.{both, no_first, no_second}
 use Rattle.words.specs.Words.{words}
@@ -16,8 +19,8 @@ use Rattle.rules.specs.Event.{Event}
 use Rattle.rules.specs.Call.{Call, get_kind, is_zero_block}
 use Rattle.rules.specs.Reads.{zeros}
 use Rattle.layout.specs.Store.{decode, decode_bytes, sound_bytes}
-use Rattle.lent.specs.declared.Answer.{Answer}
-use Rattle.lent.specs.declared.Answer.TheVariants.{Yes, No}
+use Rattle.rules.specs.Refusals.{code_of}
+use Rattle.lent.specs.Performs.{key_of}
 use Rattle.lent.specs.Stores.{StoreOf}
 use Rattle.lent.proofs.Stores as stores
 use Rattle.calls.specs.Outcome.{Outcome, call_with, outcome, outcome_of}
@@ -30,18 +33,11 @@ use Rattle.step.proofs.Outcomes.{get_steps}
 use Rattle.batch.specs.Batch.{block_at, with_block, Batch, Lent, lent, call_at, begins, turn, turns, count, is_batch, ran, batch_outcome, StepsAt}
 use Rattle.batch.proofs.Blocks.{block_none, block_size, with_same, nothing}
 
--- ---- an answer has its code and key whatever stands beside it
-answered_of : (r : Answer) (area store : List ℕ)
-    → outcome_of r area store ≡ record { code = (outcome_of r [] []).code; key = (outcome_of r [] []).key; area = area; store = store }
-unfolding outcome_of
-answered_of (Yes k) area store = refl
-answered_of (No n) area store = refl
-
 -- the outcome of a call, answered with the area that it leaves
-pub steps_at : (size at : ℕ) (call : Call) (store area : List ℕ) (r : Answer) (after part area_after : List ℕ) → outcome_of r part after ≡ outcome store call
+pub steps_at : (size at : ℕ) (call : Call) (store area : List ℕ) (r : Result ℕ Refusal) (after part area_after : List ℕ) → outcome_of r part after ≡ outcome store call
     → area_after ≡ with_block size at part area → StepsAt size at call store area r after area_after
 steps_at size at call store area r after part area_after e f =
-    let q : part ≡ (outcome store call).area = ap (λ (o : Outcome). o.area) (sym (answered_of r part after) ∙ e) in
+    let q : part ≡ (outcome store call).area = ap (λ (o : Outcome). o.area) e in
     record {
       same = subst (λ (p : List ℕ). outcome_of r p after ≡ outcome store call) q e;
       fills = f ∙ ap (λ (p : List ℕ). with_block size at p area) q;
@@ -52,29 +48,28 @@ module _ (c : Settings) (bs : List ℕ) (v : StoreOf c bs) (kind a b d at : ℕ)
   abbrev call : Call
   call = call_with kind a b d bytes (zeros c.size) (block_at c.size at area)
 
-  pub other_at : (kind ≡ get_kind → ⊥) → (r : Answer) (after part got : List ℕ) → length part ≡ 0 → got ≡ bytes
+  pub other_at : (kind ≡ get_kind → ⊥) → (r : Result ℕ Refusal) (after part got : List ℕ) → length part ≡ 0 → got ≡ bytes
       → outcome_of r part after ≡ outcome bs (call_with kind a b d got [] [])
       → StepsAt c.size at call bs area r after (part ++ area)
   other_at u r after part got z q e =
       steps_at c.size at call bs area r after (block_at c.size at area) (part ++ area)
-      (answered_of r _ after ∙ ap (λ (o : Outcome). over o (block_at c.size at area)) (sym (answered_of r part after))
-      ∙ ap (λ (o : Outcome). over o (block_at c.size at area)) (e ∙ ap (λ (x : List ℕ). outcome bs (call_with kind a b d x [] [])) q)
+      (ap (λ (o : Outcome). over o (block_at c.size at area)) (e ∙ ap (λ (x : List ℕ). outcome bs (call_with kind a b d x [] [])) q)
       ∙ sym (other_areas bs kind a b d bytes (zeros c.size) _ [] [] u))
       (ap (λ (p : List ℕ). p ++ area) (nothing part z) ∙ with_same c.size at area)
 
   module _ (b256 : Below 256 bs) (g : kind ≡ get_kind) where
-    pub get_nowhere : leb (at + c.size) (length area) ≡ false → StepsAt c.size at call bs area (No 3) bs area
+    pub get_nowhere : leb (at + c.size) (length area) ≡ false → StepsAt c.size at call bs area (Err BadInput) bs area
     unfolding decode_bytes
     get_nowhere n =
         let size = size_is c bs v in
-        steps_at c.size at call bs area (No 3) bs (block_at c.size at area) area
-        (get_steps bs (stores.sound_store c bs v) b256 call g (No 3) _
+        steps_at c.size at call bs area (Err BadInput) bs (block_at c.size at area) area
+        (get_steps bs (stores.sound_store c bs v) b256 call g (Err BadInput) _
         (not_lent (decode (words bs)) a b (zeros c.size) (block_at c.size at area)
         (no_second _ _ (ne_eqb (length (block_at c.size at area)) (decode (words bs)).settings.size
         (λ q. omega (arith, ap length (block_none c.size at area n), size, v.limits.size_from))))))
         (with_same c.size at area)
 
-    pub get_there : leb (at + c.size) (length area) ≡ true → (r : Answer) (got part area_after : List ℕ) → got ≡ block_at c.size at area
+    pub get_there : leb (at + c.size) (length area) ≡ true → (r : Result ℕ Refusal) (got part area_after : List ℕ) → got ≡ block_at c.size at area
         → Fills (decode (words bs)) (Event.get a b) got r part → area_after ≡ with_block c.size at part area
         → StepsAt c.size at call bs area r bs area_after
     unfolding decode_bytes
@@ -88,16 +83,16 @@ module _ (c : Settings) (bs : List ℕ) (v : StoreOf c bs) (kind a b d at : ℕ)
         w
 
 -- ---- the turn
-pub turned : (size : ℕ) (batch : Batch) (i : ℕ) (l : Lent) (r : Answer) (after area : List ℕ)
+pub turned : (size : ℕ) (batch : Batch) (i : ℕ) (l : Lent) (r : Result ℕ Refusal) (after area : List ℕ)
     → StepsAt size (begins batch i) (call_at size batch i l.area) l.store l.area r after area
-    → (answers : List ℕ) → answers ≡ set (set l.answers (2 * i) (outcome_of r [] []).code) (2 * i + 1) (outcome_of r [] []).key
+    → (answers : List ℕ) → answers ≡ set (set l.answers (2 * i) (code_of r)) (2 * i + 1) (key_of r)
     → lent after area answers ≡ turn size batch i l
 unfolding turn
 turned size batch i l r after area p answers e =
     let o = outcome l.store (call_at size batch i l.area) in
-    let c : (outcome_of r [] []).code ≡ o.code = ap (λ (x : Outcome). x.code) (sym (answered_of r o.area after) ∙ p.same) in
-    let k : (outcome_of r [] []).key ≡ o.key = ap (λ (x : Outcome). x.key) (sym (answered_of r o.area after) ∙ p.same) in
-    let s : after ≡ o.store = ap (λ (x : Outcome). x.store) (sym (answered_of r o.area after) ∙ p.same) in
+    let c : code_of r ≡ o.code = ap (λ (x : Outcome). x.code) p.same in
+    let k : key_of r ≡ o.key = ap (λ (x : Outcome). x.key) p.same in
+    let s : after ≡ o.store = ap (λ (x : Outcome). x.store) p.same in
     rw (e, c, k, s, p.fills) refl
 
 pub turns_more : (size : ℕ) (batch : Batch) (i : ℕ) (l m k : Lent) → k ≡ turn size batch i m → m ≡ turns size batch i l → k ≡ turns size batch (i + 1) l

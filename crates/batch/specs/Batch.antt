@@ -1,12 +1,12 @@
 -- A list of events in one call: what as many calls of the step do, one after the other. Question 2 is asked once.
-use Rattle.std.specs.Prelude.{◌≡◌, List, [], Bool, cond, ℕ, zero, suc, ◌+◌, ◌*◌, ◌/◌, ◌≤◌, leb, eqb, length, get_or, set}
+use Rattle.std.specs.Prelude.{◌≡◌, List, [], Bool, cond, ℕ, zero, suc, ◌+◌, ◌*◌, ◌/◌, ◌≤◌, leb, eqb, length, get_or, set, Result}
+use Rattle.rules.specs.declared.refusal.Refusal.{Refusal}
 use Rattle.lists.specs.Tests.{◌and◌}
 use Rattle.lists.specs.Runs.{run, on_run}
 use Rattle.rules.specs.declared.settings.Settings.{Settings}
 use Rattle.rules.specs.Call.{Call}
 use Rattle.rules.specs.Reads.{zeros}
 use Rattle.layout.specs.Store.{decode_bytes, sound_bytes}
-use Rattle.lent.specs.declared.Answer.{Answer}
 use Rattle.lent.specs.Stores.{StoreOf}
 use Rattle.calls.specs.Outcome.{call_with, outcome, outcome_of}
 
@@ -101,6 +101,6 @@ pub record Fits (settings : Settings) (n : ℕ) (events answers store : List ℕ
   pub answers_in : answer_words * n ≤ length answers
 
 -- one event on a store: the outcome of its call, with its block of the area
-pub record StepsAt (size at : ℕ) (call : Call) (store area : List ℕ) (r : Answer) (after area_after : List ℕ) : Type 0 where
+pub record StepsAt (size at : ℕ) (call : Call) (store area : List ℕ) (r : Result ℕ Refusal) (after area_after : List ℕ) : Type 0 where
   pub same : outcome_of r (outcome store call).area after ≡ outcome store call
   pub fills : area_after ≡ with_block size at (outcome store call).area area

@@ -5,10 +5,13 @@
 ghost use Rattle.std.specs.Prelude.{◌≡◌, [], ◌+◌, ◌≤◌, leb, length, set};
 ghost use Rattle.rules.specs.Reads.{zeros};
 ghost use Rattle.lent.specs.Stores.{StoreOf};
-ghost use Rattle.calls.specs.Outcome.{call_with, outcome_of};
+ghost use Rattle.rules.specs.Refusals.{code_of};
+ghost use Rattle.lent.specs.Performs.{key_of};
+ghost use Rattle.calls.specs.Outcome.{call_with};
 ghost use Rattle.batch.specs.Batch.{block_at, batch_with, lent, turn, turns, ran, batch_outcome, Fits, StepsAt};
 
 use lent::Answer;
+use rules::refusal::Refusal;
 use rules::settings::Settings;
 
 // words of an event, and of its answer
@@ -60,7 +63,7 @@ fn step_at(
             let end = at + size;
             return reads::fill_block(store, settings, a, b, &mut area[at..end]);
         }
-        return Answer::No(3);
+        return Err(Refusal::BadInput);
     }
     let bytes = block_at(data, at, size);
     step::perform(
@@ -79,15 +82,15 @@ fn step_at(
 // The two words of an answer.
 fn set_answer(answers: &mut [u64], to: usize, answer: Answer)
     requires { to + 2 ≤ length answers.old }
-    ensures { answers.new ≡ set (set answers.old to (outcome_of answer [] []).code) (to + 1) (outcome_of answer [] []).key }
+    ensures { answers.new ≡ set (set answers.old to (code_of answer)) (to + 1) (key_of answer) }
 {
     match answer {
-        Answer::Yes(key) => {
+        Ok(key) => {
             answers[to] = 0;
             answers[to + 1] = key;
         }
-        Answer::No(code) => {
-            answers[to] = code;
+        Err(refusal) => {
+            answers[to] = u64::from(refusal);
             answers[to + 1] = 0;
         }
     }
@@ -146,29 +149,29 @@ fn run_all(
     }
 }
 
-// Performs a list of events, each on what the ones before left: 0, with a code and a key for each. 2 where the store is not sound, 3 where the events are
-// no whole number or the answers not as many; then no lent byte changes.
+// Performs a list of events, each on what the ones before left, with a code and a key for each. Refused where the store is not sound, and where the events
+// are no whole number or the answers not as many; then no lent byte changes.
 pub fn run(
     store: &mut [u8],
     events: &[u64],
     data: &[u8],
     area: &mut [u8],
     answers: &mut [u64],
-) -> u64
-    ensures { ran result (lent store.new area.new answers.new)
+) -> Result<(), Refusal>
+    ensures { ran (code_of result) (lent store.new area.new answers.new)
         ≡ batch_outcome (batch_with events.now «data».now) (lent store.old area.old answers.old) }
 {
     if !store_check::is_sound(store) {
-        return 2;
+        return Err(Refusal::Unsound);
     }
     let n = events.len() / EVENT_WORDS;
     if events.len() != EVENT_WORDS * n {
-        return 3;
+        return Err(Refusal::BadInput);
     }
     if answers.len() != ANSWER_WORDS * n {
-        return 3;
+        return Err(Refusal::BadInput);
     }
     let settings = lent::store::settings(store);
     run_all(store, settings, n, events, data, area, answers);
-    0
+    Ok(())
 }

@@ -1,12 +1,13 @@
 -- The outcome of a call on lent bytes: question 2, then the rules' step on the state that the bytes stand for, rendered over them.
-use Rattle.std.specs.Prelude.{List, [], ◌∷◌, cond, ℕ, eqb}
+use Rattle.std.specs.Prelude.{List, [], ◌∷◌, cond, ℕ, eqb, Result}
+use Rattle.rules.specs.declared.refusal.Refusal.{Refusal}
+use Rattle.rules.specs.Refusals.{code_of}
 use Rattle.lists.specs.Tests.{◌and◌}
 use Rattle.rules.specs.Event.{Event}
 use Rattle.rules.specs.Call.{Call, get_kind, event_called}
 use Rattle.rules.specs.Step.{Outcome as Stepped, step}
 use Rattle.layout.specs.Store.{decode_bytes, render_bytes, sound_bytes}
-use Rattle.lent.specs.declared.Answer.{Answer}
-use Rattle.lent.specs.declared.Answer.TheVariants.{Yes, No}
+use Rattle.lent.specs.Performs.{key_of}
 
 -- the number, the key, each byte of the answer area and each byte of the store
 pub record Outcome : Type 0 where
@@ -45,6 +46,5 @@ store_after bs [] = bs
 store_after bs (call ∷ calls) = store_after (outcome bs call).store calls
 
 -- ---- the number and the key of the code's answer, beside the bytes that it leaves
-unfoldable pub outcome_of : Answer → List ℕ → List ℕ → Outcome
-outcome_of (Yes key) area store = record { code = 0; key = key; area = area; store = store }
-outcome_of (No code) area store = record { code = code; key = 0; area = area; store = store }
+abbrev pub outcome_of : Result ℕ Refusal → List ℕ → List ℕ → Outcome
+outcome_of r area store = record { code = code_of r; key = key_of r; area = area; store = store }

@@ -14,12 +14,15 @@ ghost use Rattle.alike.specs.Alike.{alike_answer, alike_number};
 ghost use Rattle.read_many.specs.Read.{read, read_outcome};
 ghost use Rattle.batch.specs.Batch.{batch_with, lent, ran, batch_outcome};
 ghost use Rattle.relay_list.specs.Shown.{Shows};
+ghost use Rattle.rules.specs.Refusals.{code_of};
+ghost use Rattle.lent.specs.Performs.{key_of};
 ghost use Rattle.disk.specs.Answers.{step_outcome};
 
 use lent::Answer;
 use parse::for_c::{EventAnswer, SettingsAnswer};
 use print::for_c::LineAnswer;
 use relay_list::{BagAnswer, Relay};
+use rules::refusal;
 
 #[repr(C)]
 #[derive(Clone, Copy)]
@@ -28,12 +31,26 @@ pub struct StepAnswer {
     pub key: u64,
 }
 
+impl From<Answer> for StepAnswer {
+    ghost from_gives = { λ answer r. (r.code ≡ code_of answer) × (r.key ≡ key_of answer) };
+
+    fn from(answer: Answer) -> StepAnswer {
+        match answer {
+            Ok(key) => StepAnswer { code: 0, key },
+            Err(refusal) => StepAnswer {
+                code: u64::from(refusal),
+                key: 0,
+            },
+        }
+    }
+}
+
 // The bytes to lend for a store of these settings; 0 where they are out of limits.
 #[unsafe(no_mangle)]
 pub extern "C" fn disk_length(places: u64, size: u64, entries: u64, chunks: u64) -> u64
     ensures { result ≡ length_answer (settings places size entries chunks) }
 {
-    store::length(places, size, entries, chunks)
+    store::length(places, size, entries, chunks).unwrap_or(0)
 }
 
 // Makes the lent bytes a store.
@@ -47,7 +64,8 @@ pub extern "C" fn disk_format(
 ) -> u64
     ensures { Formatted (settings places size entries chunks) store.old result store.new }
 {
-    store::format_store(store, places, size, entries, chunks)
+    let answer = store::format_store(store, places, size, entries, chunks);
+    refusal::code(answer)
 }
 
 // Is it a sound store?
@@ -55,7 +73,7 @@ pub extern "C" fn disk_format(
 pub extern "C" fn disk_check(store: &[u8]) -> u64
     ensures { result ≡ check_answer store.now }
 {
-    store::check(store)
+    refusal::code(store::check(store))
 }
 
 // An event of any kind on a lent store.
@@ -73,11 +91,7 @@ pub extern "C" fn disk_step(
     ensures { step_outcome result area.new store.new
         ≡ outcome store.old (call_with kind a b c «data».now blank.now area.old) }
 {
-    let answer = step::step(store, kind, a, b, c, data, blank, area);
-    match answer {
-        Answer::Yes(key) => StepAnswer { code: 0, key },
-        Answer::No(code) => StepAnswer { code, key: 0 },
-    }
+    StepAnswer::from(step::step(store, kind, a, b, c, data, blank, area))
 }
 
 // Many blocks of one proxy.
@@ -85,7 +99,7 @@ pub extern "C" fn disk_step(
 pub extern "C" fn disk_read(store: &[u8], proxy: u64, blocks: &[u64], answers: &mut [u8]) -> u64
     ensures { read result answers.new ≡ read_outcome store.now proxy blocks.now answers.old }
 {
-    read_many::read(store, proxy, blocks, answers)
+    refusal::code(read_many::read(store, proxy, blocks, answers))
 }
 
 // A list of events on a lent store.
@@ -100,7 +114,7 @@ pub extern "C" fn disk_run(
     ensures { ran result (lent store.new area.new answers.new)
         ≡ batch_outcome (batch_with events.now «data».now) (lent store.old area.old answers.old) }
 {
-    batch::run(store, events, data, area, answers)
+    refusal::code(batch::run(store, events, data, area, answers))
 }
 
 // The relays of the bag, as records.

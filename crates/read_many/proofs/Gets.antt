@@ -8,6 +8,10 @@ use native.Mathlib.Omega.{arith}
 use lib.Dec.{eqb}
 use lib.ListN.{length, length-replicate}
 use borrow.Author.Tests.{eq-eqb, ne_eqb}
+use Rattle.std.specs.Prelude.{Ok, Err}
+use Rattle.rules.specs.declared.refusal.Refusal.{Refusal}
+use Rattle.rules.specs.Refusals.{number}
+use Rattle.rules.proofs.Refusals.{never_zero}
 use Rattle.lists.specs.Tests.{◌and◌}
 use Rattle.lists.specs.Runs.{Below}
 use Rattle.lists.proofs.Tests.{by_eq, both}
@@ -19,15 +23,13 @@ use Rattle.rules.specs.Event.{Event}
 use Rattle.rules.specs.Call.{Call, event_called}
 use Rattle.rules.specs.Derived.{bucket_no, bucket_at, primary_memory}
 use Rattle.rules.specs.Reads.{mapped, zeros}
-use Rattle.rules.specs.Step.{Outcome as Result, rule, step}
+use Rattle.rules.specs.Step.{Outcome as Stepped, rule, step}
 use Rattle.rules.proofs.Call.{get_called}
 use Rattle.rules.proofs.Derived.{bucket_below}
 use Rattle.rules.proofs.Sound.{Sound}
-use Rattle.rules.proofs.Step.{Stepped, refused, accepted, stepped, Numbered, step_numbers}
+use Rattle.rules.proofs.Step.{Stepped as IsStepped, refused, accepted, stepped, Numbered, step_numbers}
 use Rattle.layout.specs.Store.{decode, decode_bytes}
 use Rattle.history.proofs.Facts.{key_for_key}
-use Rattle.lent.specs.declared.Answer.TheVariants.{Yes, No}
-use Rattle.lent.specs.Performs.{answer as answer_with, answer_of}
 use Rattle.lent.specs.Stores.{StoreOf}
 use Rattle.lent.proofs.Stores as stores
 use Rattle.reads.specs.Get.{Fills}
@@ -51,7 +53,7 @@ module _ (c : Settings) (bs : List ℕ) (v : StoreOf c bs) (proxy block : ℕ) w
   abbrev call : Call
   call = get_call c.size proxy block
 
-  abbrev result : Result
+  abbrev result : Stepped
   result = step (decode_bytes bs) (Event.get proxy block)
 
   -- ---- the event and the outcome
@@ -88,30 +90,27 @@ module _ (c : Settings) (bs : List ℕ) (v : StoreOf c bs) (proxy block : ℕ) w
   unfolding rule decode_bytes
   key_word = subst (λ (o : Outcome). o.key < 2 ^ 64) (sym get_performed) (go result (stepped (decode_bytes bs) (Event.get proxy block)))
     where
-      go : (o : Result) → Stepped (decode_bytes bs) (Event.get proxy block) o → o.said.key < 2 ^ 64
+      go : (o : Stepped) → IsStepped (decode_bytes bs) (Event.get proxy block) o → o.said.key < 2 ^ 64
       go o (refused n) = omega arith
       go o (accepted y) = mapped_word (decode_bytes bs) (stores.facts c bs v) block
 
   -- ---- the bytes of the answer, as they are written
   module _ (got part : List ℕ) where
-    pub answer_yes : (key : ℕ) → Fills (decode (words bs)) (Event.get proxy block) got (Yes key) part → head 0 key ++ part ≡ get_answer c.size bs proxy block
-    unfolding answer answer_with filled ◌and◌ decode_bytes
-    answer_yes key f = rw get_performed (go result (stepped _ _) f.answers f.fills)
+    pub answer_yes : (key : ℕ) → Fills (decode (words bs)) (Event.get proxy block) got (Ok key) part → head 0 key ++ part ≡ get_answer c.size bs proxy block
+    unfolding answer filled ◌and◌ decode_bytes
+    answer_yes key f = rw get_performed (go result f.code f.key f.fills)
       where
-        go : (o : Result) → Stepped (decode_bytes bs) (Event.get proxy block) o → Yes key ≡ answer_of o → part ≡ cond (eqb o.code 0) o.said.bytes got
+        go : (o : Stepped) → 0 ≡ o.code → key ≡ o.said.key → part ≡ cond (eqb o.code 0) o.said.bytes got
             → head 0 key ++ part ≡ head o.code o.said.key ++ filled call o
-        go o (refused n) a e = let z : ◌≡◌ {A = ℕ} 0 1 = cc in absurd (omega arith)
-        go o (accepted y) a e = cc
+        go o n k e = rw (n, k, e) refl
 
-    pub answer_no : (code : ℕ) → Fills (decode (words bs)) (Event.get proxy block) got (No code) part
-        → (code < 256) × (head code 0 ++ zeros c.size ≡ get_answer c.size bs proxy block)
-    unfolding answer answer_with filled ◌and◌ decode_bytes
-    answer_no code f = let known = go result (stepped _ _) f.answers in (omega (arith, known.0, code_small), rw get_performed known.1)
+    pub answer_no : (r : Refusal) → Fills (decode (words bs)) (Event.get proxy block) got (Err r) part
+        → (number r < 256) × (head (number r) 0 ++ zeros c.size ≡ get_answer c.size bs proxy block)
+    unfolding answer filled ◌and◌ decode_bytes
+    answer_no r f = (omega (arith, f.code, code_small), rw get_performed (go result f.code f.key))
       where
-        go : (o : Result) → Stepped (decode_bytes bs) (Event.get proxy block) o → No code ≡ answer_of o
-            → (code ≡ o.code) × (head code 0 ++ zeros c.size ≡ head o.code o.said.key ++ filled call o)
-        go o (refused n) a = let e : code ≡ suc n = cc in (e, rw (e, ne_eqb (suc n) 0 (λ q. omega arith)) refl)
-        go o (accepted y) a = let z : ◌≡◌ {A = ℕ} 0 1 = cc in absurd (omega arith)
+        go : (o : Stepped) → number r ≡ o.code → 0 ≡ o.said.key → head (number r) 0 ++ zeros c.size ≡ head o.code o.said.key ++ filled call o
+        go o n k = rw (sym n, sym k, ne_eqb (number r) 0 (never_zero r)) refl
 
   -- ---- and as a caller reads them
   pub get_answer_read : answered_block bs proxy block (get_answer c.size bs proxy block) ≡ record {

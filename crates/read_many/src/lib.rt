@@ -5,10 +5,11 @@
 ghost use Rattle.std.specs.Prelude.{◌≡◌, ◌++◌, reverse, ◌*◌, ◌≤◌, ◌<◌, length, drop};
 ghost use Rattle.words.specs.Words.{bytes_of};
 ghost use Rattle.rules.specs.Limits.{max_size};
+ghost use Rattle.rules.specs.Refusals.{code_of};
 ghost use Rattle.lent.specs.Stores.{StoreOf};
 ghost use Rattle.read_many.specs.Read.{head_bytes, answer_bytes, head, get_answer, answers_to, fits, read, read_outcome};
 
-use lent::Answer;
+use rules::refusal::Refusal;
 use rules::settings::Settings;
 
 // blocks in one call
@@ -51,10 +52,10 @@ fn set_answer(store: &[u8], settings: Settings, proxy: u64, block: u64, answer: 
 {
     let answered = reads::fill_block(store, settings, proxy, block, &mut answer[HEAD_BYTES..]);
     match answered {
-        Answer::Yes(key) => set_head(answer, 0, key),
-        Answer::No(code) => {
+        Ok(key) => set_head(answer, 0, key),
+        Err(refusal) => {
             reads::clear(&mut answer[HEAD_BYTES..]);
-            set_head(answer, code, 0)
+            set_head(answer, u64::from(refusal), 0)
         }
     }
 }
@@ -88,19 +89,19 @@ fn set_answers(store: &[u8], settings: Settings, proxy: u64, blocks: &[u64], ans
     }
 }
 
-// 0, with an answer for each block; the bytes past the last answer stay. 2 where the store is not sound, 3 where there are more than 64 blocks or too few
+// An answer for each block; the bytes past the last answer stay. Refused where the store is not sound, and where there are more than 64 blocks or too few
 // bytes for the answers; then no lent byte changes.
-pub fn read(store: &[u8], proxy: u64, blocks: &[u64], answers: &mut [u8]) -> u64
-    ensures { read result answers.new
+pub fn read(store: &[u8], proxy: u64, blocks: &[u64], answers: &mut [u8]) -> Result<(), Refusal>
+    ensures { read (code_of result) answers.new
         ≡ read_outcome store.now proxy blocks.now answers.old }
 {
     if !store_check::is_sound(store) {
-        return 2;
+        return Err(Refusal::Unsound);
     }
     let settings = lent::store::settings(store);
     if fits(settings.size, blocks.len(), answers.len()) {
         set_answers(store, settings, proxy, blocks, answers);
-        return 0;
+        return Ok(());
     }
-    3
+    Err(Refusal::BadInput)
 }

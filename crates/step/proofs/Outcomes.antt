@@ -6,6 +6,9 @@ use Prim.Native.Nat.{ℕ}
 use lib.Dec.{eqb}
 use lib.ListN.{length}
 use borrow.Author.Tests.{ne_eqb}
+use Rattle.std.specs.Prelude.{Result, Err}
+use Rattle.rules.specs.declared.refusal.Refusal.{Refusal}
+use Rattle.rules.specs.declared.refusal.Refusal.TheVariants.{Unsound}
 use Rattle.lists.specs.Tests.{◌and◌, ◌or◌}
 use Rattle.lists.specs.Runs.{Below}
 use Rattle.lists.proofs.Tests.{either}
@@ -13,13 +16,11 @@ use Rattle.words.specs.Words.{words}
 use Rattle.rules.specs.Event.{Event, event_from}
 use Rattle.rules.specs.Call.{Call, get_kind, is_zero_block, event_called}
 use Rattle.rules.specs.Question.{first_no}
-use Rattle.rules.specs.Step.{Outcome as Result, rule, step}
+use Rattle.rules.specs.Step.{Outcome as Stepped, rule, step}
 use Rattle.rules.proofs.Call.{other_called}
 use Rattle.rules.proofs.Event.{kinds_open}
 use Rattle.layout.specs.Store.{decode_bytes, render_bytes, sound_bytes}
 use Rattle.layout.proofs.Bytes.{bytes_still}
-use Rattle.lent.specs.declared.Answer.{Answer}
-use Rattle.lent.specs.declared.Answer.TheVariants.{No}
 use Rattle.lent.specs.Performs.{Performs}
 use Rattle.lent.specs.Stores.{SoundStore}
 use Rattle.calls.specs.Outcome.{filled, outcome, outcome_of}
@@ -28,21 +29,21 @@ use Rattle.calls.proofs.Performed.{sound_store, outcome_is, outcome_performed}
 use Rattle.reads.specs.Get.{read_event, GetsInto}
 
 -- ---- bytes that are not sound: 2, and no lent byte changes
-pub unsound_steps : (call : Call) (bs : List ℕ) → sound_bytes bs ≡ false → outcome_of (No 2) call.area bs ≡ outcome bs call
-unfolding outcome outcome_of
+pub unsound_steps : (call : Call) (bs : List ℕ) → sound_bytes bs ≡ false → outcome_of (Err Unsound) call.area bs ≡ outcome bs call
+unfolding outcome
 unsound_steps call bs n = rw n refl
 
 -- ---- the area: a refused call and one of another kind leave it, an accepted get fills it
-left_other : (call : Call) (o : Result) → (call.kind ≡ get_kind → ⊥) → call.area ≡ filled call o
+left_other : (call : Call) (o : Stepped) → (call.kind ≡ get_kind → ⊥) → call.area ≡ filled call o
 unfolding filled ◌and◌
 left_other call o u = rw (ne_eqb call.kind get_kind u) refl
 
-filled_get : (call : Call) (o : Result) → call.kind ≡ get_kind → cond (eqb o.code 0) o.said.bytes call.area ≡ filled call o
+filled_get : (call : Call) (o : Stepped) → call.kind ≡ get_kind → cond (eqb o.code 0) o.said.bytes call.area ≡ filled call o
 unfolding filled ◌and◌
 filled_get call o g = rw g refl
 
 -- ---- any kind but get
-module _ (call : Call) (bs : List ℕ) (sd : SoundStore bs) (u : call.kind ≡ get_kind → ⊥) (r : Answer) (after : List ℕ) (b : Below 256 after)
+module _ (call : Call) (bs : List ℕ) (sd : SoundStore bs) (u : call.kind ≡ get_kind → ⊥) (r : Result ℕ Refusal) (after : List ℕ) (b : Below 256 after)
     (h : length after ≡ length bs) where
   pub other_steps : (e : Event) → event_from call.kind call.a call.b call.c call.bytes ≡ e → Performs e (words bs) r (words after)
       → outcome_of r call.area after ≡ outcome bs call
@@ -65,9 +66,9 @@ read_still bs b y size zero_block area p block =
     either (λ (e : Event). bs ≡ render_bytes (step (decode_bytes bs) e).after bs) (is_zero_block size zero_block and eqb (length area) size)
     (λ _. get_still bs b y p block) (λ _. unknown_still bs b y)
 
-pub get_steps : (bs : List ℕ) (sd : SoundStore bs) → Below 256 bs → (call : Call) → call.kind ≡ get_kind → (r : Answer) (area : List ℕ)
+pub get_steps : (bs : List ℕ) (sd : SoundStore bs) → Below 256 bs → (call : Call) → call.kind ≡ get_kind → (r : Result ℕ Refusal) (area : List ℕ)
     → GetsInto (decode_bytes bs) call.zero_block call.area call.a call.b r area → outcome_of r area bs ≡ outcome bs call
 get_steps bs sd b call g r area h =
     let size = (decode_bytes bs).settings.size in
-    outcome_is call bs sd (read_event size call.zero_block call.area call.a call.b) (read_is size call g) r area bs h.answers
+    outcome_is call bs sd (read_event size call.zero_block call.area call.a call.b) (read_is size call g) r area bs h.code h.key
     (h.fills ∙ filled_get call _ g) (read_still bs b (sound_store bs sd) size call.zero_block call.area call.a call.b)

@@ -10,6 +10,7 @@ ghost use Rattle.lent.specs.Stores.{StoreOf};
 ghost use Rattle.calls.specs.Outcome.{call_with, outcome, outcome_of};
 
 use lent::Answer;
+use rules::refusal::Refusal;
 use rules::settings::Settings;
 
 pub mod get;
@@ -124,7 +125,7 @@ pub fn perform(
         14..=17 => change_brick(store, settings, kind, a),
         18..=20 => change_view(store, settings, kind, a),
         21..=22 => keep_up(store, settings, kind, a),
-        _ => Answer::No(3),
+        _ => Err(Refusal::BadInput),
     }
 }
 
@@ -146,5 +147,5 @@ pub fn step(
         let settings = lent::store::settings(store);
         return perform(store, settings, kind, a, b, c, data, blank, area);
     }
-    Answer::No(2)
+    Err(Refusal::Unsound)
 }

@@ -20,16 +20,9 @@ are_alike-requires c =
     let other = sym c.is_sound-2.ensures ∙ not-false _ c.if-not-is_sound-2.false-raw in
     (record { size = bytes_size _ one; sound = bytes_sound _ one }, record { size = bytes_size _ other; sound = bytes_sound _ other })
 
-pub returns-then-are_alike : goal.returns-then-are_alike
-unfolding alike_answer decode_bytes
-returns-then-are_alike c =
-    let one = sym c.is_sound.ensures ∙ not-false _ c.if-not-is_sound.false-raw in
-    let other = sym c.is_sound-2.ensures ∙ not-false _ c.if-not-is_sound-2.false-raw in
-    rw (both _ _ one other, sym c.are_alike.ensures ∙ c.if-are_alike.true)
-
 pub returns : goal.returns
 unfolding alike_answer decode_bytes
 returns c =
     let one = sym c.is_sound.ensures ∙ not-false _ c.if-not-is_sound.false-raw in
     let other = sym c.is_sound-2.ensures ∙ not-false _ c.if-not-is_sound-2.false-raw in
-    rw (both _ _ one other, sym c.are_alike.ensures ∙ c.if-are_alike.false)
+    rw (both _ _ one other, c.are_alike.ensures)

@@ -1,28 +1,26 @@
-use mathlib.Core.Path.{sym, ap}
-use mathlib.Core.List.{[]}
-use Prim.Native.Nat.{◌+◌}
+use mathlib.Core.Path.{sym, ap, ◌∙◌}
+use Prim.Native.Nat.{ℕ, ◌+◌}
 use native.Mathlib.Omega.{arith}
 use lib.ListN.{set, length-set}
-use Rattle.lent.specs.declared.Answer.{Answer}
-use Rattle.calls.specs.Outcome.{outcome_of}
+use Rattle.std.specs.Prelude.{Result}
+use Rattle.rules.specs.declared.refusal.Refusal.{Refusal}
+use Rattle.rules.specs.Refusals.{code_of}
+use Rattle.lent.specs.Performs.{key_of}
 use Rattle.batch.proofs.set_answer.Goals as goal
 
-pub bounds-answers-to-in-Yes : goal.bounds-answers-to-in-Yes
-bounds-answers-to-in-Yes c = simp length-set (omega arith)
+pub bounds-answers-to-in-Ok : goal.bounds-answers-to-in-Ok
+bounds-answers-to-in-Ok c = simp length-set (omega arith)
 
-pub bounds-answers-to-in-No-2 : goal.bounds-answers-to-in-No-2
-bounds-answers-to-in-No-2 c = simp length-set (omega arith)
+pub bounds-answers-to-in-Err-2 : goal.bounds-answers-to-in-Err-2
+bounds-answers-to-in-Err-2 c = simp length-set (omega arith)
 
-pub returns-in-Yes : goal.returns-in-Yes
-unfolding outcome_of
-returns-in-Yes c =
+pub returns-in-Ok : goal.returns-in-Ok
+returns-in-Ok c =
     let s = c.args in
-    sym (ap (λ (x : Answer). set (set s.answers.now s.to (outcome_of x [] []).code) (s.to + 1) (outcome_of x [] []).key)
-    c.in-Yes.is)
+    sym (ap (λ (x : Result ℕ Refusal). set (set s.answers.now s.to (code_of x)) (s.to + 1) (key_of x)) c.in-Ok.is)
 
-pub returns-in-No : goal.returns-in-No
-unfolding outcome_of
-returns-in-No c =
+pub returns-in-Err : goal.returns-in-Err
+returns-in-Err c =
     let s = c.args in
-    sym (ap (λ (x : Answer). set (set s.answers.now s.to (outcome_of x [] []).code) (s.to + 1) (outcome_of x [] []).key)
-    c.in-No.is)
+    ap (λ (n : ℕ). set (set s.answers.now s.to n) (s.to + 1) 0) c.from.ensures
+    ∙ sym (ap (λ (x : Result ℕ Refusal). set (set s.answers.now s.to (code_of x)) (s.to + 1) (key_of x)) c.in-Err.is)

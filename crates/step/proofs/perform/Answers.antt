@@ -3,14 +3,15 @@ use mathlib.Core.List.{List, []}
 use Prim.Native.Nat.{ℕ, ◌≤◌, ◌<◌}
 use native.Mathlib.Omega.{arith}
 use lib.ListN.{length, get_or}
+use Rattle.std.specs.Prelude.{Result, Err}
+use Rattle.rules.specs.declared.refusal.Refusal.{Refusal}
+use Rattle.rules.specs.declared.refusal.Refusal.TheVariants.{BadInput}
 use Rattle.lists.proofs.Runs.{below_of}
 use Rattle.words.specs.Words.{words}
 use Rattle.rules.specs.Event.{Event, event_from}
 use Rattle.rules.specs.Call.{Call, get_kind}
 use Rattle.rules.proofs.Event.{kinds_open, two_numbers, one_number, kind_none, kind_past}
 use Rattle.layout.specs.Store.{decode_bytes}
-use Rattle.lent.specs.declared.Answer.{Answer}
-use Rattle.lent.specs.declared.Answer.TheVariants.{No}
 use Rattle.lent.specs.Performs.{Performs}
 use Rattle.lent.proofs.Stores.{sound_store}
 use Rattle.calls.specs.Outcome.{call_with, outcome, outcome_of}
@@ -25,7 +26,7 @@ returns-in-9 c =
     let call : Call = let s' = c.args in
     call_with s'.kind s'.a s'.b s'.c s'.«data».now s'.blank.now s'.area.now in
     let event : Event = let k = call in event_from k.kind k.a k.b k.c k.bytes in
-    let other : (e : Event) → ((call).kind ≡ get_kind → ⊥) → event ≡ e → (r' : Answer) (after : List ℕ)
+    let other : (e : Event) → ((call).kind ≡ get_kind → ⊥) → event ≡ e → (r' : Result ℕ Refusal) (after : List ℕ)
     → ((i : ℕ) → get_or after i 0 < 256) → length after ≡ length (store) → Performs e (words (store)) r' (words after)
     → outcome_of r' (call).area after ≡ outcome (store) (call) = λ e u q r' after b h p. other_steps (call) (store) (sound_store _ (store) c.requires) u r' after (below_of 256 _ b) h e q p in
     let r = c.done in
@@ -48,7 +49,7 @@ returns-in-11 c =
     let call : Call = let s' = c.args in
     call_with s'.kind s'.a s'.b s'.c s'.«data».now s'.blank.now s'.area.now in
     let event : Event = let k = call in event_from k.kind k.a k.b k.c k.bytes in
-    let other : (e : Event) → ((call).kind ≡ get_kind → ⊥) → event ≡ e → (r' : Answer) (after : List ℕ)
+    let other : (e : Event) → ((call).kind ≡ get_kind → ⊥) → event ≡ e → (r' : Result ℕ Refusal) (after : List ℕ)
     → ((i : ℕ) → get_or after i 0 < 256) → length after ≡ length (store) → Performs e (words (store)) r' (words after)
     → outcome_of r' (call).area after ≡ outcome (store) (call) = λ e u q r' after b h p. other_steps (call) (store) (sound_store _ (store) c.requires) u r' after (below_of 256 _ b) h e q p in
     let r = c.abandon in
@@ -61,7 +62,7 @@ returns-in-1-to-3 c =
     let call : Call = let s' = c.args in
     call_with s'.kind s'.a s'.b s'.c s'.«data».now s'.blank.now s'.area.now in
     let event : Event = let k = call in event_from k.kind k.a k.b k.c k.bytes in
-    let other : (e : Event) → ((call).kind ≡ get_kind → ⊥) → event ≡ e → (r' : Answer) (after : List ℕ)
+    let other : (e : Event) → ((call).kind ≡ get_kind → ⊥) → event ≡ e → (r' : Result ℕ Refusal) (after : List ℕ)
     → ((i : ℕ) → get_or after i 0 < 256) → length after ≡ length (store) → Performs e (words (store)) r' (words after)
     → outcome_of r' (call).area after ≡ outcome (store) (call) = λ e u q r' after b h p. other_steps (call) (store) (sound_store _ (store) c.requires) u r' after (below_of 256 _ b) h e q p in
     let r = c.write in
@@ -73,7 +74,7 @@ returns-in-4-to-8 c =
     let call : Call = let s' = c.args in
     call_with s'.kind s'.a s'.b s'.c s'.«data».now s'.blank.now s'.area.now in
     let event : Event = let k = call in event_from k.kind k.a k.b k.c k.bytes in
-    let other : (e : Event) → ((call).kind ≡ get_kind → ⊥) → event ≡ e → (r' : Answer) (after : List ℕ)
+    let other : (e : Event) → ((call).kind ≡ get_kind → ⊥) → event ≡ e → (r' : Result ℕ Refusal) (after : List ℕ)
     → ((i : ℕ) → get_or after i 0 < 256) → length after ≡ length (store) → Performs e (words (store)) r' (words after)
     → outcome_of r' (call).area after ≡ outcome (store) (call) = λ e u q r' after b h p. other_steps (call) (store) (sound_store _ (store) c.requires) u r' after (below_of 256 _ b) h e q p in
     let two : 4 ≤ (call).kind → (call).kind ≤ 8 → event ≡ event_from (call).kind (call).a (call).b 0 [] = λ l h. let k = call in two_numbers k.a k.b k.c k.bytes k.kind l h in
@@ -86,7 +87,7 @@ returns-in-12-to-13 c =
     let call : Call = let s' = c.args in
     call_with s'.kind s'.a s'.b s'.c s'.«data».now s'.blank.now s'.area.now in
     let event : Event = let k = call in event_from k.kind k.a k.b k.c k.bytes in
-    let other : (e : Event) → ((call).kind ≡ get_kind → ⊥) → event ≡ e → (r' : Answer) (after : List ℕ)
+    let other : (e : Event) → ((call).kind ≡ get_kind → ⊥) → event ≡ e → (r' : Result ℕ Refusal) (after : List ℕ)
     → ((i : ℕ) → get_or after i 0 < 256) → length after ≡ length (store) → Performs e (words (store)) r' (words after)
     → outcome_of r' (call).area after ≡ outcome (store) (call) = λ e u q r' after b h p. other_steps (call) (store) (sound_store _ (store) c.requires) u r' after (below_of 256 _ b) h e q p in
     let one : 12 ≤ (call).kind → (call).kind ≤ 22 → event ≡ event_from (call).kind (call).a 0 0 [] = λ l h. let k = call in one_number k.a k.b k.c k.bytes k.kind l h in
@@ -99,7 +100,7 @@ returns-in-14-to-17 c =
     let call : Call = let s' = c.args in
     call_with s'.kind s'.a s'.b s'.c s'.«data».now s'.blank.now s'.area.now in
     let event : Event = let k = call in event_from k.kind k.a k.b k.c k.bytes in
-    let other : (e : Event) → ((call).kind ≡ get_kind → ⊥) → event ≡ e → (r' : Answer) (after : List ℕ)
+    let other : (e : Event) → ((call).kind ≡ get_kind → ⊥) → event ≡ e → (r' : Result ℕ Refusal) (after : List ℕ)
     → ((i : ℕ) → get_or after i 0 < 256) → length after ≡ length (store) → Performs e (words (store)) r' (words after)
     → outcome_of r' (call).area after ≡ outcome (store) (call) = λ e u q r' after b h p. other_steps (call) (store) (sound_store _ (store) c.requires) u r' after (below_of 256 _ b) h e q p in
     let one : 12 ≤ (call).kind → (call).kind ≤ 22 → event ≡ event_from (call).kind (call).a 0 0 [] = λ l h. let k = call in one_number k.a k.b k.c k.bytes k.kind l h in
@@ -112,7 +113,7 @@ returns-in-18-to-20 c =
     let call : Call = let s' = c.args in
     call_with s'.kind s'.a s'.b s'.c s'.«data».now s'.blank.now s'.area.now in
     let event : Event = let k = call in event_from k.kind k.a k.b k.c k.bytes in
-    let other : (e : Event) → ((call).kind ≡ get_kind → ⊥) → event ≡ e → (r' : Answer) (after : List ℕ)
+    let other : (e : Event) → ((call).kind ≡ get_kind → ⊥) → event ≡ e → (r' : Result ℕ Refusal) (after : List ℕ)
     → ((i : ℕ) → get_or after i 0 < 256) → length after ≡ length (store) → Performs e (words (store)) r' (words after)
     → outcome_of r' (call).area after ≡ outcome (store) (call) = λ e u q r' after b h p. other_steps (call) (store) (sound_store _ (store) c.requires) u r' after (below_of 256 _ b) h e q p in
     let one : 12 ≤ (call).kind → (call).kind ≤ 22 → event ≡ event_from (call).kind (call).a 0 0 [] = λ l h. let k = call in one_number k.a k.b k.c k.bytes k.kind l h in
@@ -125,7 +126,7 @@ returns-in-21-to-22 c =
     let call : Call = let s' = c.args in
     call_with s'.kind s'.a s'.b s'.c s'.«data».now s'.blank.now s'.area.now in
     let event : Event = let k = call in event_from k.kind k.a k.b k.c k.bytes in
-    let other : (e : Event) → ((call).kind ≡ get_kind → ⊥) → event ≡ e → (r' : Answer) (after : List ℕ)
+    let other : (e : Event) → ((call).kind ≡ get_kind → ⊥) → event ≡ e → (r' : Result ℕ Refusal) (after : List ℕ)
     → ((i : ℕ) → get_or after i 0 < 256) → length after ≡ length (store) → Performs e (words (store)) r' (words after)
     → outcome_of r' (call).area after ≡ outcome (store) (call) = λ e u q r' after b h p. other_steps (call) (store) (sound_store _ (store) c.requires) u r' after (below_of 256 _ b) h e q p in
     let one : 12 ≤ (call).kind → (call).kind ≤ 22 → event ≡ event_from (call).kind (call).a 0 0 [] = λ l h. let k = call in one_number k.a k.b k.c k.bytes k.kind l h in
@@ -138,11 +139,11 @@ returns-in_default c =
     let call : Call = let s' = c.args in
     call_with s'.kind s'.a s'.b s'.c s'.«data».now s'.blank.now s'.area.now in
     let event : Event = let k = call in event_from k.kind k.a k.b k.c k.bytes in
-    let other : (e : Event) → ((call).kind ≡ get_kind → ⊥) → event ≡ e → (r : Answer) (after : List ℕ)
+    let other : (e : Event) → ((call).kind ≡ get_kind → ⊥) → event ≡ e → (r : Result ℕ Refusal) (after : List ℕ)
     → ((i : ℕ) → get_or after i 0 < 256) → length after ≡ length (store) → Performs e (words (store)) r (words after)
     → outcome_of r (call).area after ≡ outcome (store) (call) = λ e u q r after b h p. other_steps (call) (store) (sound_store _ (store) c.requires) u r after (below_of 256 _ b) h e q p in
     let none : ((call).kind ≡ get_kind → ⊥) → event ≡ Event.unknown
-    → outcome_of (No 3) (call).area (store) ≡ outcome (store) (call) = λ u q. other _ u q (No 3) (store) (λ i. omega (arith, c.type_inv.store i)) refl
+    → outcome_of (Err BadInput) (call).area (store) ≡ outcome (store) (call) = λ u q. other _ u q (Err BadInput) (store) (λ i. omega (arith, c.type_inv.store i)) refl
     (unknown_refused _ c.requires.sound) in
     none (λ z. omega arith) (kind_none (call).a (call).b (call).c (call).bytes (call).kind (omega arith))
 
@@ -152,10 +153,10 @@ returns-in_default-2 c =
     let call : Call = let s' = c.args in
     call_with s'.kind s'.a s'.b s'.c s'.«data».now s'.blank.now s'.area.now in
     let event : Event = let k = call in event_from k.kind k.a k.b k.c k.bytes in
-    let other : (e : Event) → ((call).kind ≡ get_kind → ⊥) → event ≡ e → (r : Answer) (after : List ℕ)
+    let other : (e : Event) → ((call).kind ≡ get_kind → ⊥) → event ≡ e → (r : Result ℕ Refusal) (after : List ℕ)
     → ((i : ℕ) → get_or after i 0 < 256) → length after ≡ length (store) → Performs e (words (store)) r (words after)
     → outcome_of r (call).area after ≡ outcome (store) (call) = λ e u q r after b h p. other_steps (call) (store) (sound_store _ (store) c.requires) u r after (below_of 256 _ b) h e q p in
     let none : ((call).kind ≡ get_kind → ⊥) → event ≡ Event.unknown
-    → outcome_of (No 3) (call).area (store) ≡ outcome (store) (call) = λ u q. other _ u q (No 3) (store) (λ i. omega (arith, c.type_inv.store i)) refl
+    → outcome_of (Err BadInput) (call).area (store) ≡ outcome (store) (call) = λ u q. other _ u q (Err BadInput) (store) (λ i. omega (arith, c.type_inv.store i)) refl
     (unknown_refused _ c.requires.sound) in
     none (λ z. omega arith) (kind_past (call).a (call).b (call).c (call).bytes (call).kind (omega arith))

@@ -1,17 +1,18 @@
-use mathlib.Core.Path.{sym, ap, ◌∙◌}
-use Rattle.alike.specs.Alike.{alike_number}
+use mathlib.Core.Path.{◌≡◌, sym, ap, ◌∙◌}
+use mathlib.Core.Bool.{Bool, true, false}
+use Rattle.std.specs.Prelude.{Result, Ok, Err}
+use Rattle.rules.specs.declared.refusal.Refusal.{Refusal}
+use Rattle.alike.specs.Alike.{alike_answer, alike_number}
 use Rattle.alike.proofs.for_c.alike.Goals as goal
 
--- `alike::for_c::alike` meets its contract.
-
-pub returns-in-Alike : goal.returns-in-Alike
+pub returns-in-Ok-true : goal.returns-in-Ok-true
 unfolding alike_number
-returns-in-Alike c = ap alike_number (sym c.in-Alike.is ∙ c.alike-answer.ensures)
+returns-in-Ok-true c = ap alike_number (ap Ok (sym c.in-Ok-true.field-0-test) ∙ c.in-Ok-true.ensures)
 
-pub returns-in-Different : goal.returns-in-Different
+pub returns-in-Ok-false : goal.returns-in-Ok-false
 unfolding alike_number
-returns-in-Different c = ap alike_number (sym c.in-Different.is ∙ c.alike-answer.ensures)
+returns-in-Ok-false c = ap alike_number (ap Ok (sym c.in-Ok-false.field-0-test) ∙ c.in-Ok-false.ensures)
 
-pub returns-in-Unsound : goal.returns-in-Unsound
+pub returns-in-Err : goal.returns-in-Err
 unfolding alike_number
-returns-in-Unsound c = ap alike_number (sym c.in-Unsound.is ∙ c.alike-answer.ensures)
+returns-in-Err c = c.from.ensures ∙ ap alike_number c.in-Err.ensures
