@@ -1,11 +1,14 @@
 -- The answer is written from the outcome of the rules' step: that of a get from the part that it is handed, that of any other kind without bytes.
-use mathlib.Core.Path.{◌≡◌, refl, sym, ap, ◌∙◌}
+use mathlib.Core.Path.{◌≡◌, refl, sym, ap, subst, ◌∙◌}
 use mathlib.Core.List.{List, [], ◌∷◌, ◌++◌}
 use Prim.Native.Nat.{ℕ, zero, suc, ◌≤◌}
 use native.Mathlib.Omega.{arith}
 use lib.ListN.{length, take, length-replicate}
 use lib.Seq.{take_all}
 use borrow.Author.Tests.{ne_eqb}
+use Rattle.std.specs.Prelude.{Result, Ok, Err}
+use Rattle.rules.specs.declared.refusal.Refusal.{Refusal}
+use Rattle.rules.specs.Refusals.{number as number_of, code_of}
 use Rattle.lists.specs.Runs.{Below}
 use Rattle.lists.specs.Tests.{◌and◌}
 use Rattle.lists.proofs.Tests.{by_eq, no_first}
@@ -14,12 +17,11 @@ use Rattle.rules.specs.declared.settings.Settings.{Settings}
 use Rattle.rules.specs.Call.{Call, get_kind}
 use Rattle.rules.specs.Event.{Event, event_from}
 use Rattle.rules.specs.Reads.{zeros}
-use Rattle.rules.specs.Step.{Outcome as Result, step}
+use Rattle.rules.specs.Step.{Outcome as Stepped, step}
 use Rattle.rules.proofs.Call.{other_called}
 use Rattle.rules.proofs.Event.{kinds_open}
 use Rattle.layout.specs.Store.{decode_bytes, render_bytes}
-use Rattle.lent.specs.declared.Answer.{Answer}
-use Rattle.lent.specs.declared.Answer.TheVariants.{Yes, No}
+use Rattle.lent.specs.Performs.{key_of}
 use Rattle.lent.specs.Stores.{StoreOf}
 use Rattle.lent.proofs.Stores as stores
 use Rattle.calls.specs.Outcome.{Outcome, call_with, performed, outcome, outcome_of}
@@ -44,7 +46,7 @@ zeros_front zero (suc size) h = absurd (omega arith)
 zeros_front (suc n) (suc size) h = ap (λ (l : List ℕ). 0 ∷ l) (zeros_front n size (omega arith))
 
 -- ---- an answer with the number, the key and the bytes of a result
-written : (o : Result) {code key : ℕ} {bytes bs after : List ℕ} → code ≡ o.code → key ≡ o.said.key → bytes ≡ o.said.bytes
+written : (o : Stepped) {code key : ℕ} {bytes bs after : List ℕ} → code ≡ o.code → key ≡ o.said.key → bytes ≡ o.said.bytes
     → after ≡ render_bytes o.after bs → (number r : ℕ) (out out_after : List ℕ) → r ≡ length (answer_line number code key bytes)
     → out_after ≡ onto 0 (answer_line number code key bytes) out → Replies number o out r out_after bs after
 written o {code} {key} {bytes} ec ek eb l number r out out_after er eo =
@@ -59,7 +61,7 @@ unfolding kinds_open
 of_kind g a b d bytes h = rw g h
 
 module _ (c : Settings) (bs : List ℕ) (v : StoreOf c bs) (p b : ℕ) where
-  abbrev got : Result
+  abbrev got : Stepped
   got = step (decode_bytes bs) (Event.get p b)
 
   -- no more bytes than a block has
@@ -76,7 +78,7 @@ module _ (c : Settings) (bs : List ℕ) (v : StoreOf c bs) (p b : ℕ) where
 
 -- ---- any other kind, whose call lends no areas
 module _ (c : Settings) (bs : List ℕ) (v : StoreOf c bs) (k a b d : ℕ) (bytes : List ℕ) (other : k ≡ get_kind → ⊥) where
-  abbrev result : Result
+  abbrev result : Stepped
   result = step (decode_bytes bs) (event_from k a b d bytes)
 
   abbrev call : Call
@@ -89,21 +91,20 @@ module _ (c : Settings) (bs : List ℕ) (v : StoreOf c bs) (k a b d : ℕ) (byte
   no_data : [] ≡ result.said.bytes
   no_data = sym (only_get_shows (decode_bytes bs) k a b d bytes (no_first _ _ (ne_eqb k get_kind other)))
 
-  module _ (answer : Answer) (part after : List ℕ) (e : outcome_of answer part after ≡ outcome bs call) (none : length part ≡ 0) where
+  module _ (answer : Result ℕ Refusal) (part after : List ℕ) (e : outcome_of answer part after ≡ outcome bs call) (none : length part ≡ 0) where
     abbrev Written : ℕ → ℕ → Type 0
     Written code key = (number r : ℕ) (out out_after : List ℕ) → r ≡ length (answer_line number code key [])
         → out_after ≡ onto 0 (answer_line number code key []) (part ++ out) → Replies number result out r out_after bs after
 
-    other_written : (code key : ℕ) → record { code = code; key = key; area = part; store = after } ≡ outcome bs call → Written code key
-    other_written code key q number r out out_after er eo =
-        let o = q ∙ whole in
+    -- whatever the answer is, by its number and its key
+    pub other_written : Written (code_of answer) (key_of answer)
+    other_written number r out out_after er eo =
+        let o = e ∙ whole in
         written result (ap (λ (x : Outcome). x.code) o) (ap (λ (x : Outcome). x.key) o) no_data (ap (λ (x : Outcome). x.store) o) number r out out_after er
-        (eo ∙ ap (λ (x : List ℕ). onto 0 (answer_line number code key []) (x ++ out)) (sym (take_all 0 part (omega (arith, none)))))
+        (eo ∙ ap (λ (x : List ℕ). onto 0 (answer_line number (code_of answer) (key_of answer) []) (x ++ out)) (sym (take_all 0 part (omega (arith, none)))))
 
-    pub yes_written : (key : ℕ) → answer ≡ Yes key → Written 0 key
-    unfolding outcome_of
-    yes_written key q = other_written 0 key (rw q at e)
+    pub yes_written : (key : ℕ) → answer ≡ Ok key → Written 0 key
+    yes_written key q = subst (λ (x : Result ℕ Refusal). Written (code_of x) (key_of x)) q other_written
 
-    pub no_written : (code : ℕ) → answer ≡ No code → Written code 0
-    unfolding outcome_of
-    no_written code q = other_written code 0 (rw q at e)
+    pub no_written : (refusal : Refusal) → answer ≡ Err refusal → Written (number_of refusal) 0
+    no_written refusal q = subst (λ (x : Result ℕ Refusal). Written (code_of x) (key_of x)) q other_written

@@ -12,7 +12,6 @@ ghost use Rattle.lent.specs.Stores.{SoundStore, StoreOf};
 ghost use Rattle.traces.specs.Trace.{outcome};
 ghost use Rattle.replies.specs.Replies.{longest_answer, Replies};
 
-use lent::Answer;
 use parse::Parsed;
 use rules::settings::Settings;
 
@@ -85,8 +84,10 @@ fn answer_event(
         &mut area[0..0],
     );
     match answer {
-        Answer::Yes(key) => answers::write_answer(number, 0, key, &data[0..0], area),
-        Answer::No(code) => answers::write_answer(number, code, 0, &data[0..0], area),
+        Ok(key) => answers::write_answer(number, 0, key, &data[0..0], area),
+        Err(refusal) => {
+            answers::write_answer(number, u64::from(refusal), 0, &data[0..0], area)
+        }
     }
 }
 

@@ -6,20 +6,20 @@ returns-then-kind-eq-GET c =
     let a = c.args in
     of_kind c.if-kind-eq-GET.true a.a a.b a.c a.«data».now c.answer_get.ensures
 
-pub returns-in-Yes : goal.returns-in-Yes
-returns-in-Yes c =
+pub returns-in-Ok : goal.returns-in-Ok
+returns-in-Ok c =
     let w = c.write_answer in
     let a = c.args in
     let r = c.perform-answer in
     yes_written a.settings a.store.now c.requires.0 a.kind a.a a.b a.c a.«data».now c.if-kind-eq-GET.false r.result _ _ r.ensures
-    r.auto.area c.in-Yes.key c.in-Yes.is a.number _ a.area.now _ w.ensures.0
+    r.auto.area c.in-Ok.key c.in-Ok.is a.number _ a.area.now _ w.ensures.0
     w.ensures.1
 
-pub returns-in-No : goal.returns-in-No
-returns-in-No c =
-    let w = c.write_answer-in-No in
+pub returns-in-Err : goal.returns-in-Err
+returns-in-Err c =
+    let w = c.write_answer-in-Err in
     let a = c.args in
     let r = c.perform-answer in
     no_written a.settings a.store.now c.requires.0 a.kind a.a a.b a.c a.«data».now c.if-kind-eq-GET.false r.result _ _ r.ensures
-    r.auto.area c.in-No.code c.in-No.is a.number _ a.area.now _ w.ensures.0
+    r.auto.area c.in-Err.refusal c.in-Err.is a.number _ a.area.now _ w.ensures.0
     w.ensures.1
