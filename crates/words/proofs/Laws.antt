@@ -1,15 +1,17 @@
 -- Laws of words in bytes: a word read, a word written, parts, and the way there and back.
 use mathlib.Core.Path.{◌≡◌, refl, sym, ap, ◌∙◌}
-use mathlib.Core.List.{List, [], ◌∷◌, ◌++◌, append_assoc}
-use Prim.Native.Nat.{ℕ, zero, suc, ◌+◌, ◌*◌, ◌/◌, ◌%◌, ◌^◌, ◌≤◌, ◌<◌}
-use native.Mathlib.Nat.{mul_assoc, pow-succ', one-le-pow, div-div-eq-div-mul, pow-suc, div-lt_iff_lt-mul, not-suc-le-zero, le_of_suc-le-suc, zero-add, suc-add}
-use native.Mathlib.Numerals.{add-one, add-two, add-three, add-four, add_five, add_six, add_seven}
+use mathlib.Core.List.{List, [], ◌∷◌, ◌++◌}
+use Prim.Native.Nat.{ℕ, zero, suc, ◌+◌, ◌-◌, ◌*◌, ◌/◌, ◌%◌, ◌^◌, ◌≤◌, ◌<◌}
+use native.Mathlib.Nat.{one-le-pow, div-div-eq-div-mul, pow-suc, div-lt_iff_lt-mul, not-suc-le-zero, le_of_suc-le-suc, zero-add, suc-add}
+use native.Mathlib.Numerals.{add-one}
 use native.Mathlib.Omega.{arith}
 use lib.Dec.{lit<}
-use lib.ListN.{length, length-take, take, drop, get_or, set, length-append, length-drop, take-append-drop}
-use lib.Seq.{drop-cons, drop-drop, take-add, take-append-le, drop-append-le, take_at, drop_at, length-take-le, set_split, sets-eq}
+use lib.ListN.{length, length-take, take, drop, get_or, set, length-append, length-drop, take-append-drop, drop_of_length-le}
+use lib.Seq.{drop-drop, take-append-le, drop-append-le, take_at, drop_at, length-take-le, set_split}
 use Rattle.lists.specs.Runs.{run, on_run, Below, none, more}
 use Rattle.lists.proofs.Runs.{below_take, below_drop, below_append}
+use Rattle.std.specs.Simd.{first_chunks}
+use Rattle.std.specs.Int.{w64, from_le_bytes, to_le_bytes}
 use Rattle.words.specs.Words.{le_bytes, bytes_of, first_words, words, unwords}
 
 pub length_first_words : (n : ℕ) (s : List ℕ) → length (first_words n s) ≡ n
@@ -34,22 +36,35 @@ pub words_at : (s : List ℕ) (i : ℕ) → 8 * i + 8 ≤ length s → get_or (w
 unfolding words
 words_at s i h = first_words_at (length s / 8) i s (omega arith)
 
--- a number from the bytes of its halves, down to one byte
-pub byte_at : (s : List ℕ) (a : ℕ) → a + 1 ≤ length s → le_bytes (take 1 (drop a s)) ≡ get_or s a 0
+-- eight bytes as the library spells them
+next : (bs : List ℕ) (k : ℕ) → le_bytes (drop k bs) ≡ get_or bs k 0 + 256 * le_bytes (drop (suc k) bs)
 unfolding le_bytes
-byte_at s a h = rw (drop-cons s a 0 (omega arith)) (omega arith)
+next [] zero = refl
+next [] (suc k) = refl
+next (b ∷ bs) zero = refl
+next (b ∷ bs) (suc k) = next bs k
 
-le_append : (p q : List ℕ) → le_bytes (p ++ q) ≡ le_bytes p + 256 ^ length p * le_bytes q
+spelled : (bs : List ℕ) → length bs ≡ 8 → from_le_bytes w64 bs ≡ le_bytes bs
 unfolding le_bytes
-le_append [] q = omega arith
-le_append (b ∷ p) q = rw (le_append p q, pow-succ', mul_assoc) (omega arith)
+spelled bs e =
+    let l : length bs ≤ 8 = omega arith in
+    let end : le_bytes (drop 8 bs) ≡ 0 = ap le_bytes (drop_of_length-le bs l) in
+    omega (arith, next bs 0, next bs 1, next bs 2, next bs 3, next bs 4, next bs 5, next bs 6, next bs 7)
 
-pub halves : (n : ℕ) (s : List ℕ) (a : ℕ) → a + n ≤ length s
-    → le_bytes (take (n + n) (drop a s)) ≡ le_bytes (take n (drop a s)) + 256 ^ n * le_bytes (take n (drop (a + n) s))
-halves n s a h =
-    let hn : n ≤ length (drop a s) = rw length-drop (omega arith) in
-    ap le_bytes (take-add n n (drop a s)) ∙ le_append (take n (drop a s)) (take n (drop n (drop a s)))
-    ∙ rw (length-take-le n (drop a s) hn, drop-drop n a s)
+chunk_at : (n i : ℕ) (s : List ℕ) → i < n → get_or (first_chunks 8 n s) i [] ≡ take 8 (drop (8 * i) s)
+chunk_at zero i s h = absurd (not-suc-le-zero h)
+chunk_at (suc n) zero s h = refl
+chunk_at (suc n) (suc i) s h =
+    let e : 8 + 8 * i ≡ 8 * suc i = omega arith in
+    chunk_at n i (drop 8 s) (le_of_suc-le-suc h) ∙ ap (take 8) (drop-drop (8 * i) 8 s ∙ ap (λ (k : ℕ). drop k s) e)
+
+-- a word read
+pub word_read : (s : List ℕ) (i : ℕ) (l : List (List ℕ)) → 8 * i + 8 ≤ length s → l ≡ first_chunks 8 (length s / 8) s
+    → from_le_bytes w64 (get_or l i []) ≡ get_or (words s) i 0
+word_read s i l h e =
+    let long : length (take 8 (drop (8 * i) s)) ≡ 8 = length-take-le 8 (drop (8 * i) s) (rw length-drop (omega arith)) in
+    ap (from_le_bytes w64) (ap (λ (x : List (List ℕ)). get_or x i []) e ∙ chunk_at (length s / 8) i s (omega arith))
+    ∙ spelled (take 8 (drop (8 * i) s)) long ∙ sym (words_at s i h)
 
 -- words of two lists one after the other
 skip : (n : ℕ) (s : List ℕ) → drop (8 * n) (drop 8 s) ≡ drop (8 * suc n) s
@@ -107,41 +122,6 @@ length_bytes_of (suc n) x = ap suc (length_bytes_of n (x / 256))
 words_one : (v : ℕ) → v < 2 ^ 64 → words (bytes_of 8 v) ≡ v ∷ []
 unfolding words first_words bytes_of
 words_one v h = ap (λ (x : ℕ). x ∷ []) (le_bytes_of 8 v h)
-
--- the bytes of a word put in the place of another's
-pub words_set : (s : List ℕ) (i v : ℕ) → 8 * i + 8 ≤ length s → v < 2 ^ 64
-    → words (take (8 * i) s ++ (bytes_of 8 v ++ drop (8 * i + 8) s)) ≡ set (words s) i v
-words_set s i v h hv =
-    let hl : i < length (words s) = rw length_words (omega arith) in
-    let he : 8 * i + 8 ≡ 8 * suc i = omega arith in
-    words_append i (take (8 * i) s) (bytes_of 8 v ++ drop (8 * i + 8) s) (length-take-le (8 * i) s (omega arith))
-    ∙ rw (
-      words_append 1 (bytes_of 8 v) (drop (8 * i + 8) s) (length_bytes_of 8 v),
-      words_one v hv,
-      words_take s i (8 * i) refl (omega arith),
-      words_drop s (suc i) (8 * i + 8) he h,
-      set_split (words s) i v hl,
-    )
-
-abbrev flat : ℕ → List ℕ
-flat v = v % 256 ∷ v / 0x100 % 256 ∷ v / 0x1_0000 % 256 ∷ v / 0x100_0000 % 256 ∷ v / 0x1_0000_0000 % 256
-    ∷ v / 0x100_0000_0000 % 256 ∷ v / 0x1_0000_0000_0000 % 256 ∷ v / 0x100_0000_0000_0000 % 256 ∷ []
-
-bytes_flat : (v : ℕ) → flat v ≡ bytes_of 8 v
-unfolding bytes_of
-bytes_flat v = simp div-div-eq-div-mul
-
--- what eight stores leave
-pub store_word : (s : List ℕ) (i v : ℕ) → 8 * i + 8 ≤ length s → v < 2 ^ 64
-    → words (set (set (set (set (set (set (set (set s (8 * i) (v % 256)) (8 * i + 1) (v / 0x100 % 256)) (8 * i + 2) (v / 0x1_0000 % 256))
-    (8 * i + 3) (v / 0x100_0000 % 256)) (8 * i + 4) (v / 0x1_0000_0000 % 256)) (8 * i + 5) (v / 0x100_0000_0000 % 256))
-    (8 * i + 6) (v / 0x1_0000_0000_0000 % 256)) (8 * i + 7) (v / 0x100_0000_0000_0000 % 256))
-    ≡ set (words s) i v
-store_word s i v h hv =
-    ap words (simp (add-one, add-two, add-three, add-four, add_five, add_six, add_seven) (sets-eq (flat v) s (8 * i) h)
-    ∙ ap (λ (l : List ℕ). take (8 * i) s ++ l ++ drop (8 * i + 8) s) (bytes_flat v)
-    ∙ append_assoc (take (8 * i) s) (bytes_of 8 v) (drop (8 * i + 8) s))
-    ∙ words_set s i v h hv
 
 -- ---- there and back
 
@@ -225,6 +205,19 @@ module _ (s : List ℕ) (o k a n : ℕ) (eo : o ≡ 8 * a) (ek : k ≡ 8 * n) (h
   words_back t e =
       words_append a (take o s) (t ++ drop k (drop o s)) (length-take-le o s (omega arith) ∙ eo)
       ∙ rw (words_append n t (drop k (drop o s)) e, words_take s a o eo (omega arith), words_drop (drop o s) n k ek inner, words_drop s a o eo (omega arith))
+
+-- a word written: its bytes, as the library makes them, put in the place of another's
+made : (v : ℕ) → to_le_bytes w64 v ≡ bytes_of 8 v
+unfolding bytes_of
+made v = simp div-div-eq-div-mul
+
+pub word_written : (s t : List ℕ) (i v : ℕ) → 8 * i + 8 ≤ length s → v < 2 ^ 64 → t ≡ to_le_bytes w64 v
+    → words (take (8 * i) s ++ (t ++ drop (8 * i + 8 - 8 * i) (drop (8 * i) s))) ≡ set (words s) i v
+word_written s t i v h hv e =
+    let et : t ≡ bytes_of 8 v = e ∙ made v in
+    let l : i < length (words s) = rw length_words (omega arith) in
+    words_back s (8 * i) (8 * i + 8 - 8 * i) i 1 refl (omega arith) (omega arith) t (ap length et ∙ length_bytes_of 8 v)
+    ∙ rw (et, words_one v hv, drop-drop 1 i (words s), add-one i, set_split (words s) i v l) refl
 
 -- part &mut s[o..o + k] lent to a callee that makes f of its words
 pub lent_run : (s t : List ℕ) (o k a n : ℕ) (f : List ℕ → List ℕ) → o ≡ 8 * a → k ≡ 8 * n → 8 * a + 8 * n ≤ length s → length t ≡ 8 * n
