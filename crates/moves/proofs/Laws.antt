@@ -2,7 +2,7 @@
 use mathlib.Core.Path.{◌≡◌, sym, ap, ◌∙◌}
 use mathlib.Core.List.{List, ◌++◌, append_assoc}
 use Prim.Native.Nat.{ℕ, ◌+◌, ◌-◌, ◌≤◌, ◌<◌}
-use native.Mathlib.Nat.{zero-add, add_assoc}
+use native.Mathlib.Nat.{add_assoc}
 use native.Mathlib.Numerals.{add-one}
 use native.Mathlib.Omega.{arith}
 use lib.ListN.{length, take, drop, get_or, set, replicate, length-drop, length-replicate, get_or-replicate}
@@ -75,8 +75,3 @@ fill_turn w at n v i hl hi =
     let e : length (replicate n v) ≡ n = length-replicate n v in
     ap (set (paste w at (replicate n v) i) (at + i)) (sym (get_or-replicate n i v 0 hi))
     ∙ put_turn w at (replicate n v) i (omega arith) (omega arith)
-
--- k bytes more of a copy
-pub copy_more : (d s : List ℕ) (i k : ℕ) → i ≤ length d → i ≤ length s
-    → paste (take i s ++ drop i d) i (drop i s) k ≡ take (i + k) s ++ drop (i + k) d
-copy_more d s i k hd hs = simp zero-add at (paste_more d 0 s i k (omega arith) hs)

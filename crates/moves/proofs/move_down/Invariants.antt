@@ -1,13 +1,10 @@
 use mathlib.Core.Path.{◌≡◌}
-use Prim.Native.Nat.{◌-◌, ◌≤◌}
-use lib.ListN.{length, drop}
+use Prim.Native.Nat.{◌*◌, min}
+use lib.ListN.{drop}
 use lib.Seq.{paste}
 use Rattle.words.specs.Words.{words}
 use Rattle.moves.proofs.move_down.Given as goal
 
-abbrev pub invariant-loop-moved : goal.invariant-loop-moved
-invariant-loop-moved l =
-    (l.moved ≤ l.n) × (length l.s ≡ length l.initial.s) × (words l.s ≡ paste (words l.initial.s) l.to (drop l.from (words l.initial.s)) l.moved)
-
-abbrev pub decreases-loop-moved : goal.decreases-loop-moved
-decreases-loop-moved l = l.n - l.moved
+abbrev pub invariant-loop-block : goal.invariant-loop-block
+invariant-loop-block l =
+    words l.s ≡ paste (words l.initial.s) l.to (drop l.from (words l.initial.s)) (min (l.block * 1024) l.n)
