@@ -22,7 +22,9 @@ use Rattle.codec.specs.Codec.{change}
 use Rattle.chunk_log.specs.Log.{Stored, stored, stored_at, write_log, read_log, LogWith, IsLog, KeyBound, Fits, log_size, to_chunk, from_chunk, chunk_at, log_dec}
 use Rattle.chunk_log.specs.Log.{log_enc, chunks_codec, row_saved, position_at, key_by}
 use Rattle.chunk_log.specs.Steps.{cell_in, with_next, entered, put_saved, with_saved, tag}
-use Rattle.chunk_log.specs.Answers.{FoundAt}
+use Rattle.std.specs.Prelude.{Option, Some, None}
+use Rattle.std.specs.Option.{is_some}
+use Rattle.chunk_log.specs.Answers.{FoundAt, FoundIn}
 use Rattle.chunk_log.proofs.Chunks.{length_read, read_cell, read_saved, fits_read, write_read, read_write, write_count, log_write, distinct_read}
 use Rattle.chunk_log.proofs.Check.{found_at, found_none}
 use Rattle.chunk_log.proofs.Changes.{pushed, write_hides, write_leaves, set_saved, tag_turn, tag_length, tag_fits, tag_all, cleared}
@@ -75,8 +77,12 @@ module _ {top : ℕ} (L w : ℕ) (s : List ℕ) (o : LogWith top L w (words s) (
   pub found_row : (k p : ℕ) → FoundAt (log_dec L w (words s)) k p → p < get_or (words s) 0 0
   found_row k p f = rw (← dec_length L w (words s) sizes) f.in_use
 
-  pub found_held : (k p : ℕ) → FoundAt (log_dec L w (words s)) k p → held (log_dec L w (words s)) k ≡ true
+  found_held : (k p : ℕ) → FoundAt (log_dec L w (words s)) k p → held (log_dec L w (words s)) k ≡ true
   found_held k p f = held_at (log_dec L w (words s)) k p f.in_use f.same
+
+  pub found_or_not : (k : ℕ) (r : Option ℕ) → FoundIn (log_dec L w (words s)) k r → is_some r ≡ held (log_dec L w (words s)) k
+  found_or_not k (Some p) f = sym (found_held k p f)
+  found_or_not k None e = sym e
 
   -- the bytes of a chunk: those of its cell, which is lent as a part
   pub cell_bytes : (p : ℕ) → p < get_or (words s) 0 0 → (chunk_at (log_dec L w (words s)) p).bytes ≡ unwords (cell_in L w p (words s))

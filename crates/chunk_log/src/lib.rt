@@ -2,7 +2,7 @@
 // list the rows by ascending key; `chunks` cells of `width` words, cell i of row i. What lies past the count keeps its words.
 #![tactic(auto)]
 
-ghost use Rattle.std.specs.Prelude.{◌≡◌, [], ◌+◌, ◌*◌, ◌<◌, ◌≤◌, length, get_or};
+ghost use Rattle.std.specs.Prelude.{◌≡◌, [], ◌+◌, ◌*◌, ◌<◌, ◌≤◌, length, get_or, IfSome};
 ghost use Rattle.words.specs.Words.{words};
 ghost use Rattle.rules.specs.Chunks.{new_chunk, append, held, saved_in, save_all, save_key};
 ghost use Rattle.codec.specs.Codec.{change};
@@ -24,6 +24,7 @@ fn key_by(log: &[u8], chunks: usize, j: usize) -> u64
 }
 
 // The first index among the first n of the order whose key is not below k.
+// stays: no index is counted, two bounds close in; `partition_point` takes only a test of any position at all, so each look would be checked against the log's end.
 fn lower_bound(log: &[u8], chunks: usize, n: usize, k: u64) -> usize
     requires n_le_chunks { (n ≤ chunks) × (8 * (1 + 3 * chunks) ≤ length log.now) }
     requires ordered { Ordered chunks n (words log.now) }
@@ -42,27 +43,18 @@ fn lower_bound(log: &[u8], chunks: usize, n: usize, k: u64) -> usize
     lo
 }
 
-// The chunk that has a key, by its index in the log.
-#[derive(Clone, Copy)]
-pub enum Found {
-    At(usize),
-    Nothing,
-}
-
-// Marks in the saved words do no harm.
-pub fn find(log: &[u8], chunks: usize, width: usize, k: ChunkKey) -> Found
+// The chunk that has a key, by its index in the log. Marks in the saved words do no harm.
+pub fn find(log: &[u8], chunks: usize, width: usize, k: ChunkKey) -> Option<usize>
     requires { LogWith 3 chunks width (words log.now) (length log.now) }
-    ensures { FoundIn ((chunks_codec chunks width).dec (words log.now)) k.0 result }
+    ensures found { FoundIn ((chunks_codec chunks width).dec (words log.now)) k.0 result }
+    ensures in_use { IfSome result (λ p. p < get_or (words log.now) 0 0) }
 {
     let n = words::read(log, 0) as usize;
     let p = lower_bound(log, chunks, n, k.0);
-    if p < n {
-        if key_by(log, chunks, p) == k.0 {
-            return Found::At(words::read(log, 1 + 2 * chunks + p) as usize);
-        }
-        return Found::Nothing;
+    if p < n && key_by(log, chunks, p) == k.0 {
+        return Some(words::read(log, 1 + 2 * chunks + p) as usize);
     }
-    Found::Nothing
+    None
 }
 
 // Is there a chunk with the key?
@@ -70,10 +62,7 @@ pub fn holds(log: &[u8], chunks: usize, width: usize, k: ChunkKey) -> bool
     requires { LogWith 3 chunks width (words log.now) (length log.now) }
     ensures { result ≡ held ((chunks_codec chunks width).dec (words log.now)) k.0 }
 {
-    match find(log, chunks, width, k) {
-        Found::At(_) => true,
-        Found::Nothing => false,
-    }
+    find(log, chunks, width, k).is_some()
 }
 
 // Is there a saved chunk with the key?
@@ -81,10 +70,7 @@ pub fn holds_saved(log: &[u8], chunks: usize, width: usize, k: ChunkKey) -> bool
     requires { IsLog chunks width (words log.now) (length log.now) }
     ensures { result ≡ saved_in ((chunks_codec chunks width).dec (words log.now)) k.0 }
 {
-    match find(log, chunks, width, k) {
-        Found::At(p) => words::read(log, 2 + 2 * p) == 1,
-        Found::Nothing => false,
-    }
+    find(log, chunks, width, k).is_some_and(|p| words::read(log, 2 + 2 * p) == 1)
 }
 
 // The bytes of the chunk at an index: a part of the log.
@@ -149,9 +135,8 @@ pub fn save_key(log: &mut [u8], chunks: usize, width: usize, k: ChunkKey)
     requires { IsLog chunks width (words log.old) (length log.old) }
     ensures { words log.new ≡ change (chunks_codec chunks width) (λ l. save_key l k.0) (words log.old) }
 {
-    match find(log, chunks, width, k) {
-        Found::At(p) => words::write(log, 2 + 2 * p, 1),
-        Found::Nothing => {}
+    if let Some(p) = find(log, chunks, width, k) {
+        words::write(log, 2 + 2 * p, 1);
     }
 }
 
@@ -161,9 +146,7 @@ pub fn save_all(log: &mut [u8], chunks: usize, width: usize)
     ensures { words log.new ≡ change (chunks_codec chunks width) save_all (words log.old) }
 {
     let n = words::read(log, 0) as usize;
-    let mut i = 0;
-    while i < n {
+    for i in 0..n {
         words::write(log, 2 + 2 * i, 1);
-        i += 1;
     }
 }

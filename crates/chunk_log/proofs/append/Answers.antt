@@ -1,3 +1,4 @@
+use borrow.Author.Rules.{rules}
 use mathlib.Core.Path.{refl, ◌∙◌}
 use Prim.Native.Nat.{◌+◌, ◌*◌, ◌-◌}
 use native.Mathlib.Omega.{arith}
@@ -9,7 +10,7 @@ pub append_in_place-requires : goal.append_in_place-requires
 append_in_place-requires c =
     let q = 8 * (1 + 3 * c.args.chunks + c.offset-at.result) in
     copied_fits c.args.chunks c.args.width c.args.log.now c.requires.log
-    (below_of 256 c.args.log.now (λ i. (c.slice_known-1.given i).fits)) c.read-n.result c.offset-at.result c.args.bytes.now
+    (below_of 256 c.args.log.now (λ i. search rules)) c.read-n.result c.offset-at.result c.args.bytes.now
     c.copy_bytes.new.d q (q + 8 * c.args.width - q) c.requires.log_bound.0 c.read-n.ensures c.requires.log_bound.1 c.copy_bytes.ensures
     c.offset-at.ensures.0 refl (omega arith) (omega arith)
 
@@ -18,7 +19,7 @@ returns c =
     let q = 8 * (1 + 3 * c.args.chunks + c.offset-at.result) in
     c.append_in_place.ensures
     ∙ copied_leaves c.args.chunks c.args.width c.args.log.now c.requires.log
-    (below_of 256 c.args.log.now (λ i. (c.slice_known-1.given i).fits)) c.read-n.result c.offset-at.result c.args.bytes.now
+    (below_of 256 c.args.log.now (λ i. search rules)) c.read-n.result c.offset-at.result c.args.bytes.now
     c.copy_bytes.new.d q (q + 8 * c.args.width - q) c.requires.log_bound.0 c.read-n.ensures c.requires.log_bound.1 c.copy_bytes.ensures
     c.offset-at.ensures.0 refl (omega arith) c.args.key.0 c.args.saved
     (below_of 256 c.args.bytes.now (λ i. (c.type_inv.bytes i).fits))
