@@ -20,12 +20,10 @@ fn rank(log: &mut [u8], chunks: usize, width: usize, n: usize)
     ensures { words log.new ≡ ranked chunks width n (words log.old) }
 {
     let mut m = 0;
-    let mut i = 0;
-    while i < n {
+    for i in 0..n {
         let s = words::read(log, 2 + 2 * i);
         words::write(log, 2 + 2 * i, s + 4 * m);
         m += s / 2;
-        i += 1;
     }
 }
 
@@ -49,10 +47,8 @@ fn renumber(log: &mut [u8], chunks: usize, width: usize, n: usize)
     ensures { words log.new ≡ put_positions chunks (pick_first chunks (words log.old) n) (words log.old) }
 {
     let mut o = 0;
-    let mut j = 0;
-    while j < n {
+    for j in 0..n {
         o = renumber_at(log, chunks, j, o);
-        j += 1;
     }
 }
 
@@ -63,7 +59,6 @@ fn carry(log: &mut [u8], from: usize, to: usize, n: usize)
 {
     if to < from {
         moves::move_down(log, from, to, n);
-        return;
     }
 }
 
@@ -99,10 +94,8 @@ fn pack(log: &mut [u8], chunks: usize, width: usize, n: usize) -> usize
     ensures { PackAll chunks width n (words log.old) (words log.new) result }
 {
     let mut o = 0;
-    let mut i = 0;
-    while i < n {
+    for i in 0..n {
         o = pack_at(log, chunks, width, i, o);
-        i += 1;
     }
     o
 }
@@ -124,12 +117,9 @@ pub fn mark_key(log: &mut [u8], chunks: usize, width: usize, k: ChunkKey)
     requires { LogWith 3 chunks width (words log.old) (length log.old) }
     ensures { words log.new ≡ with_marks chunks width (λ x. eqb k.0 x.key) (words log.old) }
 {
-    match chunk_log::find(log, chunks, width, k) {
-        chunk_log::Found::At(p) => {
-            let s = words::read(log, 2 + 2 * p);
-            words::write(log, 2 + 2 * p, s % 2 + 2);
-        }
-        chunk_log::Found::Nothing => {}
+    if let Some(p) = chunk_log::find(log, chunks, width, k) {
+        let s = words::read(log, 2 + 2 * p);
+        words::write(log, 2 + 2 * p, s % 2 + 2);
     }
 }
 
@@ -139,11 +129,9 @@ fn mark_saved(log: &mut [u8], chunks: usize, width: usize)
     ensures { words log.new ≡ with_marks chunks width (λ x. eqb x.saved 1) (words log.old) }
 {
     let n = words::read(log, 0) as usize;
-    let mut i = 0;
-    while i < n {
+    for i in 0..n {
         let s = words::read(log, 2 + 2 * i);
         words::write(log, 2 + 2 * i, 3 * s);
-        i += 1;
     }
 }
 

@@ -1,3 +1,4 @@
+use borrow.Author.Rules.{rules}
 use mathlib.Core.Path.{◌≡◌, ap, ◌∙◌}
 use native.Mathlib.Omega.{arith}
 use lib.Dec.{eqb}
@@ -20,4 +21,4 @@ keep_marked-requires c =
 pub returns : goal.returns
 returns c =
     c.keep_marked.ensures ∙ ap (swept c.args.chunks c.args.width) c.mark_saved.ensures ∙ keep_saved_leaves
-    c.args.chunks c.args.width c.args.log.now c.requires (below_of 256 c.args.log.now (λ i. (c.slice_known-1.given i).fits))
+    c.args.chunks c.args.width c.args.log.now c.requires (below_of 256 c.args.log.now (λ i. search rules))

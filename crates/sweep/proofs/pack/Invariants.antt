@@ -3,13 +3,9 @@ use Rattle.words.specs.Words.{words}
 use Rattle.chunk_log.specs.Log.{read_log}
 use Rattle.sweep.specs.Sweep.{packing, kept_first}
 use mathlib.Core.Path.{◌≡◌}
-use Prim.Native.Nat.{◌-◌, ◌≤◌}
 use Rattle.sweep.proofs.pack.Given as goal
 
 abbrev pub invariant-loop-i : goal.invariant-loop-i
 invariant-loop-i l =
-    (l.i ≤ l.n) × (length l.log ≡ length l.initial.log) × (l.o ≡ length (kept_first (read_log l.chunks l.width (words l.initial.log)) l.i))
+    (l.o ≡ length (kept_first (read_log l.chunks l.width (words l.initial.log)) l.i))
     × (words l.log ≡ packing l.chunks (read_log l.chunks l.width (words l.initial.log)) l.i (words l.initial.log))
-
-abbrev pub decreases-loop-i : goal.decreases-loop-i
-decreases-loop-i l = l.n - l.i

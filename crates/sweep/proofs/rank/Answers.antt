@@ -3,7 +3,7 @@ use Rattle.chunk_log.specs.Log.{saved_of, read_log}
 use Rattle.sweep.specs.Sweep.{tag_of}
 use Rattle.chunk_log.proofs.Steps.{tag_start}
 use Rattle.sweep.proofs.Steps.{rank_start, rank_small, rank_turn, rank_sum}
-use mathlib.Core.Path.{◌≡◌, sym, ◌∙◌}
+use mathlib.Core.Path.{sym, ◌∙◌}
 use native.Mathlib.Omega.{arith}
 use native.Mathlib.Numerals.{add-one}
 use borrow.Author.Rules.{rules}
@@ -11,8 +11,6 @@ use Rattle.sweep.proofs.rank.Goals as goal
 
 pub loop-i-init : goal.loop-i-init
 loop-i-init c = (
-  search rules,
-  search rules,
   sym (rank_start (saved_of (read_log c.args.chunks c.args.width (words c.args.log.now)))),
   search rules,
   tag_start c.args.chunks c.args.width c.args.log.now c.requires.log_with
@@ -23,34 +21,26 @@ pub overflow_add-s : goal.overflow_add-s
 overflow_add-s c =
     let l = c.loop-i in
     let z = rank_small c.args.chunks c.args.width c.args.log.now c.requires.log_with l.i l.m c.read-s.result (words l.log)
-    (omega arith) l.invariant.4 l.invariant.2 c.read-s.ensures in
+    (omega arith) l.invariant.2 l.invariant.0 c.read-s.ensures in
     omega arith
 
 pub overflow_add-m : goal.overflow_add-m
 overflow_add-m c =
     let l = c.loop-i in
     let z = rank_small c.args.chunks c.args.width c.args.log.now c.requires.log_with l.i l.m c.read-s.result (words l.log)
-    (omega arith) l.invariant.4 l.invariant.2 c.read-s.ensures in
+    (omega arith) l.invariant.2 l.invariant.0 c.read-s.ensures in
     omega arith
 
 pub loop-i-preserved : goal.loop-i-preserved
 loop-i-preserved c =
     let l = c.loop-i in
     let z = rank_small c.args.chunks c.args.width c.args.log.now c.requires.log_with l.i l.m c.read-s.result
-    (words l.log) (omega arith) l.invariant.4 l.invariant.2 c.read-s.ensures in (
-      search rules,
-      search rules,
+    (words l.log) (omega arith) l.invariant.2 l.invariant.0 c.read-s.ensures in (
       rw (add-one l.i) (rank_sum c.args.chunks c.args.width c.args.log.now c.requires.log_with l.i l.m
-          c.read-s.result (words l.log) (omega arith) l.invariant.4 l.invariant.2
+          c.read-s.result (words l.log) (omega arith) l.invariant.2 l.invariant.0
           c.read-s.ensures),
       omega arith,
       c.write.ensures ∙ rw (add-one l.i)
           (rank_turn c.args.chunks c.args.width c.args.log.now c.requires.log_with l.i l.m c.read-s.result
-          (words l.log) (omega arith) l.invariant.4 l.invariant.2 c.read-s.ensures),
+          (words l.log) (omega arith) l.invariant.2 l.invariant.0 c.read-s.ensures),
     )
-
-pub returns : goal.returns
-returns c =
-    let l = c.loop-i in
-    let e : l.i ≡ c.args.n = omega arith in
-    rw e at l.invariant.4

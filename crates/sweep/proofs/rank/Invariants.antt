@@ -1,16 +1,12 @@
-use lib.ListN.{length}
 use Rattle.words.specs.Words.{words}
 use Rattle.chunk_log.specs.Log.{saved_of, write_log, read_log}
 use Rattle.chunk_log.specs.Steps.{tag}
 use Rattle.sweep.specs.Sweep.{rank, tag_of}
 use mathlib.Core.Path.{◌≡◌}
-use Prim.Native.Nat.{◌-◌, ◌≤◌}
+use Prim.Native.Nat.{◌≤◌}
 use Rattle.sweep.proofs.rank.Given as goal
 
 abbrev pub invariant-loop-i : goal.invariant-loop-i
 invariant-loop-i l =
-    (l.i ≤ l.n) × (length l.log ≡ length l.initial.log) × (l.m ≡ rank (saved_of (read_log l.chunks l.width (words l.initial.log))) l.i) × (l.m ≤ l.i)
+    (l.m ≡ rank (saved_of (read_log l.chunks l.width (words l.initial.log))) l.i) × (l.m ≤ l.i)
     × (words l.log ≡ write_log l.chunks (tag (tag_of (read_log l.chunks l.width (words l.initial.log))) l.i (read_log l.chunks l.width (words l.initial.log))) (words l.initial.log))
-
-abbrev pub decreases-loop-i : goal.decreases-loop-i
-decreases-loop-i l = l.n - l.i
