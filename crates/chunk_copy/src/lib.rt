@@ -91,7 +91,7 @@ fn effect(store: &mut [u8], settings: Settings, key: ChunkKey)
     let Found::At(home) = brick::place_of(store, settings, key.home()) else {
         return;
     };
-    let chunk_log::Found::At(row) = holders::find_at(store, settings, home, key) else {
+    let Some(row) = holders::find_at(store, settings, home, key) else {
         return;
     };
     transfer::bring(store, settings, home, row, target, key, false);

@@ -67,7 +67,7 @@ pub enum Location {
 }
 
 // The chunk in the log of the brick at the place.
-pub fn find_at(store: &[u8], settings: Settings, place: usize, key: ChunkKey) -> chunk_log::Found
+pub fn find_at(store: &[u8], settings: Settings, place: usize, key: ChunkKey) -> Option<usize>
     requires { StoreOf settings store.now × (place < settings.places) × (0 < (decode (words store.now)).ids place) }
     ensures { FoundIn ((decode (words store.now)).bricks.log ((decode (words store.now)).ids place)) key.0 result }
 {
@@ -126,7 +126,7 @@ fn first_holder(store: &[u8], settings: Settings, key: ChunkKey, from: u64, to: 
         let Found::At(place) = next_member(store, settings, low, to) else {
             return Location::Nowhere;
         };
-        if let chunk_log::Found::At(row) = find_at(store, settings, place, key) {
+        if let Some(row) = find_at(store, settings, place, key) {
             return Location::At(place, row);
         }
         low = place::id(store, settings, place) + 1;

@@ -57,8 +57,8 @@ bring-requires c =
     let home = c.home in
     let at : Stands c.args.settings (state) home.result place = rw c.in-At-place_of.is at c.place_of.ensures in
     subst (λ (i : ℕ). Stands c.args.settings (state) i place) home.ensures at in
-    let row = c.in-At-find_at.row in
-    let f : FoundAt ((state).bricks.log ((state).ids c.in-At-place_of.home)) c.args.key.0 row = rw c.in-At-find_at.is at c.find_at.ensures in
+    let row = c.in-Some.row in
+    let f : FoundAt ((state).bricks.log ((state).ids c.in-At-place_of.home)) c.args.key.0 row = rw c.in-Some.is at c.find_at.ensures in
     copy_fits c.args.settings c.args.store.now c.requires.0 c.args.key.0 _ (lacking) c.requires.1 _ (source) row f
 
 pub returns : goal.returns

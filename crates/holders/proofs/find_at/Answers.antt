@@ -11,4 +11,4 @@ find-requires c = looser (omega arith) c.log.ensures.log
 
 pub returns : goal.returns
 returns c =
-    subst (λ (l : List Chunk). FoundIn l c.args.key.0 c.find.result) c.log.ensures.same c.find.ensures
+    subst (λ (l : List Chunk). FoundIn l c.args.key.0 c.find.result) c.log.ensures.same c.find.ensures.found

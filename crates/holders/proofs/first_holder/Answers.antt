@@ -27,14 +27,14 @@ find_at-requires c =
     let next : NextAt c.args.settings (decode (words c.args.store.now)) c.loop-low.low c.args.to c.in-At.place = rw c.in-At.is at c.next_member.ensures in
     (c.requires, (next).inside, (next).some)
 
-pub returns-in-At-find_at : goal.returns-in-At-find_at
-returns-in-At-find_at c =
+pub returns-in-Some : goal.returns-in-Some
+returns-in-Some c =
     let next : NextAt c.args.settings (decode (words c.args.store.now)) c.loop-low.low c.args.to c.in-At.place = rw c.in-At.is at c.next_member.ensures in
     let state = decode (words c.args.store.now) in
     let n = next in
     let k = c.args.key.0 in
-    let row = c.in-At-find_at.row in
-    let f : FoundAt (state.bricks.log (state.ids c.in-At.place)) k row = rw c.in-At-find_at.is at c.find_at.ensures in
+    let row = c.in-Some.row in
+    let f : FoundAt (state.bricks.log (state.ids c.in-At.place)) k row = rw c.in-Some.is at c.find_at.ensures in
     let e = c.loop-low.invariant ∙ sought_here _ c.args.store.now c.requires k c.loop-low.low c.args.to c.in-At.place n
     (held_at _ k row f.in_use f.same) in
     record {
