@@ -1,9 +1,10 @@
 -- Entries in a table's words: read, written, and what a change of the rows is of the entries.
 use mathlib.Core.Path.{◌≡◌, sym, ap, ◌∙◌}
+use Rattle.std.proofs.Common.{Result, Ok, Err, is_ok}
 use mathlib.Core.Logic.{◌≢◌}
 use mathlib.Core.Bool.{Bool, true, false}
 use mathlib.Core.List.{List, [], ◌∷◌, ◌++◌}
-use Prim.Native.Nat.{ℕ, ◌+◌, ◌*◌, ◌-◌, ◌≤◌, ◌<◌}
+use Prim.Native.Nat.{ℕ, ◌+◌, ◌*◌, ◌≤◌, ◌<◌}
 use native.Mathlib.Nat.{le_refl, add-zero}
 use native.Mathlib.Omega.{arith}
 use lib.Dec.{ltb, eqb}
@@ -19,6 +20,7 @@ use Rattle.rules.specs.Sound.{same_entries}
 use Rattle.lists.specs.Rows.{table_dec, table_enc, row_words}
 use Rattle.tables.specs.Tables.{insert_at, without_index, first_at, same_at, same_rows, Sorted, LowerBound, HereAt, GapAt}
 use Rattle.lists.proofs.Rows.{row_at, enc_rows, in_rows}
+use Rattle.tables.specs.Spots.{SpotOf}
 use Rattle.codec.proofs.Laws.{table_law}
 use Rattle.codec.proofs.Round.{clean_table}
 use Rattle.codec.proofs.Loops.{table_is}
@@ -206,6 +208,11 @@ module _ (most : ℕ) (ws : List ℕ) (len : ℕ) (hl : length ws ≡ entries_wo
 
     pub remove_gap : ws ≡ (entries_codec most).enc (remove (entries ws) b) ws
     remove_gap = sym (ap (λ (l : List Entry). (entries_codec most).enc l ws) (remove_none b (entries ws) gap_apart) ∙ entries_clean most ws hl)
+
+  -- ---- either
+  pub has_spot : (b : ℕ) (spot : Result ℕ ℕ) → SpotOf 2 ws b spot → is_ok spot ≡ has (entries ws) b
+  has_spot b (Ok p) h = sym (has_here b p h)
+  has_spot b (Err p) g = sym (has_gap b p g)
 
 -- ---- the checks
 module _ (most : ℕ) (ws : List ℕ) (hl : length ws ≡ entries_words most) (few : get_or ws 0 0 ≤ most) where

@@ -15,7 +15,6 @@ ghost use Rattle.entries.specs.Entries.{entry_words, entries_words, copied_entri
 
 use layout::sizes::ENTRY_WORDS;
 use rules::numbers::{BlockNumber, ChunkKey};
-use tables::Spot;
 
 // where a row has its key
 const KEY: usize = 1;
@@ -39,14 +38,14 @@ pub fn key_at(t: &[u8], most: usize, i: usize) -> ChunkKey
     ChunkKey(words::read(t, 2 + i * ENTRY_WORDS))
 }
 
-// The key at the spot that a look-up found; 0 means no mapping.
-fn key_of(t: &[u8], most: usize, b: BlockNumber, spot: Spot) -> ChunkKey
+// The key at the index that a look-up found; 0 means no mapping.
+fn key_of(t: &[u8], most: usize, b: BlockNumber, spot: Result<usize, usize>) -> ChunkKey
     requires { Sorted entry_words most (words t.now) (length t.now) × SpotOf entry_words (words t.now) b.0 spot }
     ensures { result.0 ≡ key_for ((entries_codec most).dec (words t.now)) b.0 }
 {
     match spot {
-        Spot::Here(p) => key_at(t, most, p),
-        Spot::Gap(_) => ChunkKey(0),
+        Ok(p) => key_at(t, most, p),
+        Err(_) => ChunkKey(0),
     }
 }
 
@@ -75,10 +74,7 @@ pub fn key_near(t: &[u8], most: usize, b: BlockNumber, guess: usize) -> ChunkKey
 pub fn index_of(t: &[u8], most: usize, b: BlockNumber) -> usize
     requires { Sorted entry_words most (words t.now) (length t.now) }
 {
-    match tables::find(t, ENTRY_WORDS, most, b.0) {
-        Spot::Here(p) => p,
-        Spot::Gap(p) => p,
-    }
+    tables::find(t, ENTRY_WORDS, most, b.0).unwrap_or_else(|p| p)
 }
 
 // Is there an entry for the block?
@@ -86,10 +82,7 @@ pub fn has(t: &[u8], most: usize, b: BlockNumber) -> bool
     requires { Sorted entry_words most (words t.now) (length t.now) }
     ensures { result ≡ has ((entries_codec most).dec (words t.now)) b.0 }
 {
-    match tables::find(t, ENTRY_WORDS, most, b.0) {
-        Spot::Here(_) => true,
-        Spot::Gap(_) => false,
-    }
+    tables::find(t, ENTRY_WORDS, most, b.0).is_ok()
 }
 
 // The same in a table that need not be sorted.
@@ -97,15 +90,7 @@ pub fn waits(t: &[u8], most: usize, b: BlockNumber) -> bool
     requires { IsTable entry_words most (words t.now) (length t.now) }
     ensures { result ≡ has ((entries_codec most).dec (words t.now)) b.0 }
 {
-    let n = words::read(t, 0) as usize;
-    let mut i = 0;
-    while i < n {
-        if block_at(t, most, i).0 == b.0 {
-            return true;
-        }
-        i += 1;
-    }
-    false
+    (0..words::read(t, 0) as usize).any(|i| block_at(t, most, i).0 == b.0)
 }
 
 // May the table take the block?
@@ -113,10 +98,7 @@ pub fn takes(t: &[u8], most: usize, b: BlockNumber) -> bool
     requires { Sorted entry_words most (words t.now) (length t.now) }
     ensures { result ≡ takes most ((entries_codec most).dec (words t.now)) b.0 }
 {
-    if has(t, most, b) {
-        return true;
-    }
-    (words::read(t, 0) as usize) < most
+    has(t, most, b) || (words::read(t, 0) as usize) < most
 }
 
 // ---- comparison
@@ -139,11 +121,8 @@ pub fn insert(t: &mut [u8], most: usize, b: BlockNumber, k: ChunkKey)
     ensures { words t.new ≡ change (entries_codec most) (λ l. insert l b.0 k.0) (words t.old) }
 {
     match tables::find(t, ENTRY_WORDS, most, b.0) {
-        Spot::Here(p) => tables::set_cell(t, ENTRY_WORDS, most, p, KEY, k.0),
-        Spot::Gap(p) => {
-            let row = [b.0, k.0];
-            tables::insert_row(t, ENTRY_WORDS, most, p, &row)
-        }
+        Ok(p) => tables::set_cell(t, ENTRY_WORDS, most, p, KEY, k.0),
+        Err(p) => tables::insert_row(t, ENTRY_WORDS, most, p, &[b.0, k.0]),
     }
 }
 
@@ -154,7 +133,6 @@ pub fn insert_or_drop(t: &mut [u8], most: usize, b: BlockNumber, k: ChunkKey)
 {
     if takes(t, most, b) {
         insert(t, most, b, k);
-        return;
     }
 }
 
@@ -163,9 +141,8 @@ pub fn remove(t: &mut [u8], most: usize, b: BlockNumber)
     requires { Sorted entry_words most (words t.old) (length t.old) }
     ensures { words t.new ≡ change (entries_codec most) (λ l. remove l b.0) (words t.old) }
 {
-    match tables::find(t, ENTRY_WORDS, most, b.0) {
-        Spot::Here(p) => tables::remove_row(t, ENTRY_WORDS, most, p),
-        Spot::Gap(_) => {}
+    if let Ok(p) = tables::find(t, ENTRY_WORDS, most, b.0) {
+        tables::remove_row(t, ENTRY_WORDS, most, p);
     }
 }
 
@@ -186,8 +163,7 @@ pub fn append(t: &mut [u8], most: usize, b: BlockNumber, k: ChunkKey)
     ensures { words t.new ≡ change (entries_codec most) (λ l. l ++ entry b.0 k.0 ∷ []) (words t.old) }
 {
     let n = words::read(t, 0) as usize;
-    let last = [b.0, k.0];
-    tables::insert_row(t, ENTRY_WORDS, most, n, &last);
+    tables::insert_row(t, ENTRY_WORDS, most, n, &[b.0, k.0]);
 }
 
 // The table from word `from` on is copied to the one from word `to` on: its count and its entries.

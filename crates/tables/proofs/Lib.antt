@@ -1,3 +1,4 @@
 pub mod Changes
 pub mod Compared
+pub mod Ranges
 pub mod Typed

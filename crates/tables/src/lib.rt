@@ -29,6 +29,7 @@ fn lower_bound(t: &[u8], width: usize, most: usize, x: u64) -> usize
 {
     let mut lo = 0;
     let mut hi = words::read(t, 0) as usize;
+    // stays: (d) two bounds that approach each other, no count
     while lo < hi {
         let mid = lo + (hi - lo) / 2;
         let at = words::offset(mid, width, most);
@@ -46,11 +47,7 @@ fn is_after(t: &[u8], width: usize, most: usize, x: u64, p: usize) -> bool
     requires { Sorted width most (words t.now) (length t.now) × (p ≤ get_or (words t.now) 0 0) }
     ensures { result ≡ true → RowsBelow width (words t.now) x p }
 {
-    if p == 0 {
-        return true;
-    }
-    let at = words::offset(p - 1, width, most);
-    words::read(t, 1 + at) < x
+    p == 0 || words::read(t, 1 + words::offset(p - 1, width, most)) < x
 }
 
 // Does row p not begin below x? Past the last there is none.
@@ -58,11 +55,7 @@ fn is_before(t: &[u8], width: usize, most: usize, x: u64, p: usize) -> bool
     requires { Sorted width most (words t.now) (length t.now) × (p ≤ get_or (words t.now) 0 0) }
     ensures { result ≡ true → RowsFrom width (words t.now) x p }
 {
-    if p == words::read(t, 0) as usize {
-        return true;
-    }
-    let at = words::offset(p, width, most);
-    x <= words::read(t, 1 + at)
+    p == words::read(t, 0) as usize || x <= words::read(t, 1 + words::offset(p, width, most))
 }
 
 // The same index as `lower_bound` gives, looked for at a guess first.
@@ -70,39 +63,31 @@ fn lower_bound_near(t: &[u8], width: usize, most: usize, x: u64, guess: usize) -
     requires { Sorted width most (words t.now) (length t.now) }
     ensures { LowerBound width (words t.now) x result }
 {
-    if guess <= words::read(t, 0) as usize {
-        if is_after(t, width, most, x, guess) {
-            if is_before(t, width, most, x, guess) {
-                return guess;
-            }
-        }
+    if guess <= words::read(t, 0) as usize
+        && is_after(t, width, most, x, guess)
+        && is_before(t, width, most, x, guess)
+    {
+        return guess;
     }
     lower_bound(t, width, most, x)
 }
 
-// Where the row that begins with x is, or the index before which it would go.
-#[derive(Clone, Copy)]
-pub enum Spot {
-    Here(usize),
-    Gap(usize),
-}
-
-// Which of the two the first index is whose row does not begin below x.
-fn spot_at(t: &[u8], width: usize, most: usize, x: u64, p: usize) -> Spot
+// Ok, the index of the row that begins with x, or Err, the index before which it would go; that index is p.
+fn spot_at(t: &[u8], width: usize, most: usize, x: u64, p: usize) -> Result<usize, usize>
     requires { Sorted width most (words t.now) (length t.now) × LowerBound width (words t.now) x p }
     ensures { SpotOf width (words t.now) x result }
 {
     if p < words::read(t, 0) as usize {
         let at = words::offset(p, width, most);
         if words::read(t, 1 + at) == x {
-            return Spot::Here(p);
+            return Ok(p);
         }
-        return Spot::Gap(p);
     }
-    Spot::Gap(p)
+    Err(p)
 }
 
-pub fn find(t: &[u8], width: usize, most: usize, x: u64) -> Spot
+// Where the row that begins with x is, or would go.
+pub fn find(t: &[u8], width: usize, most: usize, x: u64) -> Result<usize, usize>
     requires { Sorted width most (words t.now) (length t.now) }
     ensures { SpotOf width (words t.now) x result }
 {
@@ -110,7 +95,7 @@ pub fn find(t: &[u8], width: usize, most: usize, x: u64) -> Spot
 }
 
 // The same, looked for at a guess first: a table like one in which the row was found has it at the same index.
-pub fn find_near(t: &[u8], width: usize, most: usize, x: u64, guess: usize) -> Spot
+pub fn find_near(t: &[u8], width: usize, most: usize, x: u64, guess: usize) -> Result<usize, usize>
     requires { Sorted width most (words t.now) (length t.now) }
     ensures { SpotOf width (words t.now) x result }
 {
@@ -131,10 +116,8 @@ fn same_words(a: &[u8], b: &[u8], n: usize) -> bool
     ensures { result ≡ all_below n (same_at (words a.now) (words b.now)) }
 {
     let mut other = 0;
-    let mut i = 0;
-    while i < n {
-        other = other | (words::read(a, 1 + i) ^ words::read(b, 1 + i));
-        i += 1;
+    for i in 0..n {
+        other |= words::read(a, 1 + i) ^ words::read(b, 1 + i);
     }
     other == 0
 }
@@ -146,10 +129,7 @@ pub fn same(a: &[u8], b: &[u8], width: usize, most: usize) -> bool
     ensures { result ≡ same_rows width (words a.now) (words b.now) }
 {
     let n = words::read(a, 0);
-    if n != words::read(b, 0) {
-        return false;
-    }
-    same_words(a, b, n as usize * width)
+    n == words::read(b, 0) && same_words(a, b, n as usize * width)
 }
 
 // ---- changes

@@ -1,40 +1,20 @@
-use mathlib.Core.Path.{sym, ◌∙◌}
-use mathlib.Core.Logic.{◌≢◌}
-use Prim.Native.Nat.{◌-◌, ◌<◌}
-use native.Mathlib.Omega.{arith}
-use lib.ListN.{get_or}
-use borrow.Author.Count.{below_more, below_none}
+use Rattle.std.proofs.Common.{rules, arith, ◌≡◌, ◌∙◌, length, eqb}
+use borrow.Author.Tests.{tests}
+use Rattle.std.proofs.lemmas.Iterator.{YieldsList-from_range}
+use Rattle.std.proofs.lemmas.Iterator.Search.{any_from_yields_List}
 use Rattle.words.specs.Words.{words}
 use Rattle.words.proofs.Laws.{length_words}
+use Rattle.rules.specs.Entries.{Entry, entry, has}
+use Rattle.tables.proofs.Ranges.{any_places}
 use Rattle.entries.specs.Entries.{entry_at}
-use Rattle.entries.proofs.Sorted.{has_at, has_none}
 use Rattle.entries.proofs.Words.{entries, entries_length}
-use borrow.Author.Rules.{rules}
 use Rattle.entries.proofs.waits.Goals as goal
 
-pub loop-i-init : goal.loop-i-init
-loop-i-init c = (search rules, search rules, below_none _)
-
-pub returns-then-block_at-b : goal.returns-then-block_at-b
-returns-then-block_at-b c =
-    let l = c.loop-i in
-    sym (has_at c.args.b.0 (entries (words c.args.t.now)) l.i
-    (rw (entries_length c.args.most (words c.args.t.now) (length_words c.args.t.now ∙ omega arith) c.requires.few) (omega arith))
-    (sym c.block_at.ensures ∙ c.if-block_at-b.true))
-
-pub loop-i-preserved : goal.loop-i-preserved
-loop-i-preserved c =
-    let l = c.loop-i in (
-      search rules,
-      search rules,
-      below_more (λ j. (entry_at (entries (words c.args.t.now)) j).block ≢ c.args.b.0) l.i l.invariant.2
-          (λ e. c.if-block_at-b.false (c.block_at.ensures ∙ e)),
-    )
-
 pub returns : goal.returns
+unfolding has
 returns c =
-    let l = c.loop-i in
-    sym (has_none c.args.b.0 (entries (words c.args.t.now))
-    (λ j h. let q : j < get_or (words c.args.t.now) 0 0 = rw
-    (entries_length c.args.most (words c.args.t.now) (length_words c.args.t.now ∙ omega arith) c.requires.few) at h in l.invariant.2 j
-    (omega arith)))
+    let l = entries (words c.args.t.now) in
+    let n : length l ≡ c.read.result = cc (entries_length c.args.most (words c.args.t.now) (length_words c.args.t.now ∙ omega arith) c.requires.few) in
+    any_from_yields_List (λ i. eqb c.args.b.0 (entry_at l i).block) _ _ c.any.result c.any.ensures.ran
+    (YieldsList-from_range 0 c.read.result (length l) (cc) (omega (arith, n))) (λ x r q k. search (rules, tests))
+    ∙ any_places (λ (e : Entry). eqb c.args.b.0 e.block) l (entry 0 0)

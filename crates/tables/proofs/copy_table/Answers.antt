@@ -1,29 +1,9 @@
-use Prim.Native.Nat.{◌+◌, ◌*◌, ◌≤◌}
-use native.Mathlib.Omega.{arith}
-use native.Mathlib.Nat.{mul-le-mul_right}
+use Prim.Native.Nat.{◌+◌}
 use Rattle.words.specs.Words.{words}
 use Rattle.words.proofs.Laws.{room}
 use Rattle.lists.specs.Rows.{table_words}
 use Rattle.tables.proofs.Changes.{copied_run}
 use Rattle.tables.proofs.copy_table.Goals as goal
-
-pub overflow_mul-n : goal.overflow_mul-n
-overflow_mul-n c =
-    let m : c.read-n.result * c.args.width ≤ c.args.most * c.args.width = mul-le-mul_right c.args.width
-    (omega (arith, c.read-n.ensures, c.requires.few)) in
-    omega arith
-
-pub overflow_add-n : goal.overflow_add-n
-overflow_add-n c =
-    let m : c.read-n.result * c.args.width ≤ c.args.most * c.args.width = mul-le-mul_right c.args.width
-    (omega (arith, c.read-n.ensures, c.requires.few)) in
-    omega arith
-
-pub move_words-requires : goal.move_words-requires
-move_words-requires c =
-    let m : c.read-n.result * c.args.width ≤ c.args.most * c.args.width = mul-le-mul_right c.args.width
-    (omega (arith, c.read-n.ensures, c.requires.few)) in
-    (omega arith, omega arith)
 
 pub returns : goal.returns
 returns c =

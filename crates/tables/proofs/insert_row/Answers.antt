@@ -1,17 +1,9 @@
 use mathlib.Core.Path.{◌∙◌}
-use Prim.Native.Nat.{◌≤◌}
 use native.Mathlib.Omega.{arith}
-use native.Mathlib.Nat.{mul-le-mul_right}
 use Rattle.words.specs.Words.{words}
 use Rattle.words.proofs.Laws.{length_words}
 use Rattle.tables.proofs.Changes.{inserted}
 use Rattle.tables.proofs.insert_row.Goals as goal
-
-pub overflow_sub-end : goal.overflow_sub-end
-overflow_sub-end c =
-    let h : c.args.p ≤ c.read-n.result = omega (arith, c.read-n.ensures, c.requires.p_bound.0) in
-    let m = mul-le-mul_right c.args.width h in
-    omega arith
 
 pub returns : goal.returns
 returns c =
