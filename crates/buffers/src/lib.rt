@@ -46,10 +46,8 @@ pub fn drop_bucket(t: &mut [u8], most: usize, settings: Settings, g: u64)
 {
     let n = words::read(t, 0) as usize;
     let mut o = 0;
-    let mut i = 0;
-    while i < n {
+    for i in 0..n {
         o = sift_at(t, most, settings, g, i, o);
-        i += 1;
     }
     words::write(t, 0, o as u64);
 }
@@ -66,7 +64,6 @@ fn drain_at(s: &mut [u8], at: usize, copy: usize, most: usize, settings: Setting
         let start = 8 * copy;
         let size = 8 * (1 + most * ENTRY_WORDS);
         entries::insert_or_drop(&mut s[start..start + size], most, b, k);
-        return;
     }
 }
 
@@ -83,10 +80,7 @@ pub fn drain(
     requires { Drains buffer waiting copy most (words s.old) (length s.old) }
     ensures { words s.new ≡ drained_words (buckets settings) g buffer waiting copy most (words s.old) }
 {
-    let n = words::read(s, buffer) as usize;
-    let mut i = 0;
-    while i < n {
+    for i in 0..words::read(s, buffer) as usize {
         drain_at(s, buffer + (1 + i * ENTRY_WORDS), copy, most, settings, g);
-        i += 1;
     }
 }

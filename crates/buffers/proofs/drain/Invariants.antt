@@ -1,6 +1,4 @@
 use mathlib.Core.Path.{◌≡◌}
-use Prim.Native.Nat.{◌-◌, ◌≤◌}
-use lib.ListN.{length, get_or}
 use Rattle.lists.specs.Runs.{on_run}
 use Rattle.words.specs.Words.{words}
 use Rattle.entries.specs.Entries.{entries_words}
@@ -11,8 +9,4 @@ use Rattle.buffers.proofs.drain.Given as goal
 
 abbrev pub invariant-loop-i : goal.invariant-loop-i
 invariant-loop-i l =
-    (l.i ≤ l.n) × (l.n ≡ get_or (words l.initial.s) l.buffer 0) × (length l.s ≡ length l.initial.s)
-    × (words l.s ≡ on_run l.copy (entries_words l.most) ((entries_codec l.most).enc (drained (buckets l.settings) l.g l.buffer l.waiting l.copy l.most (words l.initial.s) l.i)) (words l.initial.s))
-
-abbrev pub decreases-loop-i : goal.decreases-loop-i
-decreases-loop-i l = l.n - l.i
+    words l.s ≡ on_run l.copy (entries_words l.most) ((entries_codec l.most).enc (drained (buckets l.settings) l.g l.buffer l.waiting l.copy l.most (words l.initial.s) l.i)) (words l.initial.s)

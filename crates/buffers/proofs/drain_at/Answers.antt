@@ -38,8 +38,8 @@ returns-then-of_bucket c =
     (change (entries_codec c.args.most) (λ l. insert_if_room c.args.most l x)) refl (omega arith) (omega arith) (omega arith)
     c.insert_or_drop.ensures)
 
-pub returns : goal.returns
+pub returns-else-of_bucket : goal.returns-else-of_bucket
 unfolding drained_at
-returns c =
+returns-else-of_bucket c =
     let q = sym (rw c.read.ensures at c.of_bucket.ensures) ∙ c.if-of_bucket.false in
     rw q

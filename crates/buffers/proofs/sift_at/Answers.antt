@@ -1,5 +1,4 @@
 use mathlib.Core.Path.{sym, ◌∙◌}
-use Prim.Native.Nat.{◌-◌}
 use Rattle.buffers.specs.Steps.{sifted}
 use Rattle.buffers.proofs.sift_at.Goals as goal
 
