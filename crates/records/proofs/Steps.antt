@@ -1,12 +1,11 @@
--- What reads of all words of a part give, and what writes of all of them leave.
+-- What writes of all words of a part leave.
 use mathlib.Core.Path.{◌≡◌, refl, ◌∙◌}
 use mathlib.Core.List.{List, [], ◌∷◌, append-nil}
 use Prim.Native.Nat.{ℕ}
 use native.Mathlib.Nat.{zero-add}
 use native.Mathlib.Omega.{arith}
 use mir.Val.{bool_byte}
-use lib.Dec.{eqb}
-use lib.ListN.{length, get_or}
+use lib.ListN.{length}
 use lib.Seq.{paste, take_all, drop-length}
 use Rattle.lists.proofs.Tests.{flag_word}
 use Rattle.codec.specs.Codec.{enc_two}
@@ -39,53 +38,3 @@ unfolding enc_two
 status_written a w h =
     put_all (bool_byte a.up ∷ bool_byte a.member ∷ bool_byte a.began ∷ a.next ∷ a.ceiling ∷ []) w h
     ∙ rw (flag_word a.up, flag_word a.member, flag_word a.began) refl
-
-pub head_read : (w : List ℕ) → record {
-  settings = record { places = get_or w 1 0; size = get_or w 2 0; entries = get_or w 3 0; chunks = get_or w 4 0 };
-  view = get_or w 5 0;
-  given = get_or w 6 0;
-  started = get_or w 7 0;
-} ≡ head_codec.dec w
-head_read [] = refl
-head_read (v ∷ []) = refl
-head_read (v ∷ a ∷ []) = refl
-head_read (v ∷ a ∷ b ∷ []) = refl
-head_read (v ∷ a ∷ b ∷ c ∷ []) = refl
-head_read (v ∷ a ∷ b ∷ c ∷ d ∷ []) = refl
-head_read (v ∷ a ∷ b ∷ c ∷ d ∷ e ∷ []) = refl
-head_read (v ∷ a ∷ b ∷ c ∷ d ∷ e ∷ f ∷ []) = refl
-head_read (v ∷ a ∷ b ∷ c ∷ d ∷ e ∷ f ∷ g ∷ w) = refl
-
-pub agreed_read : (w : List ℕ) → record {
-  primary = get_or w 0 0;
-  backup = get_or w 1 0;
-  last_primary = get_or w 2 0;
-  last_backup = get_or w 3 0;
-  ready = eqb (get_or w 4 0) 1;
-  fetched = eqb (get_or w 5 0) 1;
-  last_sent = get_or w 6 0;
-  taken = get_or w 7 0;
-} ≡ agreed_codec.dec w
-agreed_read [] = refl
-agreed_read (a ∷ []) = refl
-agreed_read (a ∷ b ∷ []) = refl
-agreed_read (a ∷ b ∷ c ∷ []) = refl
-agreed_read (a ∷ b ∷ c ∷ d ∷ []) = refl
-agreed_read (a ∷ b ∷ c ∷ d ∷ e ∷ []) = refl
-agreed_read (a ∷ b ∷ c ∷ d ∷ e ∷ f ∷ []) = refl
-agreed_read (a ∷ b ∷ c ∷ d ∷ e ∷ f ∷ g ∷ []) = refl
-agreed_read (a ∷ b ∷ c ∷ d ∷ e ∷ f ∷ g ∷ i ∷ w) = refl
-
-pub status_read : (w : List ℕ) → record {
-  up = eqb (get_or w 0 0) 1;
-  member = eqb (get_or w 1 0) 1;
-  began = eqb (get_or w 2 0) 1;
-  next = get_or w 3 0;
-  ceiling = get_or w 4 0;
-} ≡ status_codec.dec w
-status_read [] = refl
-status_read (a ∷ []) = refl
-status_read (a ∷ b ∷ []) = refl
-status_read (a ∷ b ∷ c ∷ []) = refl
-status_read (a ∷ b ∷ c ∷ d ∷ []) = refl
-status_read (a ∷ b ∷ c ∷ d ∷ e ∷ w) = refl

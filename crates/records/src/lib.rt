@@ -2,6 +2,8 @@
 
 #![tactic(auto)]
 
+// stays: (d) agreed, head and status each have their own read and write: no caller takes any record, so a trait would add members and share no line
+
 pub mod agreed;
 pub mod head;
 pub mod place;
