@@ -1,16 +1,13 @@
-use mathlib.Core.Path.{sym, ◌∙◌}
-use Rattle.pairs.proofs.Steps.{kept_twice, kept_member, kept_gone}
+use native.Mathlib.Omega.{arith}
+use Rattle.std.proofs.lemmas.Bool.Decides.{nat_tests}
+use Rattle.lists.specs.Tests.{◌and◌}
+use Rattle.rules.specs.Pairs.{kept_of_pair}
 use Rattle.pairing.proofs.kept_id.Goals as goal
 
-pub returns-then-id-other : goal.returns-then-id-other
-returns-then-id-other c =
-    sym (kept_twice c.args.members.now c.args.id c.args.other c.if-id-other.true)
-
 pub returns-then-is_member : goal.returns-then-is_member
-returns-then-is_member c =
-    sym (kept_member c.args.members.now c.args.id c.args.other (sym c.is_member.ensures ∙ c.if-is_member.true)
-    c.if-id-other.false)
+unfolding kept_of_pair ◌and◌
+returns-then-is_member c = grind (arith, nat_tests)
 
-pub returns : goal.returns
-returns c =
-    sym (kept_gone c.args.members.now c.args.id c.args.other (sym c.is_member.ensures ∙ c.if-is_member.false))
+pub returns-else-id-other : goal.returns-else-id-other
+unfolding kept_of_pair ◌and◌
+returns-else-id-other c = grind (arith, nat_tests)
