@@ -6,7 +6,7 @@ use native.Mathlib.Nat.{zero-add, add-zero}
 use native.Mathlib.Omega.{arith}
 use lib.ListN.{length, take, drop, set, length-set}
 use lib.Seq.{take-nil}
-use Rattle.lists.specs.Runs.{run, on_run, enc_all}
+use Rattle.lists.specs.Runs.{run, on_run}
 use Rattle.lists.proofs.Runs.{run_length, on_right, on_length, on_by, on_set}
 use Rattle.rules.specs.declared.settings.Settings.{Settings}
 use Rattle.rules.specs.Limits.{buckets, max_relays}
@@ -20,7 +20,7 @@ use Rattle.codec.proofs.Laws.{Lawful}
 use Rattle.codec.proofs.Focus.{on_whole, many_same, if_present_some}
 use Rattle.codec.proofs.Loops.{then_written, table_cleared}
 use Rattle.layout.specs.Contents.{Status, Copies, Brick, Contents, entry_row, relay_row, blank_proxy, blank_copies, brick_reading, contents_reading}
-use Rattle.layout.specs.Layout.{head_codec, agreed_codec, proxy_codec, status_codec, buffer_codec, copy_codec, copies_codec}
+use Rattle.layout.specs.Layout.{head_codec, agreed_codec, status_codec, buffer_codec, copy_codec, copies_codec}
 use Rattle.layout.specs.Layout.{all_copies_codec, log_codec, brick_codec, place_codec, status_words, copy_words, copies_words, log_words, place_words}
 use Rattle.layout.specs.Layout.{buffer_at, all_copies_at, log_at}
 use Rattle.layout.specs.Layout.{bag_codec, all_agreed_codec, all_proxies_codec, all_places_codec, store_codec, head_words, bag_words, store_words}
@@ -40,12 +40,6 @@ table_run r most a w h =
     let l = run_length a (table most r).size w h in
     zero_run ((table most r).enc []) a (table most r).size w h (omega arith)
     (table_cleared r most (run a (table most r).size w) (omega arith))
-
-pub proxy_written : (w : List ℕ) → length w ≡ 66 → set (set w 0 0) 1 0 ≡ proxy_codec.enc blank_proxy w
-unfolding enc_two enc_all
-proxy_written [] h = absurd (omega arith)
-proxy_written (a ∷ []) h = absurd (omega arith)
-proxy_written (a ∷ b ∷ w) h = refl
 
 pub copies_written : (c : Settings) (w : List ℕ) → length w ≡ copies_words c → set (set w 0 0) (copy_words c) 0 ≡ (copies_codec c).enc blank_copies w
 copies_written c w h =

@@ -9,8 +9,8 @@ ghost use Rattle.rules.specs.Format.{first_pairs, format};
 ghost use Rattle.rules.specs.Limits.{Limits};
 ghost use Rattle.codec.specs.Codec.{◌&◌};
 ghost use Rattle.layout.specs.Contents.{blank_proxy, blank_copies};
-ghost use Rattle.layout.specs.Layout.{all_agreed_codec, proxy_codec, all_proxies_codec, copies_codec, all_copies_codec, place_codec, all_places_codec};
-ghost use Rattle.layout.specs.Layout.{agreed_words, proxy_words, copies_words, place_words};
+ghost use Rattle.layout.specs.Layout.{all_agreed_codec, all_proxies_codec, copies_codec, all_copies_codec, place_codec, all_places_codec};
+ghost use Rattle.layout.specs.Layout.{agreed_words, copies_words, place_words};
 ghost use Rattle.layout.specs.Store.{render, store_bytes};
 ghost use Rattle.records.specs.Records.{agreed_of, status_of};
 ghost use Rattle.format.specs.First.{first_agreed, agreed_in, new_brick, first_place};
@@ -31,9 +31,7 @@ fn first_pairs(settings: Settings, assigned: &mut [u64])
     requires { Limits settings × (assigned.old ≡ replicate (2 * buckets settings) 0) }
     ensures { assigned.new ≡ first_pairs settings }
 {
-    let ids = FIRST_IDS;
-    let count = settings.places;
-    pairing::assign(&ids[0..count], assigned, settings.buckets());
+    pairing::assign(&FIRST_IDS[..settings.places], assigned, settings.buckets());
 }
 
 // A bucket's record: it is ready.
@@ -58,34 +56,21 @@ fn bucket_records(s: &mut [u8], settings: Settings, assigned: &[u64])
     ensures { words s.new ≡ (all_agreed_codec settings).enc (agreed_in assigned.now) (words s.old) }
 {
     let count = settings.buckets();
-    let mut g = 0;
-    while g < count {
+    for g in 0..count {
         let at = 8 * words::offset(g, sizes::AGREED_WORDS, count);
         let agreed = first_agreed(assigned[2 * g], assigned[2 * g + 1]);
         records::agreed::write(&mut s[at..at + 8 * sizes::AGREED_WORDS], agreed);
-        g += 1;
     }
 }
 
-// One proxy: it knows no view and has no items.
-fn proxy(s: &mut [u8])
-    requires { length s.old ≡ 8 * proxy_words }
-    ensures { words s.new ≡ proxy_codec.enc blank_proxy (words s.old) }
-{
-    words::write(s, sizes::KNOWN_AT, 0);
-    words::write(s, sizes::ITEMS_AT, 0);
-}
-
-// All proxies.
+// All proxies, blank.
 fn proxies(s: &mut [u8])
     requires { length s.old ≡ 8 * all_proxies_codec.size }
     ensures { words s.new ≡ all_proxies_codec.enc (λ p. blank_proxy) (words s.old) }
 {
-    let mut p = 0;
-    while p < constants::PROXIES {
+    for p in 0..constants::PROXIES {
         let at = 8 * words::offset(p, sizes::PROXY_WORDS, constants::PROXIES);
-        proxy(&mut s[at..at + 8 * sizes::PROXY_WORDS]);
-        p += 1;
+        records::proxy::clear(&mut s[at..at + 8 * sizes::PROXY_WORDS]);
     }
 }
 
@@ -105,11 +90,9 @@ fn all_copies(s: &mut [u8], settings: Settings)
 {
     let count = settings.buckets();
     let size = sizes::copies_words(settings);
-    let mut g = 0;
-    while g < count {
+    for g in 0..count {
         let at = 8 * words::offset(g, size, count);
         copies(&mut s[at..at + 8 * size], settings);
-        g += 1;
     }
 }
 
@@ -133,8 +116,7 @@ fn places(s: &mut [u8], settings: Settings)
 {
     let count = settings.places;
     let size = sizes::place_words(settings);
-    let mut p = 0;
-    while p < count {
+    for p in 0..count {
         let at = 8 * words::offset(p, size, count);
         let status = Status {
             up: true,
@@ -144,7 +126,6 @@ fn places(s: &mut [u8], settings: Settings)
             ceiling: 0,
         };
         place(&mut s[at..at + 8 * size], settings, p as u64 + 1, status);
-        p += 1;
     }
 }
 

@@ -2,6 +2,7 @@
 ghost use Rattle.std.specs.Prelude.{◌≡◌, ◌*◌, length};
 ghost use Rattle.words.specs.Words.{words};
 ghost use Rattle.codec.specs.Codec.{change};
+ghost use Rattle.layout.specs.Contents.{blank_proxy};
 ghost use Rattle.layout.specs.Layout.{proxy_codec, proxy_words};
 ghost use Rattle.records.specs.Records.{with_known};
 
@@ -21,4 +22,13 @@ pub fn set_known(part: &mut [u8], view: ViewNumber)
     ensures { words part.new ≡ change proxy_codec (with_known view.0) (words part.old) }
 {
     words::write(part, sizes::KNOWN_AT, view.0);
+}
+
+// It knows no view and has no items.
+pub fn clear(part: &mut [u8])
+    requires { length part.old ≡ 8 * proxy_words }
+    ensures { words part.new ≡ proxy_codec.enc blank_proxy (words part.old) }
+{
+    words::write(part, sizes::KNOWN_AT, 0);
+    words::write(part, sizes::ITEMS_AT, 0);
 }

@@ -17,7 +17,6 @@ pub loop-g-init : goal.loop-g-init
 loop-g-init c =
     let s = c.args.s.now in
     let t = c.args.settings in (
-      search rules,
       ap₂ (λ (i j : ℕ). i * j) c.buckets-count.ensures c.copies_words-size.ensures,
       search rules,
       loop_start (copies_codec t) (copies_law t) (buckets t) (λ _. blank_copies) (words s) (length_words s ∙ omega arith),
@@ -38,13 +37,13 @@ loop-g-preserved c =
     let n : ℕ = o + 8 * c.copies_words-size.result - o in
     let product = ap (λ (k : ℕ). l.g * k) c.copies_words-size.ensures in
     let turn = lent_turn (copies_codec t) (copies_law t) (buckets t) (λ _. blank_copies) (words s0) (length_words s0 ∙ omega arith)
-    l.g (omega arith) l.s c.copies.new.s o n (omega arith) (omega arith) (omega arith) (omega arith) l.invariant.3
+    l.g (omega arith) l.s c.copies.new.s o n (omega arith) (omega arith) (omega arith) (omega arith) l.invariant.2
     c.copies.ensures in
-    (search rules, search rules, search rules, turn)
+    (search rules, search rules, turn)
 
 pub returns : goal.returns
 returns c =
     let s0 = c.args.s.now in
     let t = c.args.settings in
     let e : c.loop-g.g ≡ buckets t = omega arith in
-    rw e at c.loop-g.invariant.3 ∙ loop_end (copies_codec t) (copies_law t) (buckets t) (λ _. blank_copies) (words s0) (length_words s0 ∙ omega arith)
+    rw e at c.loop-g.invariant.2 ∙ loop_end (copies_codec t) (copies_law t) (buckets t) (λ _. blank_copies) (words s0) (length_words s0 ∙ omega arith)

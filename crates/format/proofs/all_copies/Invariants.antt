@@ -1,5 +1,5 @@
 use mathlib.Core.Path.{◌≡◌}
-use Prim.Native.Nat.{◌*◌, ◌-◌, ◌≤◌}
+use Prim.Native.Nat.{◌*◌}
 use lib.ListN.{length}
 use Rattle.words.specs.Words.{words}
 use Rattle.codec.proofs.Loops.{written}
@@ -10,8 +10,5 @@ use Rattle.format.proofs.all_copies.Given as goal
 
 abbrev pub invariant-loop-g : goal.invariant-loop-g
 invariant-loop-g l =
-    (l.g ≤ l.count) × (l.count * l.size ≡ buckets l.settings * copies_words l.settings) × (length l.s ≡ length l.initial.s)
+    (l.count * l.size ≡ buckets l.settings * copies_words l.settings) × (length l.s ≡ length l.initial.s)
     × (words l.s ≡ written (copies_codec l.settings) l.g (λ _. blank_copies) (words l.initial.s))
-
-abbrev pub decreases-loop-g : goal.decreases-loop-g
-decreases-loop-g l = l.count - l.g

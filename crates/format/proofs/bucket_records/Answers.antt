@@ -19,7 +19,7 @@ pub loop-g-init : goal.loop-g-init
 loop-g-init c =
     let s = c.args.s.now in
     let f = agreed_in c.args.assigned.now in
-    (search rules, search rules, loop_start agreed_codec agreed_law c.buckets-count.result f (words s) (length_words s ∙ omega arith))
+    (search rules, loop_start agreed_codec agreed_law c.buckets-count.result f (words s) (length_words s ∙ omega arith))
 
 pub write-requires : goal.write-requires
 write-requires c =
@@ -36,8 +36,8 @@ loop-g-preserved c =
     let put = c.write.ensures ∙ ap (λ (a : Agreed). agreed_codec.enc a (words (take n (drop o l.s)))) c.first_agreed-agreed.ensures in
     let turn = lent_turn agreed_codec agreed_law count (agreed_in c.args.assigned.now) (words s0)
     (length_words s0 ∙ omega arith) l.g (omega arith) l.s c.write.new.part o n
-    (omega arith) (omega arith) (omega arith) (omega arith) l.invariant.2 put in
-    (search rules, search rules, turn)
+    (omega arith) (omega arith) (omega arith) (omega arith) l.invariant.1 put in
+    (search rules, turn)
 
 pub returns : goal.returns
 returns c =
@@ -45,6 +45,6 @@ returns c =
     let f = agreed_in c.args.assigned.now in
     let n = c.buckets-count in
     let e : c.loop-g.g ≡ n.result = omega arith in
-    rw e at c.loop-g.invariant.2
+    rw e at c.loop-g.invariant.1
     ∙ loop_end agreed_codec agreed_law n.result f (words s0) (length_words s0 ∙ omega arith)
     ∙ ap (λ (m : ℕ). enc_many agreed_codec m f (words s0)) n.ensures

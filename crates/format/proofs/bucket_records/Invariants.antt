@@ -1,5 +1,4 @@
 use mathlib.Core.Path.{◌≡◌}
-use Prim.Native.Nat.{◌-◌, ◌≤◌}
 use lib.ListN.{length}
 use Rattle.words.specs.Words.{words}
 use Rattle.codec.proofs.Loops.{written}
@@ -9,7 +8,4 @@ use Rattle.format.proofs.bucket_records.Given as goal
 
 abbrev pub invariant-loop-g : goal.invariant-loop-g
 invariant-loop-g l =
-    (l.g ≤ l.count) × (length l.s ≡ length l.initial.s) × (words l.s ≡ written agreed_codec l.g (agreed_in l.assigned) (words l.initial.s))
-
-abbrev pub decreases-loop-g : goal.decreases-loop-g
-decreases-loop-g l = l.count - l.g
+    (length l.s ≡ length l.initial.s) × (words l.s ≡ written agreed_codec l.g (agreed_in l.assigned) (words l.initial.s))

@@ -1,5 +1,5 @@
 use mathlib.Core.Path.{◌≡◌, ap, ◌∙◌}
-use Prim.Native.Nat.{◌*◌, ◌-◌}
+use Prim.Native.Nat.{◌*◌}
 use native.Mathlib.Omega.{arith}
 use lib.ListN.{length, length-replicate}
 use Rattle.rules.specs.Limits.{buckets}
@@ -11,10 +11,9 @@ pub assign-requires : goal.assign-requires
 assign-requires c =
     let e = c.buckets.ensures in
     let long : length c.args.assigned.now ≡ 2 * buckets c.args.settings = ap length c.requires.1 ∙ length-replicate _ 0 in
-    (omega arith, omega (arith, few_buckets c.args.settings), ids_few (c.args.settings.places - 0))
+    (omega arith, omega (arith, few_buckets c.args.settings), ids_few c.args.settings.places)
 
 pub returns : goal.returns
 returns c =
     let n = c.buckets in
-    let e : c.args.settings.places - 0 ≡ c.args.settings.places = omega arith in
-    first_pairs_are c.args.settings c.requires.0 n.result n.ensures _ _ c.requires.1 (rw e at c.assign.ensures)
+    first_pairs_are c.args.settings c.requires.0 n.result n.ensures _ _ c.requires.1 c.assign.ensures

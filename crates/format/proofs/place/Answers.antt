@@ -20,7 +20,7 @@ returns c =
     let copies : List ℕ → List ℕ = (all_copies_codec t).enc (λ g. blank_copies) in
     let e2 = lent_run s1 c.write-2.new.part 8 40 1 status_words (status_codec.enc (status_of c.args.status)) refl refl (omega arith) (omega arith)
     c.write-2.ensures in
-    let e4 = lent_run s3 c.all_copies.new.s 568 (8 * log.result - 568) all_copies_at (all_copies_codec t).size copies refl (omega (arith, log.ensures, c.requires.2, c.s-3-1.given, c.s-2-1.given, c.s-1.given)) (omega (arith, log.ensures, c.requires.2, c.s-3-1.given, c.s-2-1.given, c.s-1.given))
-    (omega (arith, log.ensures, c.requires.2, c.s-3-1.given, c.s-2-1.given, c.s-1.given)) c.all_copies.ensures in
+    let e4 = lent_run s3 c.all_copies.new.s 568 (8 * log.result - 568) all_copies_at (all_copies_codec t).size copies refl (omega (arith, log.ensures)) (omega (arith, log.ensures))
+    (omega (arith, log.ensures)) c.all_copies.ensures in
     place_steps t c.args.id (status_of c.args.status) log.result (words s0) (words s1) _ (words s3) _ _ c.requires.1 (length_words s0 ∙ omega arith) c.write.ensures e2
     c.write-3.ensures e4 log.ensures c.write-4.ensures

@@ -16,7 +16,6 @@ pub loop-p-init : goal.loop-p-init
 loop-p-init c =
     let s = c.args.s.now in
     let t = c.args.settings in (
-      search rules,
       ap (λ (k : ℕ). t.places * k) c.place_words-size.ensures,
       search rules,
       loop_start (place_codec t) (place_law t) t.places first_place (words s) (length_words s ∙ omega arith),
@@ -37,13 +36,13 @@ loop-p-preserved c =
     let n : ℕ = o + 8 * c.place_words-size.result - o in
     let product = ap (λ (k : ℕ). l.p * k) c.place_words-size.ensures in
     let turn = lent_turn (place_codec t) (place_law t) t.places first_place (words s0) (length_words s0 ∙ omega arith)
-    l.p (omega arith) l.s c.place.new.s o n (omega arith) (omega arith) (omega arith) (omega arith) l.invariant.3
+    l.p (omega arith) l.s c.place.new.s o n (omega arith) (omega arith) (omega arith) (omega arith) l.invariant.2
     c.place.ensures in
-    (search rules, search rules, search rules, turn)
+    (search rules, search rules, turn)
 
 pub returns : goal.returns
 returns c =
     let s0 = c.args.s.now in
     let t = c.args.settings in
     let e : c.loop-p.p ≡ t.places = omega arith in
-    rw e at c.loop-p.invariant.3 ∙ loop_end (place_codec t) (place_law t) t.places first_place (words s0) (length_words s0 ∙ omega arith)
+    rw e at c.loop-p.invariant.2 ∙ loop_end (place_codec t) (place_law t) t.places first_place (words s0) (length_words s0 ∙ omega arith)

@@ -1,5 +1,5 @@
 use mathlib.Core.Path.{◌≡◌}
-use Prim.Native.Nat.{◌*◌, ◌-◌, ◌≤◌}
+use Prim.Native.Nat.{◌*◌}
 use lib.ListN.{length}
 use Rattle.words.specs.Words.{words}
 use Rattle.codec.proofs.Loops.{written}
@@ -9,8 +9,5 @@ use Rattle.format.proofs.places.Given as goal
 
 abbrev pub invariant-loop-p : goal.invariant-loop-p
 invariant-loop-p l =
-    (l.p ≤ l.count) × (l.count * l.size ≡ l.settings.places * place_words l.settings) × (length l.s ≡ length l.initial.s)
+    (l.count * l.size ≡ l.settings.places * place_words l.settings) × (length l.s ≡ length l.initial.s)
     × (words l.s ≡ written (place_codec l.settings) l.p first_place (words l.initial.s))
-
-abbrev pub decreases-loop-p : goal.decreases-loop-p
-decreases-loop-p l = l.count - l.p

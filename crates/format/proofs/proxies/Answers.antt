@@ -15,10 +15,10 @@ use Rattle.format.proofs.proxies.Goals as goal
 pub loop-p-init : goal.loop-p-init
 loop-p-init c =
     let s = c.args.s.now in
-    (search rules, search rules, loop_start proxy_codec proxy_law 4 (λ _. blank_proxy) (words s) (length_words s ∙ omega arith))
+    (search rules, loop_start proxy_codec proxy_law 4 (λ _. blank_proxy) (words s) (length_words s ∙ omega arith))
 
-pub proxy-requires : goal.proxy-requires
-proxy-requires c =
+pub clear-requires : goal.clear-requires
+clear-requires c =
     let o = 8 * c.offset-at.result in
     run_length o (o + 8 * proxy_words - o) c.loop-p.s (omega arith) ∙ omega arith
 
@@ -29,12 +29,12 @@ loop-p-preserved c =
     let o = 8 * c.offset-at.result in
     let n : ℕ = o + 8 * proxy_words - o in
     let turn = lent_turn proxy_codec proxy_law 4 (λ _. blank_proxy) (words s0) (length_words s0 ∙ omega arith) l.p (omega arith) l.s
-    c.proxy.new.s o n
-    (omega arith) (omega arith) (omega arith) (omega arith) l.invariant.2 c.proxy.ensures in
-    (search rules, search rules, turn)
+    c.clear.new.part o n
+    (omega arith) (omega arith) (omega arith) (omega arith) l.invariant.1 c.clear.ensures in
+    (search rules, turn)
 
 pub returns : goal.returns
 returns c =
     let s0 = c.args.s.now in
     let e : c.loop-p.p ≡ 4 = omega arith in
-    rw e at c.loop-p.invariant.2 ∙ loop_end proxy_codec proxy_law 4 (λ _. blank_proxy) (words s0) (length_words s0 ∙ omega arith)
+    rw e at c.loop-p.invariant.1 ∙ loop_end proxy_codec proxy_law 4 (λ _. blank_proxy) (words s0) (length_words s0 ∙ omega arith)

@@ -1,5 +1,4 @@
 use mathlib.Core.Path.{◌≡◌}
-use Prim.Native.Nat.{◌-◌, ◌≤◌}
 use lib.ListN.{length}
 use Rattle.words.specs.Words.{words}
 use Rattle.codec.proofs.Loops.{written}
@@ -8,7 +7,4 @@ use Rattle.layout.specs.Layout.{proxy_codec}
 use Rattle.format.proofs.proxies.Given as goal
 
 abbrev pub invariant-loop-p : goal.invariant-loop-p
-invariant-loop-p l = (l.p ≤ 4) × (length l.s ≡ length l.initial.s) × (words l.s ≡ written proxy_codec l.p (λ _. blank_proxy) (words l.initial.s))
-
-abbrev pub decreases-loop-p : goal.decreases-loop-p
-decreases-loop-p l = 4 - l.p
+invariant-loop-p l = (length l.s ≡ length l.initial.s) × (words l.s ≡ written proxy_codec l.p (λ _. blank_proxy) (words l.initial.s))
