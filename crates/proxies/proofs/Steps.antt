@@ -1,17 +1,15 @@
 -- What learn and reset leave.
 use mathlib.Core.Path.{◌≡◌, refl, sym, ap, ◌∙◌}
-use mathlib.Core.List.{List, [], ◌∷◌, ◌++◌}
+use mathlib.Core.List.{List, [], ◌++◌}
 use Prim.Native.Nat.{ℕ, ◌+◌, ◌*◌, ◌-◌, ◌<◌}
-use native.Mathlib.Omega.{arith}
-use lib.ListN.{length, take, drop, set}
-use Rattle.lists.specs.Runs.{enc_all}
+use lib.ListN.{length, take, drop}
 use Rattle.lists.proofs.Columns.{upd_same, upd_other}
 use Rattle.words.specs.Words.{words}
 use Rattle.rules.specs.declared.settings.Settings.{Settings}
 use Rattle.rules.specs.Limits.{proxies}
 use Rattle.rules.specs.Entries.{Entry}
 use Rattle.rules.specs.Maps.{learn_effect, reset_effect}
-use Rattle.codec.specs.Codec.{change, enc_two}
+use Rattle.codec.specs.Codec.{change}
 use Rattle.layout.specs.Contents.{Proxy, blank_proxy}
 use Rattle.layout.specs.Layout.{proxy_codec, proxy_words, proxy_at}
 use Rattle.layout.specs.Store.{decode, render}
@@ -44,10 +42,3 @@ module _ (c : Settings) (bs : List ℕ) (v : StoreOf c bs) (p : ℕ) (h : p < pr
     where
       both_same : {a b : ℕ} {l m : List Entry} → a ≡ b → l ≡ m → ◌≡◌ {A = Proxy} (record { known = a; items = l }) (record { known = b; items = m })
       both_same q r = cc
-
--- a proxy's words with both counts 0
-pub cleared_words : (w : List ℕ) → length w ≡ proxy_words → set (set w 0 0) 1 0 ≡ proxy_codec.enc blank_proxy w
-unfolding enc_two enc_all
-cleared_words [] l = absurd (omega arith)
-cleared_words (a ∷ []) l = absurd (omega arith)
-cleared_words (a ∷ b ∷ w) l = refl

@@ -2,14 +2,12 @@
 
 #![tactic(auto)]
 
-ghost use Rattle.std.specs.Prelude.{◌≡◌, ◌*◌, ◌<◌, length};
+ghost use Rattle.std.specs.Prelude.{◌≡◌, ◌<◌};
 ghost use Rattle.words.specs.Words.{words};
 ghost use Rattle.rules.specs.Limits.{proxies};
 ghost use Rattle.rules.specs.Event.{Event};
 ghost use Rattle.rules.specs.Maps.{abandon_asks, learn_effect, reset_effect};
 ghost use Rattle.rules.specs.Question.{first_no};
-ghost use Rattle.layout.specs.Contents.{blank_proxy};
-ghost use Rattle.layout.specs.Layout.{proxy_codec, proxy_words};
 ghost use Rattle.layout.specs.Store.{decode, render};
 ghost use Rattle.lent.specs.Performs.{Performs};
 ghost use Rattle.lent.specs.Stores.{StoreOf};
@@ -49,20 +47,12 @@ pub fn learn(store: &mut [u8], settings: Settings, proxy: u64) -> Answer
 // ---- reset
 
 // The view that a proxy knows becomes 0, and its items go.
-fn clear(part: &mut [u8])
-    requires { length part.old ≡ 8 * proxy_words }
-    ensures { words part.new ≡ proxy_codec.enc blank_proxy (words part.old) }
-{
-    words::write(part, sizes::KNOWN_AT, 0);
-    words::write(part, sizes::ITEMS_AT, 0);
-}
-
 fn clear_proxy(store: &mut [u8], settings: Settings, proxy: usize)
     requires { StoreOf settings store.old × (proxy < proxies) }
     ensures { words store.new ≡ render (reset_effect (decode (words store.old)) proxy) (words store.old) }
 {
     let at = 8 * sizes::proxy_at(settings, proxy);
-    clear(&mut store[at..at + 8 * sizes::PROXY_WORDS]);
+    records::proxy::clear(&mut store[at..at + 8 * sizes::PROXY_WORDS]);
 }
 
 pub fn reset(store: &mut [u8], settings: Settings, proxy: u64) -> Answer
