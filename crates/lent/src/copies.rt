@@ -47,10 +47,8 @@ pub fn match_all(copies: &mut [u8], settings: Settings, saving: bool)
 {
     let count = settings.buckets();
     let size = sizes::copies_words(settings);
-    let mut bucket = 0;
-    while bucket < count {
+    for bucket in 0..count {
         let at = 8 * words::offset(bucket, size, count);
         match_two(&mut copies[at..at + 8 * size], settings, saving);
-        bucket += 1;
     }
 }

@@ -13,7 +13,6 @@ pub loop-bucket-init : goal.loop-bucket-init
 loop-bucket-init c =
     let s = c.args.copies.now in
     let t = c.args.settings in (
-      search rules,
       ap₂ (λ (i j : ℕ). i * j) c.buckets-count.ensures c.copies_words-size.ensures,
       search rules,
       match_start c.args.saving t (words s) (length_words s ∙ omega (arith, c.requires.size)),
@@ -27,7 +26,7 @@ match_two-requires c =
     let l = c.loop-bucket in
     let o = 8 * c.offset-at.result in
     let product = ap (λ (k : ℕ). l.bucket * k) size.ensures in
-    match_fit c.args.saving t (words s) (length_words s ∙ omega (arith, c.requires.size)) l.bucket (omega arith) l.copies l.invariant.3
+    match_fit c.args.saving t (words s) (length_words s ∙ omega (arith, c.requires.size)) l.bucket (omega arith) l.copies l.invariant.2
     (omega (arith, c.requires.size)) o (o + 8 * size.result - o) (omega arith) (omega arith) (length s) c.requires
 
 pub loop-bucket-preserved : goal.loop-bucket-preserved
@@ -40,13 +39,13 @@ loop-bucket-preserved c =
     let o = 8 * c.offset-at.result in
     let n : ℕ = o + 8 * size.result - o in
     let product = ap (λ (k : ℕ). l.bucket * k) size.ensures in
-    let turn = match_turn c.args.saving t (words s) (length_words s ∙ omega (arith, c.requires.size)) l.bucket (omega arith) l.copies l.invariant.3
+    let turn = match_turn c.args.saving t (words s) (length_words s ∙ omega (arith, c.requires.size)) l.bucket (omega arith) l.copies l.invariant.2
     (omega (arith, c.requires.size)) o n (omega arith) (omega arith) made.new.copies (omega arith) made.ensures in
-    (search rules, search rules, search rules, turn)
+    (search rules, search rules, turn)
 
 pub returns : goal.returns
 returns c =
     let s = c.args.copies.now in
     let t = c.args.settings in
     let e : c.loop-bucket.bucket ≡ buckets t = omega arith in
-    rw e at c.loop-bucket.invariant.3 ∙ match_end c.args.saving t (words s) (length_words s ∙ omega (arith, c.requires.size))
+    rw e at c.loop-bucket.invariant.2 ∙ match_end c.args.saving t (words s) (length_words s ∙ omega (arith, c.requires.size))
