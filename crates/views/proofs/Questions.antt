@@ -15,14 +15,13 @@ use Rattle.rules.proofs.Questions.{all_yes}
 use Rattle.layout.specs.Store.{decode}
 use Rattle.lent.specs.Stores.{StoreOf}
 use Rattle.lent.proofs.Stores.{settings_are}
-use Rattle.views.specs.Begin.{counted}
 
 module _ (c : Settings) (bs : List ℕ) (v : StoreOf c bs) where
   abbrev s : State
   s = decode (words bs)
 
-  pub count_of : (staying : Bool) (n : ℕ) → n ≡ count_below c.places (counted staying s) → n ≡ count_below s.settings.places (counted staying s)
-  count_of staying n e = e ∙ ap (λ (x : Settings). count_below x.places (counted staying s)) (sym (settings_are c bs v))
+  pub count_of : (test : ℕ → Bool) (n : ℕ) → n ≡ count_below c.places test → n ≡ count_below s.settings.places test
+  count_of test n e = e ∙ ap (λ (x : Settings). count_below x.places test) (sym (settings_are c bs v))
 
   -- a view number is left
   pub view_yes : first_no (view_asks s) ≡ 0 → s.view < max_view_or_order

@@ -1,5 +1,5 @@
 -- The up bricks in the order of their ids.
-use Rattle.std.specs.Prelude.{◌≡◌, List, [], ◌∷◌, Bool, ℕ, suc, ◌≤◌, ◌<◌}
+use Rattle.std.specs.Prelude.{◌≡◌, List, [], ◌∷◌, Option, Some, None, Bool, ℕ, suc, ◌≤◌, ◌<◌}
 use Rattle.lists.specs.Tests.{◌and◌, only, within}
 use Rattle.rules.specs.Limits.{max_id}
 use Rattle.rules.specs.State.{State}
@@ -18,9 +18,7 @@ up_within s from to place = within from to (s.ids place) and is_up s place
 abbrev pub up_from : State → ℕ → List ℕ
 up_from s from = only (within from ids) (ids_of s.given s.bricks.up)
 
--- the first of them
-pub record NextUp (s : State) (from id : ℕ) : Type 0 where
-  pub low : from ≤ id
-  pub high : id ≤ ids
-  pub first : id < ids → up_from s from ≡ id ∷ up_from s (suc id)
-  pub none : ids ≤ id → up_from s from ≡ []
+-- the first of them, if there is one
+abbrev pub NextUp : State → ℕ → Option ℕ → Type 0
+NextUp s from None = up_from s from ≡ []
+NextUp s from (Some id) = (from ≤ id) × (id < ids) × (up_from s from ≡ id ∷ up_from s (suc id))

@@ -16,12 +16,10 @@ fn last_pairs(store: &[u8], settings: Settings, assigned: &mut [u64])
     ensures { assigned.new ≡ last_pairs (decode (words store.now)) }
 {
     let count = settings.buckets();
-    let mut bucket = 0;
-    while bucket < count {
+    for bucket in 0..count {
         let agreed = lent::bucket::agreed(store, settings, bucket);
         assigned[2 * bucket] = agreed.last_primary;
         assigned[2 * bucket + 1] = agreed.last_backup;
-        bucket += 1;
     }
 }
 
@@ -33,5 +31,5 @@ pub fn view_pairs(store: &[u8], settings: Settings, assigned: &mut [u64])
     let mut ids = [0; constants::MAX_ID as usize];
     let count = members::up_ids(store, settings, &mut ids);
     last_pairs(store, settings, assigned);
-    pairing::assign(&ids[0..count], assigned, settings.buckets());
+    pairing::assign(&ids[..count], assigned, settings.buckets());
 }

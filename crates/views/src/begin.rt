@@ -44,7 +44,7 @@ pub fn begin(store: &mut [u8], settings: Settings)
     requires { StoreOf settings store.old × ((decode (words store.old)).view < max_view_or_order) }
     ensures { words store.new ≡ render (view_effect (decode (words store.old))) (words store.old) }
 {
-    let started = members::count(store, settings, false) as u64;
+    let started = members::count_up(store, settings) as u64;
     let used = 2 * settings.buckets();
     let mut room = [0; pairing::MAX_ASSIGNED];
     begin_in(store, settings, started, &mut room[0..used]);

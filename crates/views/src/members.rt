@@ -3,10 +3,11 @@ ghost use Rattle.std.specs.Prelude.{◌≡◌, ◌<◌, ◌≤◌, length, take}
 ghost use Rattle.lists.specs.Tests.{count_below};
 ghost use Rattle.words.specs.Words.{words};
 ghost use Rattle.rules.specs.Limits.{max_id};
+ghost use Rattle.rules.specs.Derived.{is_up};
 ghost use Rattle.rules.specs.Pairs.{ids_of};
 ghost use Rattle.layout.specs.Store.{decode};
 ghost use Rattle.lent.specs.Stores.{StoreOf};
-ghost use Rattle.views.specs.Begin.{counted};
+ghost use Rattle.views.specs.Begin.{stayed};
 ghost use Rattle.views.specs.Members.{ids, up_within, NextUp};
 
 use lent::place;
@@ -25,21 +26,18 @@ fn up_within(store: &[u8], settings: Settings, from: u64, to: u64, place: usize)
     (from <= id) & (id < to) & place::is_up(store, settings, place)
 }
 
-// The lowest id of an up brick from a number on; beyond the ids where there is none.
-fn next_up(store: &[u8], settings: Settings, from: u64) -> u64
+// The lowest id of an up brick from a number on.
+fn next_up(store: &[u8], settings: Settings, from: u64) -> Option<u64>
     requires { StoreOf settings store.now × (0 < from) × (from ≤ ids) }
     ensures { NextUp (decode (words store.now)) from result }
 {
     let mut least = IDS;
-    let mut place = 0;
-    while place < settings.places {
-        let here = place;
-        place += 1;
-        if up_within(store, settings, from, least, here) {
-            least = place::id(store, settings, here);
+    for place in 0..settings.places {
+        if up_within(store, settings, from, least, place) {
+            least = place::id(store, settings, place);
         }
     }
-    least
+    (least < IDS).then_some(least)
 }
 
 // The ids of the bricks that are up, ascending, go to the front of the list; so many they are.
@@ -49,46 +47,39 @@ pub fn up_ids(store: &[u8], settings: Settings, ids: &mut [u64]) -> usize
         × (take result ids.new ≡ ids_of (decode (words store.now)).given (decode (words store.now)).bricks.up) }
 {
     let mut count = 0;
-    let mut id = next_up(store, settings, 1);
-    while id < IDS {
+    let mut from = 1;
+    while let Some(id) = next_up(store, settings, from) {
         ids[count] = id;
         count += 1;
-        id = next_up(store, settings, id + 1);
+        from = id + 1;
     }
     count
 }
 
-// Is the brick at a place up? And, of those that stayed, did the present view begin with it?
-fn counts(store: &[u8], settings: Settings, place: usize, staying: bool) -> bool
-    requires { StoreOf settings store.now × (place < settings.places) }
-    ensures { result ≡ counted staying (decode (words store.now)) place }
-{
-    if place::id(store, settings, place) == 0 {
-        return false;
-    }
-    let status = place::status(store, settings, place);
-    if status.up {
-        if staying {
-            return status.began;
-        }
-        return true;
-    }
-    false
-}
-
-// How many bricks are up; or how many of those that the present view began with, risen ones counted.
-pub fn count(store: &[u8], settings: Settings, staying: bool) -> usize
+// How many bricks are up.
+pub fn count_up(store: &[u8], settings: Settings) -> usize
     requires { StoreOf settings store.now }
-    ensures { result ≡ count_below settings.places (counted staying (decode (words store.now))) }
+    ensures { result ≡ count_below settings.places (is_up (decode (words store.now))) }
 {
-    let mut count = 0;
-    let mut place = 0;
-    while place < settings.places {
-        let yes = counts(store, settings, place, staying);
-        place += 1;
-        if yes {
-            count += 1;
-        }
-    }
-    count
+    (0..settings.places)
+        .filter(|place| place::is_up(store, settings, *place))
+        .count()
+}
+
+// Is the brick at a place up, and did the present view begin with it?
+fn stayed(store: &[u8], settings: Settings, place: usize) -> bool
+    requires { StoreOf settings store.now × (place < settings.places) }
+    ensures { result ≡ stayed (decode (words store.now)) place }
+{
+    place::is_up(store, settings, place) && place::status(store, settings, place).began
+}
+
+// How many bricks that the present view began with are up, risen ones counted.
+pub fn count_stayed(store: &[u8], settings: Settings) -> usize
+    requires { StoreOf settings store.now }
+    ensures { result ≡ count_below settings.places (stayed (decode (words store.now))) }
+{
+    (0..settings.places)
+        .filter(|place| stayed(store, settings, *place))
+        .count()
 }

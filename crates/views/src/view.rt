@@ -21,10 +21,10 @@ fn asks(store: &[u8], settings: Settings) -> u64
     if constants::MAX_VIEW_OR_ORDER <= lent::store::view(store, settings) {
         return 12;
     }
-    if members::count(store, settings, false) <= 1 {
+    if members::count_up(store, settings) <= 1 {
         return 13;
     }
-    let stayed = members::count(store, settings, true);
+    let stayed = members::count_stayed(store, settings);
     if 2 * stayed as u64 <= lent::store::started(store, settings) {
         return 13;
     }

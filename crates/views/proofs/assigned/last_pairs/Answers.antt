@@ -1,5 +1,5 @@
 use mathlib.Core.Path.{◌≡◌, ap}
-use Prim.Native.Nat.{◌*◌, ◌-◌}
+use Prim.Native.Nat.{◌*◌}
 use native.Mathlib.Omega.{arith}
 use lib.ListN.{length-set}
 use borrow.Author.Rules.{rules}
@@ -13,7 +13,7 @@ use Rattle.views.proofs.assigned.last_pairs.Goals as goal
 pub loop-bucket-init : goal.loop-bucket-init
 loop-bucket-init c =
     let s = decode (words c.args.store.now) in
-    (search rules, search rules, assigned_start (λ g. (s.bucket g).last_primary) (λ g. (s.bucket g).last_backup) c.args.assigned.now)
+    (search rules, assigned_start (λ g. (s.bucket g).last_primary) (λ g. (s.bucket g).last_backup) c.args.assigned.now)
 
 pub bounds-assigned-bucket-in-loop-bucket : goal.bounds-assigned-bucket-in-loop-bucket
 bounds-assigned-bucket-in-loop-bucket c =
@@ -26,9 +26,8 @@ loop-bucket-preserved c =
     let l = c.loop-bucket in
     let e = c.agreed-agreed.ensures in (
       search rules,
-      search rules,
       assigned_turn l.bucket (λ g. (s.bucket g).last_primary) (λ g. (s.bucket g).last_backup) c.args.assigned.now l.assigned
-          c.agreed-agreed.result.last_primary c.agreed-agreed.result.last_backup (omega arith) l.invariant.2 (ap (λ (k : Agreed). k.last_primary) e)
+          c.agreed-agreed.result.last_primary c.agreed-agreed.result.last_backup (omega arith) l.invariant.1 (ap (λ (k : Agreed). k.last_primary) e)
           (ap (λ (k : Agreed). k.last_backup) e),
     )
 
@@ -39,4 +38,4 @@ returns c =
     let n = c.buckets-count.result in
     let e : l.bucket ≡ n = omega arith in
     last_pairs_are s c.args.settings (settings_are c.args.settings c.args.store.now c.requires.0) n c.buckets-count.ensures
-    c.args.assigned.now l.assigned (omega arith) (rw e at l.invariant.2)
+    c.args.assigned.now l.assigned (omega arith) (rw e at l.invariant.1)

@@ -1,5 +1,3 @@
-use mathlib.Core.Path.{◌≡◌}
-use Prim.Native.Nat.{◌-◌}
 use native.Mathlib.Omega.{arith}
 use lib.ListN.{length-take}
 use Rattle.rules.proofs.Limits.{few_buckets}
@@ -12,13 +10,11 @@ use Rattle.views.proofs.assigned.view_pairs.Goals as goal
 pub assign-requires : goal.assign-requires
 assign-requires c =
     let few = few_buckets c.args.settings in
-    (omega arith, omega (arith, few, c.buckets.ensures), omega (arith, length-take (c.up_ids-count.result - 0) c.up_ids-count.new.ids))
+    (omega arith, omega (arith, few, c.buckets.ensures), omega (arith, length-take c.up_ids-count.result c.up_ids-count.new.ids))
 
 pub returns : goal.returns
 returns c =
     let s = decode (words c.args.store.now) in
-    let n = c.up_ids-count.result in
-    let e : n - 0 ≡ n = omega arith in
     view_pairs_are s c.args.settings (settings_are c.args.settings c.args.store.now c.requires.0) c.buckets.result
     c.buckets.ensures
-    _ _ _ c.up_ids-count.ensures.1 c.last_pairs.ensures (rw e at c.assign.ensures)
+    _ _ _ c.up_ids-count.ensures.1 c.last_pairs.ensures c.assign.ensures

@@ -1,4 +1,3 @@
-use Prim.Native.Nat.{◌-◌, ◌≤◌}
 use Rattle.words.specs.Words.{words}
 use Rattle.rules.proofs.Ids.{Lowest}
 use Rattle.layout.specs.Store.{decode}
@@ -6,8 +5,4 @@ use Rattle.views.specs.Members.{ids}
 use Rattle.views.proofs.members.next_up.Given as goal
 
 abbrev pub invariant-loop-place : goal.invariant-loop-place
-invariant-loop-place l =
-    (l.place ≤ l.settings.places) × Lowest (decode (words l.store)).ids (decode (words l.store)).bricks.up l.from ids l.place l.least
-
-abbrev pub decreases-loop-place : goal.decreases-loop-place
-decreases-loop-place l = l.settings.places - l.place
+invariant-loop-place l = Lowest (decode (words l.store)).ids (decode (words l.store)).bricks.up l.from ids l.place l.least

@@ -21,7 +21,7 @@ loop-bucket-init c =
     let assigned = c.args.assigned.now in
     let n = c.buckets-count.result in
     let f = each_changed agreed_codec n blank_agreed (λ g. renewed (id_in assigned (2 * g)) (id_in assigned (2 * g + 1))) (words s) in
-    (search rules, search rules, loop_start agreed_codec agreed_law n f (words s) (length_words s ∙ omega arith))
+    (search rules, loop_start agreed_codec agreed_law n f (words s) (length_words s ∙ omega arith))
 
 pub renew-requires : goal.renew-requires
 renew-requires c =
@@ -38,9 +38,9 @@ loop-bucket-preserved c =
     let n : ℕ = o + 8 * 8 - o in
     let turn = change_turn agreed_codec agreed_law count blank_agreed (λ g. renewed (id_in assigned (2 * g)) (id_in assigned (2 * g + 1))) (words s0)
     (length_words s0 ∙ omega arith)
-    l.bucket (omega arith) l.part o n (omega arith) (omega arith) (omega arith) l.invariant.2 c.renew.new.part (omega arith)
+    l.bucket (omega arith) l.part o n (omega arith) (omega arith) (omega arith) l.invariant.1 c.renew.new.part (omega arith)
     c.renew.ensures in
-    (search rules, search rules, turn)
+    (search rules, turn)
 
 pub returns : goal.returns
 returns c =
@@ -49,6 +49,6 @@ returns c =
     let n = c.buckets-count.result in
     let pair : ℕ → Agreed → Agreed = λ g. renewed (id_in assigned (2 * g)) (id_in assigned (2 * g + 1)) in
     let e : c.loop-bucket.bucket ≡ n = omega arith in
-    rw e at c.loop-bucket.invariant.2
+    rw e at c.loop-bucket.invariant.1
     ∙ loop_end agreed_codec agreed_law n (each_changed agreed_codec n blank_agreed pair (words s0)) (words s0) (length_words s0 ∙ omega arith)
     ∙ ap (λ (m : ℕ). enc_many agreed_codec m (each_changed agreed_codec m blank_agreed pair (words s0)) (words s0)) c.buckets-count.ensures

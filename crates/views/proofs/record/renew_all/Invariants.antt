@@ -1,5 +1,5 @@
 use mathlib.Core.Path.{◌≡◌}
-use Prim.Native.Nat.{◌+◌, ◌*◌, ◌-◌, ◌≤◌}
+use Prim.Native.Nat.{◌+◌, ◌*◌}
 use lib.ListN.{length}
 use Rattle.rules.specs.Pairs.{id_in}
 use Rattle.words.specs.Words.{words}
@@ -12,10 +12,7 @@ use Rattle.views.proofs.record.renew_all.Given as goal
 
 abbrev pub invariant-loop-bucket : goal.invariant-loop-bucket
 invariant-loop-bucket l =
-    (l.bucket ≤ l.count) × (length l.part ≡ length l.initial.part)
+    (length l.part ≡ length l.initial.part)
     × (words l.part ≡ written agreed_codec l.bucket (each_changed agreed_codec l.count blank_agreed (λ g. renewed (id_in l.assigned (2 * g)) (id_in l.assigned (2 * g + 1)))
     (words l.initial.part))
     (words l.initial.part))
-
-abbrev pub decreases-loop-bucket : goal.decreases-loop-bucket
-decreases-loop-bucket l = l.count - l.bucket
