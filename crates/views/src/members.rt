@@ -23,7 +23,7 @@ fn up_within(store: &[u8], settings: Settings, from: u64, to: u64, place: usize)
     ensures { result ≡ up_within (decode (words store.now)) from to place }
 {
     let id = place::id(store, settings, place);
-    (from <= id) & (id < to) & place::is_up(store, settings, place)
+    from <= id && id < to && place::is_up(store, settings, place)
 }
 
 // The lowest id of an up brick from a number on.

@@ -17,5 +17,5 @@ pub returns : goal.returns
 returns c =
     let test : ℕ → Bool = stayed (decode (words c.args.store.now)) in
     let n = c.args.settings.places in
-    count_from_yields_List c.filter.result _ c.count.ensures.ran (YieldsList-from_filter _ test (YieldsList-from_range 0 n n c.filter.ensures.source (omega arith)) c.filter.ensures.closure (λ x b q k. search rules))
+    count_from_yields_List c.filter.result c.count.result c.count.ensures.ran (YieldsList-from_filter _ test (YieldsList-from_range 0 n n c.filter.ensures.source (omega arith)) c.filter.ensures.closure (λ x b q k. search rules))
     ∙ length-filter test (range_with_len 0 n) ∙ count-below n test
