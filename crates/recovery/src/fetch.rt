@@ -40,14 +40,8 @@ fn fetched(old: Agreed) -> Agreed
     ensures { agreed_of result ≡ fetched_record (agreed_of old) }
 {
     Agreed {
-        primary: old.primary,
-        backup: old.backup,
-        last_primary: old.last_primary,
-        last_backup: old.last_backup,
-        ready: old.ready,
         fetched: true,
-        last_sent: old.last_sent,
-        taken: old.taken,
+        ..old
     }
 }
 

@@ -13,6 +13,7 @@ use lent::brick::Found;
 use rules::settings::Settings;
 
 // The id of a bucket's source: the last ready primary if that is an up member, else the last ready backup if that is one, else 0.
+// stays: 0 is the source of none in rules::specs::Views::source, and in fetch::replace an Option would need a case that cannot be (a)
 pub fn find_source(store: &[u8], settings: Settings, bucket: usize) -> u64
     requires { StoreOf settings store.now × (bucket < buckets settings) }
     ensures { result ≡ source (decode (words store.now)) bucket }
@@ -27,13 +28,13 @@ pub fn find_source(store: &[u8], settings: Settings, bucket: usize) -> u64
     0
 }
 
-// The place of an up member. That it stands nowhere does not come about.
+// The place of an up member.
 pub fn place(store: &[u8], settings: Settings, id: u64) -> usize
     requires { StoreOf settings store.now × (up_member (decode (words store.now)) id ≡ true) }
     ensures { Stands settings (decode (words store.now)) id result }
 {
     match brick::find_member(store, settings, id) {
         Found::At(place) => place,
-        Found::Nowhere => 0,
+        Found::Nowhere => unreachable!(),
     }
 }

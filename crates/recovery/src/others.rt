@@ -30,19 +30,12 @@ fn drop_at(part: &mut [u8], settings: Settings, bucket: usize, primary: u64, bac
     ensures { words part.new ≡ change (place_codec settings) (dropped_copies bucket primary backup) (words part.old) }
 {
     let id = records::place::id(part, settings);
-    if id == 0 {
-        return;
-    }
-    if id == primary {
-        return;
-    }
-    if id == backup {
+    if id == 0 || id == primary || id == backup {
         return;
     }
     let status = records::place::read_status(part, settings);
     if status.up {
         empty(part, settings, bucket);
-        return;
     }
 }
 
@@ -54,8 +47,7 @@ pub fn drop_all(part: &mut [u8], settings: Settings, bucket: usize, primary: u64
 {
     let count = settings.places;
     let size = sizes::place_words(settings);
-    let mut place = 0;
-    while place < count {
+    for place in 0..count {
         let at = 8 * words::offset(place, size, count);
         drop_at(
             &mut part[at..at + 8 * size],
@@ -64,6 +56,5 @@ pub fn drop_all(part: &mut [u8], settings: Settings, bucket: usize, primary: u64
             primary,
             backup,
         );
-        place += 1;
     }
 }

@@ -52,14 +52,10 @@ fn readied(old: Agreed) -> Agreed
     ensures { agreed_of result ≡ ready_record (agreed_of old) }
 {
     Agreed {
-        primary: old.primary,
-        backup: old.backup,
         last_primary: old.primary,
         last_backup: old.backup,
         ready: true,
-        fetched: old.fetched,
-        last_sent: old.last_sent,
-        taken: old.taken,
+        ..old
     }
 }
 

@@ -7,13 +7,13 @@ use Rattle.layout.specs.Store.{decode}
 use Rattle.lent.specs.Places.{MemberAt}
 use Rattle.recovery.proofs.member.place.Goals as goal
 
-pub returns-in-At : goal.returns-in-At
-returns-in-At c =
+pub returns : goal.returns
+returns c =
     let m : MemberAt c.args.settings (decode (words c.args.store.now)) c.args.id c.in-At.place =
     rw c.in-At.is at c.find_member.ensures in
     m.stands
 
-pub returns-in-Nowhere : goal.returns-in-Nowhere
-returns-in-Nowhere c =
+pub unreachable-requires : goal.unreachable-requires
+unreachable-requires c =
     let n : up_member (decode (words c.args.store.now)) c.args.id ≡ false = rw c.in-Nowhere.is at c.find_member.ensures in
     clash n c.requires.1
