@@ -43,9 +43,8 @@ fn crash_place(part: &mut [u8], settings: Settings)
     let new = Status {
         up: false,
         member: false,
-        began: old.began,
         next: old.ceiling,
-        ceiling: old.ceiling,
+        ..old
     };
     records::place::write_status(part, settings, new);
     words::write(part, sizes::BUFFER_AT, 0);

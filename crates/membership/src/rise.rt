@@ -39,13 +39,7 @@ fn rise_place(part: &mut [u8], settings: Settings)
     ensures { words part.new ≡ change (place_codec settings) risen (words part.old) }
 {
     let old = records::place::read_status(part, settings);
-    let new = Status {
-        up: true,
-        member: old.member,
-        began: old.began,
-        next: old.next,
-        ceiling: old.ceiling,
-    };
+    let new = Status { up: true, ..old };
     records::place::write_status(part, settings, new);
 }
 
