@@ -17,18 +17,18 @@ use Rattle.rules.specs.Sound.{same_entries}
 use Rattle.layout.specs.Contents.{entry_row, Brick, blank_brick}
 use Rattle.layout.specs.Layout.{entries_codec}
 use Rattle.layout.specs.Store.{brick_in}
-use Rattle.lent.specs.declared.brick.Found.{Found}
-use Rattle.lent.specs.declared.brick.Found.TheVariants.{At, Nowhere}
+use Rattle.std.proofs.Common.{Option, Some, None}
 use Rattle.lent.specs.Places.{Stands, PlaceOf}
 use Rattle.lent.specs.Parts.{CopyPart}
 use Rattle.alike.specs.Alike.{same_primary}
 
--- ---- where a look-up found the brick
-pub stands : {c : Settings} {s : State} {id place : ℕ} {r : Found} → r ≡ At place → PlaceOf c s id r → Stands c s id place
-stands {c} {s} {id} e h = subst (PlaceOf c s id) e h
+-- ---- where a look-up found a bucket's primary
+module _ (c : Settings) (s : State) (g : ℕ) where
+  pub stands : {place : ℕ} {r : Option ℕ} → r ≡ Some place → PlaceOf c s (s.bucket g).primary r → Stands c s (s.bucket g).primary place
+  stands e h = subst (PlaceOf c s (s.bucket g).primary) e h
 
-pub nowhere : (c : Settings) (s : State) (id : ℕ) {r : Found} → r ≡ Nowhere → PlaceOf c s id r → brick_in s id ≡ blank_brick
-nowhere c s id e h = subst (PlaceOf c s id) e h
+  pub nowhere : {r : Option ℕ} → r ≡ None → PlaceOf c s (s.bucket g).primary r → brick_in s (s.bucket g).primary ≡ blank_brick
+  nowhere e h = subst (PlaceOf c s (s.bucket g).primary) e h
 
 -- a place that holds a brick is not empty
 pub holds : {c : Settings} {s : State} {id place : ℕ} → Stands c s id place → 0 < s.ids place

@@ -16,7 +16,6 @@ ghost use Rattle.alike.specs.Alike.{member_in, same_primary, Two, alike_answer};
 
 pub mod for_c;
 
-use lent::brick::Found;
 use lent::{brick, bucket, place, store};
 use rules::refusal::Refusal;
 use rules::settings::Settings;
@@ -62,7 +61,7 @@ fn members_in(one: &[u8], other: &[u8], settings: Settings) -> bool
 // ---- what the primaries have in memory
 
 // The place of a bucket's primary.
-fn primary_place(one: &[u8], settings: Settings, bucket: usize) -> Found
+fn primary_place(one: &[u8], settings: Settings, bucket: usize) -> Option<usize>
     requires { StoreOf settings one.now × (bucket < buckets settings) }
     ensures { PlaceOf settings (decode (words one.now)) ((decode (words one.now)).bucket bucket).primary result }
 {
@@ -84,17 +83,17 @@ fn same_memory(one: &[u8], other: &[u8], settings: Settings, bucket: usize) -> b
     ensures { result ≡ same_primary (decode (words one.now)) (decode (words other.now)) bucket }
 {
     match primary_place(one, settings, bucket) {
-        Found::At(first) => match primary_place(other, settings, bucket) {
-            Found::At(second) => entries::same(
+        Some(first) => match primary_place(other, settings, bucket) {
+            Some(second) => entries::same(
                 place::memory(one, settings, first, bucket),
                 place::memory(other, settings, second, bucket),
                 settings.entries,
             ),
-            Found::Nowhere => none_there(one, settings, first, bucket),
+            None => none_there(one, settings, first, bucket),
         },
-        Found::Nowhere => match primary_place(other, settings, bucket) {
-            Found::At(second) => none_there(other, settings, second, bucket),
-            Found::Nowhere => true,
+        None => match primary_place(other, settings, bucket) {
+            Some(second) => none_there(other, settings, second, bucket),
+            None => true,
         },
     }
 }

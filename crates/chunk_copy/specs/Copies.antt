@@ -1,12 +1,10 @@
 -- copy: what its functions find, and whether there is room.
-use Rattle.std.specs.Prelude.{◌≡◌, Bool, true, false, ℕ, ltb, length}
+use Rattle.std.specs.Prelude.{◌≡◌, Bool, true, false, ℕ, ltb, length, Option, Some, None}
 use Rattle.lists.specs.Tests.{◌or◌}
 use Rattle.rules.specs.declared.settings.Settings.{Settings}
 use Rattle.rules.specs.Chunks.{held}
 use Rattle.rules.specs.State.{State}
 use Rattle.rules.specs.Writes.{target, nothing_to_copy}
-use Rattle.lent.specs.declared.brick.Found.{Found}
-use Rattle.lent.specs.declared.brick.Found.TheVariants.{At, Nowhere}
 use Rattle.lent.specs.Places.{Stands}
 
 -- ---- what is found
@@ -15,9 +13,9 @@ pub record Lacking (c : Settings) (s : State) (id key place : ℕ) : Type 0 wher
   pub at : Stands c s id place
   pub lacks : held (s.bricks.log id) key ≡ false
 
-abbrev pub CopiedTo : Settings → State → ℕ → Found → Type 0
-CopiedTo c s key (At place) = Lacking c s (target s key) key place
-CopiedTo c s key (Nowhere) = nothing_to_copy s key ≡ true
+abbrev pub CopiedTo : Settings → State → ℕ → Option ℕ → Type 0
+CopiedTo c s key (Some place) = Lacking c s (target s key) key place
+CopiedTo c s key (None) = nothing_to_copy s key ≡ true
 
 -- nothing to copy, or room for it
 abbrev pub has_room : State → ℕ → Bool

@@ -13,7 +13,6 @@ ghost use Rattle.lent.specs.Performs.{Performs};
 ghost use Rattle.lent.specs.Stores.{StoreOf};
 ghost use Rattle.chunk_copy.specs.Copies.{CopiedTo, has_room};
 
-use lent::brick::Found;
 use lent::{Answer, brick, place};
 use rules::numbers::ChunkKey;
 use rules::settings::Settings;
@@ -21,18 +20,18 @@ use rules::settings::Settings;
 // ---- questions
 
 // The place of the member that gets the chunk: nowhere if there is none, or if it holds the chunk.
-fn copied_to(store: &[u8], settings: Settings, key: ChunkKey) -> Found
+fn copied_to(store: &[u8], settings: Settings, key: ChunkKey) -> Option<usize>
     requires { StoreOf settings store.now }
     ensures { CopiedTo settings (decode (words store.now)) key.0 result }
 {
     match holders::target(store, settings, key) {
-        Found::At(target) => {
+        Some(target) => {
             if holders::holds_at(store, settings, target, key) {
-                return Found::Nowhere;
+                return None;
             }
-            Found::At(target)
+            Some(target)
         }
-        Found::Nowhere => Found::Nowhere,
+        None => None,
     }
 }
 
@@ -42,8 +41,8 @@ fn has_room(store: &[u8], settings: Settings, key: ChunkKey) -> bool
     ensures { result ≡ has_room (decode (words store.now)) key.0 }
 {
     match copied_to(store, settings, key) {
-        Found::At(place) => place::chunk_count(store, settings, place) < settings.chunks as u64,
-        Found::Nowhere => true,
+        Some(place) => place::chunk_count(store, settings, place) < settings.chunks as u64,
+        None => true,
     }
 }
 
@@ -53,8 +52,8 @@ fn is_held(store: &[u8], settings: Settings, id: u64, key: ChunkKey) -> bool
     ensures { result ≡ held ((decode (words store.now)).bricks.log id) key.0 }
 {
     match brick::place_of(store, settings, id) {
-        Found::At(place) => holders::holds_at(store, settings, place, key),
-        Found::Nowhere => false,
+        Some(place) => holders::holds_at(store, settings, place, key),
+        None => false,
     }
 }
 
@@ -85,10 +84,10 @@ fn effect(store: &mut [u8], settings: Settings, key: ChunkKey)
     requires { StoreOf settings store.old × AllYes (copy_asks (decode (words store.old)) key.0) }
     ensures { words store.new ≡ render (copy_effect (decode (words store.old)) key.0) (words store.old) }
 {
-    let Found::At(target) = copied_to(store, settings, key) else {
+    let Some(target) = copied_to(store, settings, key) else {
         return;
     };
-    let Found::At(home) = brick::place_of(store, settings, key.home()) else {
+    let Some(home) = brick::place_of(store, settings, key.home()) else {
         return;
     };
     let Some(row) = holders::find_at(store, settings, home, key) else {

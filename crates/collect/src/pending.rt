@@ -7,7 +7,6 @@ ghost use Rattle.rules.specs.Sound.{same_entries};
 ghost use Rattle.layout.specs.Store.{decode};
 ghost use Rattle.lent.specs.Stores.{StoreOf};
 
-use lent::brick::Found;
 use lent::{brick, bucket, place};
 use rules::settings::Settings;
 
@@ -18,12 +17,12 @@ fn settled(store: &[u8], settings: Settings, bucket: usize, id: u64) -> bool
         (((decode (words store.now)).bucket bucket).disk id) }
 {
     match brick::place_of(store, settings, id) {
-        Found::At(place) => entries::same(
+        Some(place) => entries::same(
             place::memory(store, settings, place, bucket),
             place::disk(store, settings, place, bucket),
             settings.entries,
         ),
-        Found::Nowhere => true,
+        None => true,
     }
 }
 
@@ -33,8 +32,8 @@ fn clear(store: &[u8], settings: Settings, bucket: usize, id: u64) -> bool
     ensures { result ≡ same_entries [] (((decode (words store.now)).bucket bucket).memory id) }
 {
     match brick::place_of(store, settings, id) {
-        Found::At(place) => words::read(place::memory(store, settings, place, bucket), 0) == 0,
-        Found::Nowhere => true,
+        Some(place) => words::read(place::memory(store, settings, place, bucket), 0) == 0,
+        None => true,
     }
 }
 
@@ -44,10 +43,10 @@ fn same_memory(store: &[u8], settings: Settings, bucket: usize, one: u64, two: u
     ensures { result ≡ same_entries (((decode (words store.now)).bucket bucket).memory one)
         (((decode (words store.now)).bucket bucket).memory two) }
 {
-    let Found::At(first) = brick::place_of(store, settings, one) else {
+    let Some(first) = brick::place_of(store, settings, one) else {
         return clear(store, settings, bucket, two);
     };
-    let Found::At(second) = brick::place_of(store, settings, two) else {
+    let Some(second) = brick::place_of(store, settings, two) else {
         return clear(store, settings, bucket, one);
     };
     entries::same(

@@ -17,8 +17,7 @@ use Rattle.rules.specs.Derived.{members, members_from}
 use Rattle.rules.specs.Upkeep.{of_first_two}
 use Rattle.rules.specs.Writes.{other_than, target}
 use Rattle.layout.specs.Store.{decode}
-use Rattle.lent.specs.declared.brick.Found.{Found}
-use Rattle.lent.specs.declared.brick.Found.TheVariants.{At, Nowhere}
+use Rattle.std.proofs.Common.{Option, Some, None}
 use Rattle.lent.specs.Stores.{StoreOf}
 use Rattle.lent.specs.Places.{Stands}
 use Rattle.lent.proofs.Stores.{facts}
@@ -99,16 +98,16 @@ module _ (c : Settings) (bs : List ℕ) (v : StoreOf c bs) (k home : ℕ) (e : h
       ∙ other_first id (round (decode (words bs)) (suc id) home) (λ z. omega (arith, m.low)) in
       record { inside = n.inside; some = rw same n.some; here = sym same }
 
-  pub target_below : between (decode (words bs)) (home + 1) ids ≡ [] → (r : Found) → NextIn c (decode (words bs)) 0 home r
+  pub target_below : between (decode (words bs)) (home + 1) ids ≡ [] → (r : Option ℕ) → NextIn c (decode (words bs)) 0 home r
       → Chosen c (decode (words bs)) (target (decode (words bs)) k) r
-  target_below z (At p) n =
+  target_below z (Some p) n =
       let id : ℕ = (decode (words bs)).ids p in
       let none : between (decode (words bs)) (suc home) ids ≡ [] = rw (add-one home) at z in
       let same : target (decode (words bs)) k ≡ id =
       is_other ∙ ap (other_than home) (round_none c (decode (words bs)) (suc home) home none ∙ n.list)
       ∙ other_first id (between (decode (words bs)) (suc id) home) (λ z. omega (arith, n.high)) in
       record { inside = n.inside; some = rw same n.some; here = sym same }
-  target_below z (Nowhere) n =
+  target_below z (None) n =
       let none : between (decode (words bs)) (suc home) ids ≡ [] = rw (add-one home) at z in
       is_other ∙ ap (other_than home) (round_none c (decode (words bs)) (suc home) home none ∙ n) ∙ empty
     where

@@ -1,13 +1,11 @@
 -- Members in the order of their ids, and a brick that code has chosen, by its place.
-use Rattle.std.specs.Prelude.{◌≡◌, List, [], ◌∷◌, ◌++◌, Bool, true, false, ℕ, suc, ◌≤◌, ◌<◌, eqb}
+use Rattle.std.specs.Prelude.{◌≡◌, List, [], ◌∷◌, ◌++◌, Bool, true, false, ℕ, suc, ◌≤◌, ◌<◌, eqb, Option, Some, None}
 use Rattle.lists.specs.Tests.{◌and◌, only, within}
 use Rattle.rules.specs.declared.settings.Settings.{Settings}
 use Rattle.rules.specs.Limits.{max_id}
 use Rattle.rules.specs.Chunks.{saved_in}
 use Rattle.rules.specs.State.{State}
 use Rattle.rules.specs.Derived.{members}
-use Rattle.lent.specs.declared.brick.Found.{Found}
-use Rattle.lent.specs.declared.brick.Found.TheVariants.{At, Nowhere}
 use Rattle.lent.specs.Places.{Stands}
 use Rattle.chunk_log.specs.Answers.{FoundAt}
 use Rattle.holders.specs.declared.Location.{Location}
@@ -34,14 +32,14 @@ pub record NextAt (settings : Settings) (s : State) (from to place : ℕ) : Type
   pub member : s.bricks.member (s.ids place) ≡ true
   pub list : between s from to ≡ s.ids place ∷ between s (suc (s.ids place)) to
 
-abbrev pub NextIn : Settings → State → ℕ → ℕ → Found → Type 0
-NextIn settings s from to (At place) = NextAt settings s from to place
-NextIn settings s from to (Nowhere) = between s from to ≡ []
+abbrev pub NextIn : Settings → State → ℕ → ℕ → Option ℕ → Type 0
+NextIn settings s from to (Some place) = NextAt settings s from to place
+NextIn settings s from to (None) = between s from to ≡ []
 
 -- the place of the brick with an id; id 0 is none
-abbrev pub Chosen : Settings → State → ℕ → Found → Type 0
-Chosen settings s id (At place) = Stands settings s id place
-Chosen settings s id (Nowhere) = id ≡ 0
+abbrev pub Chosen : Settings → State → ℕ → Option ℕ → Type 0
+Chosen settings s id (Some place) = Stands settings s id place
+Chosen settings s id (None) = id ≡ 0
 
 -- the brick with an id stands at the place, and the chunk lies in this row of its log
 pub record LiesAt (settings : Settings) (s : State) (id key place row : ℕ) : Type 0 where
@@ -63,9 +61,9 @@ pub record NextSavedAt (settings : Settings) (s : State) (key from place : ℕ) 
   pub low : from ≤ place
   pub before : (p : ℕ) → p < place → from ≤ p → member_saved s key p ≡ false
 
-abbrev pub NextSaved : Settings → State → ℕ → ℕ → Found → Type 0
-NextSaved settings s key from (At place) = NextSavedAt settings s key from place
-NextSaved settings s key from (Nowhere) = (p : ℕ) → p < settings.places → from ≤ p → member_saved s key p ≡ false
+abbrev pub NextSaved : Settings → State → ℕ → ℕ → Option ℕ → Type 0
+NextSaved settings s key from (Some place) = NextSavedAt settings s key from place
+NextSaved settings s key from (None) = (p : ℕ) → p < settings.places → from ≤ p → member_saved s key p ≡ false
 
 -- the members from an id upward, and after them those from the lowest id to below the home id
 abbrev pub round : State → ℕ → ℕ → List ℕ

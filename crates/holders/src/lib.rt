@@ -16,7 +16,6 @@ ghost use Rattle.lent.specs.Stores.{StoreOf};
 ghost use Rattle.holders.specs.Members.{between, member_within, NextIn, Chosen, LiesWith, member_saved, NextSaved, round, begins_with};
 
 use layout::sizes;
-use lent::brick::Found;
 use lent::place;
 use rules::constants;
 use rules::numbers::ChunkKey;
@@ -37,7 +36,7 @@ fn member_within(store: &[u8], settings: Settings, from: u64, to: u64, place: us
 }
 
 // The place of the first member with an id from one number to below another.
-pub fn next_member(store: &[u8], settings: Settings, from: u64, to: u64) -> Found
+pub fn next_member(store: &[u8], settings: Settings, from: u64, to: u64) -> Option<usize>
     requires { StoreOf settings store.now }
     ensures { NextIn settings (decode (words store.now)) from to result }
 {
@@ -52,9 +51,9 @@ pub fn next_member(store: &[u8], settings: Settings, from: u64, to: u64) -> Foun
         place += 1;
     }
     if at < settings.places {
-        return Found::At(at);
+        return Some(at);
     }
-    Found::Nowhere
+    None
 }
 
 // ---- chunks
@@ -123,7 +122,7 @@ fn first_holder(store: &[u8], settings: Settings, key: ChunkKey, from: u64, to: 
 {
     let mut low = from;
     while low < to {
-        let Found::At(place) = next_member(store, settings, low, to) else {
+        let Some(place) = next_member(store, settings, low, to) else {
             return Location::Nowhere;
         };
         if let Some(row) = find_at(store, settings, place, key) {
@@ -158,18 +157,18 @@ fn member_saved(store: &[u8], settings: Settings, place: usize, key: ChunkKey) -
 }
 
 // The first place from one on whose member has the chunk saved.
-fn next_saved(store: &[u8], settings: Settings, key: ChunkKey, from: usize) -> Found
+fn next_saved(store: &[u8], settings: Settings, key: ChunkKey, from: usize) -> Option<usize>
     requires { StoreOf settings store.now }
     ensures { NextSaved settings (decode (words store.now)) key.0 from result }
 {
     let mut place = from;
     while place < settings.places {
         if member_saved(store, settings, place, key) {
-            return Found::At(place);
+            return Some(place);
         }
         place += 1;
     }
-    Found::Nowhere
+    None
 }
 
 // Is the chunk saved at two members?
@@ -178,25 +177,25 @@ pub fn saved_twice(store: &[u8], settings: Settings, key: ChunkKey) -> bool
     ensures { result ≡ saved_twice (decode (words store.now)) key.0 }
 {
     match next_saved(store, settings, key, 0) {
-        Found::At(first) => match next_saved(store, settings, key, first + 1) {
-            Found::At(_) => true,
-            Found::Nowhere => false,
+        Some(first) => match next_saved(store, settings, key, first + 1) {
+            Some(_) => true,
+            None => false,
         },
-        Found::Nowhere => false,
+        None => false,
     }
 }
 
 // ---- the members from the home id upward, circularly
 
 // The place that a copy goes to: that of the next other member by id from the home brick, circularly.
-pub fn target(store: &[u8], settings: Settings, key: ChunkKey) -> Found
+pub fn target(store: &[u8], settings: Settings, key: ChunkKey) -> Option<usize>
     requires { StoreOf settings store.now }
     ensures { Chosen settings (decode (words store.now)) (target (decode (words store.now)) key.0) result }
 {
     let home = key.home();
     match next_member(store, settings, home + 1, IDS) {
-        Found::At(place) => Found::At(place),
-        Found::Nowhere => next_member(store, settings, 0, home),
+        Some(place) => Some(place),
+        None => next_member(store, settings, 0, home),
     }
 }
 
@@ -206,8 +205,8 @@ fn is_first(store: &[u8], settings: Settings, id: u64, from: u64, to: u64) -> bo
     ensures { result ≡ begins_with id (between (decode (words store.now)) from to) }
 {
     match next_member(store, settings, from, to) {
-        Found::At(place) => place::id(store, settings, place) == id,
-        Found::Nowhere => false,
+        Some(place) => place::id(store, settings, place) == id,
+        None => false,
     }
 }
 
@@ -217,8 +216,8 @@ fn is_first_round(store: &[u8], settings: Settings, id: u64, from: u64, home: u6
     ensures { result ≡ begins_with id (round (decode (words store.now)) from home) }
 {
     match next_member(store, settings, from, IDS) {
-        Found::At(place) => place::id(store, settings, place) == id,
-        Found::Nowhere => is_first(store, settings, id, 0, home),
+        Some(place) => place::id(store, settings, place) == id,
+        None => is_first(store, settings, id, 0, home),
     }
 }
 
@@ -228,14 +227,14 @@ fn of_two(store: &[u8], settings: Settings, id: u64, from: u64, to: u64) -> bool
     ensures { result ≡ of_first_two id (between (decode (words store.now)) from to) }
 {
     match next_member(store, settings, from, to) {
-        Found::At(place) => {
+        Some(place) => {
             let first = place::id(store, settings, place);
             if first == id {
                 return true;
             }
             is_first(store, settings, id, first + 1, to)
         }
-        Found::Nowhere => false,
+        None => false,
     }
 }
 
@@ -246,13 +245,13 @@ pub fn of_first_two(store: &[u8], settings: Settings, id: u64, key: ChunkKey) ->
 {
     let home = key.home();
     match next_member(store, settings, home, IDS) {
-        Found::At(place) => {
+        Some(place) => {
             let first = place::id(store, settings, place);
             if first == id {
                 return true;
             }
             is_first_round(store, settings, id, first + 1, home)
         }
-        Found::Nowhere => of_two(store, settings, id, 0, home),
+        None => of_two(store, settings, id, 0, home),
     }
 }

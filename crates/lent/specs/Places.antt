@@ -1,5 +1,5 @@
 -- Where a brick stands, and the bytes of a place.
-use Rattle.std.specs.Prelude.{◌≡◌, List, true, false, ℕ, ◌+◌, ◌*◌, ◌/◌, ◌≤◌, ◌<◌, length, get_or}
+use Rattle.std.specs.Prelude.{◌≡◌, List, true, false, ℕ, ◌+◌, ◌*◌, ◌/◌, ◌≤◌, ◌<◌, length, get_or, Option, Some, None}
 use Rattle.lists.specs.Runs.{run}
 use Rattle.words.specs.Words.{words}
 use Rattle.rules.specs.declared.settings.Settings.{Settings}
@@ -13,8 +13,6 @@ use Rattle.codec.specs.Codec.{Clean, ◌&◌}
 use Rattle.layout.specs.Contents.{Place, blank_brick}
 use Rattle.layout.specs.Layout.{word_bytes, place_codec, all_places_codec, copy_words, log_words, place_words, place_at, copies_at, log_at, place_part}
 use Rattle.layout.specs.Store.{brick_in, store_bytes}
-use Rattle.lent.specs.declared.brick.Found.{Found}
-use Rattle.lent.specs.declared.brick.Found.TheVariants.{At, Nowhere}
 
 -- ---- where a brick stands
 -- the place holds the brick with this id
@@ -24,18 +22,18 @@ pub record Stands (settings : Settings) (s : State) (id place : ℕ) : Type 0 wh
   pub here : s.ids place ≡ id
 
 -- a place that holds the brick; where there is none, all of the brick is blank
-abbrev pub PlaceOf : Settings → State → ℕ → Found → Type 0
-PlaceOf settings s id (At place) = Stands settings s id place
-PlaceOf settings s id (Nowhere) = brick_in s id ≡ blank_brick
+abbrev pub PlaceOf : Settings → State → ℕ → Option ℕ → Type 0
+PlaceOf settings s id (Some place) = Stands settings s id place
+PlaceOf settings s id (None) = brick_in s id ≡ blank_brick
 
 -- a place that holds it as an up member
 pub record MemberAt (settings : Settings) (s : State) (id place : ℕ) : Type 0 where
   pub stands : Stands settings s id place
   pub up : up_member s id ≡ true
 
-abbrev pub MemberOf : Settings → State → ℕ → Found → Type 0
-MemberOf settings s id (At place) = MemberAt settings s id place
-MemberOf settings s id (Nowhere) = up_member s id ≡ false
+abbrev pub MemberOf : Settings → State → ℕ → Option ℕ → Type 0
+MemberOf settings s id (Some place) = MemberAt settings s id place
+MemberOf settings s id (None) = up_member s id ≡ false
 
 -- ---- the bytes of a place
 -- lent to be read

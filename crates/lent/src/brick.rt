@@ -9,29 +9,22 @@ ghost use Rattle.lent.specs.Places.{PlaceOf, MemberOf};
 use crate::place;
 use rules::settings::Settings;
 
-// The place that holds a brick.
-#[derive(Clone, Copy)]
-pub enum Found {
-    At(usize),
-    Nowhere,
-}
-
 // The place of the brick with an id.
-pub fn place_of(store: &[u8], settings: Settings, id: u64) -> Found
+pub fn place_of(store: &[u8], settings: Settings, id: u64) -> Option<usize>
     requires { StoreOf settings store.now }
     ensures { PlaceOf settings (decode (words store.now)) id result }
 {
     if id == 0 {
-        return Found::Nowhere;
+        return None;
     }
     let mut p = 0;
     while p < settings.places {
         if place::id(store, settings, p) == id {
-            return Found::At(p);
+            return Some(p);
         }
         p += 1;
     }
-    Found::Nowhere
+    None
 }
 
 // Is the brick an up member?
@@ -40,23 +33,23 @@ pub fn up_member(store: &[u8], settings: Settings, id: u64) -> bool
     ensures { result ≡ up_member (decode (words store.now)) id }
 {
     match place_of(store, settings, id) {
-        Found::At(place) => place::up_member(store, settings, place),
-        Found::Nowhere => false,
+        Some(place) => place::up_member(store, settings, place),
+        None => false,
     }
 }
 
 // The place of the brick, if it is an up member.
-pub fn find_member(store: &[u8], settings: Settings, id: u64) -> Found
+pub fn find_member(store: &[u8], settings: Settings, id: u64) -> Option<usize>
     requires { StoreOf settings store.now }
     ensures { MemberOf settings (decode (words store.now)) id result }
 {
     match place_of(store, settings, id) {
-        Found::At(place) => {
+        Some(place) => {
             if place::up_member(store, settings, place) {
-                return Found::At(place);
+                return Some(place);
             }
-            Found::Nowhere
+            None
         }
-        Found::Nowhere => Found::Nowhere,
+        None => None,
     }
 }

@@ -8,7 +8,6 @@ ghost use Rattle.lent.specs.Stores.{StoreOf};
 ghost use Rattle.mappings.specs.Copies.{with_waiting};
 
 use layout::sizes;
-use lent::brick::Found;
 use lent::{brick, place};
 use rules::constants;
 use rules::numbers::{BlockNumber, ChunkKey};
@@ -20,12 +19,12 @@ pub fn has(store: &[u8], settings: Settings, id: u64, block: BlockNumber) -> boo
     ensures { result ≡ has ((decode (words store.now)).bricks.buffer id) block.0 }
 {
     match brick::place_of(store, settings, id) {
-        Found::At(place) => entries::waits(
+        Some(place) => entries::waits(
             place::buffer(store, settings, place),
             constants::MAX_WAITING,
             block,
         ),
-        Found::Nowhere => false,
+        None => false,
     }
 }
 
@@ -35,10 +34,10 @@ pub fn has_room(store: &[u8], settings: Settings, id: u64) -> bool
     ensures { result ≡ ltb (length ((decode (words store.now)).bricks.buffer id)) max_waiting }
 {
     match brick::place_of(store, settings, id) {
-        Found::At(place) => {
+        Some(place) => {
             words::read(place::buffer(store, settings, place), 0) < constants::MAX_WAITING as u64
         }
-        Found::Nowhere => true,
+        None => true,
     }
 }
 

@@ -8,7 +8,6 @@ ghost use Rattle.lent.specs.Stores.{StoreOf};
 ghost use Rattle.mappings.specs.Copies.{with_entry};
 
 use layout::sizes;
-use lent::brick::Found;
 use lent::{brick, copies, place};
 use rules::numbers::{BlockNumber, ChunkKey};
 use rules::settings::Settings;
@@ -24,12 +23,12 @@ pub fn index_of(
     requires { StoreOf settings store.now × (bucket < buckets settings) }
 {
     match brick::place_of(store, settings, id) {
-        Found::At(place) => entries::index_of(
+        Some(place) => entries::index_of(
             place::memory(store, settings, place, bucket),
             settings.entries,
             block,
         ),
-        Found::Nowhere => 0,
+        None => 0,
     }
 }
 
@@ -46,13 +45,13 @@ pub fn in_memory(
     ensures { result.0 ≡ key_for (((decode (words store.now)).bucket bucket).memory id) block.0 }
 {
     match brick::place_of(store, settings, id) {
-        Found::At(place) => entries::key_near(
+        Some(place) => entries::key_near(
             place::memory(store, settings, place, bucket),
             settings.entries,
             block,
             guess,
         ),
-        Found::Nowhere => ChunkKey(0),
+        None => ChunkKey(0),
     }
 }
 
@@ -68,13 +67,13 @@ pub fn on_disk(
     ensures { result.0 ≡ key_for (((decode (words store.now)).bucket bucket).disk id) block.0 }
 {
     match brick::place_of(store, settings, id) {
-        Found::At(place) => entries::key_near(
+        Some(place) => entries::key_near(
             place::disk(store, settings, place, bucket),
             settings.entries,
             block,
             guess,
         ),
-        Found::Nowhere => ChunkKey(0),
+        None => ChunkKey(0),
     }
 }
 
@@ -84,12 +83,12 @@ pub fn has(store: &[u8], settings: Settings, bucket: usize, id: u64, block: Bloc
     ensures { result ≡ has (((decode (words store.now)).bucket bucket).memory id) block.0 }
 {
     match brick::place_of(store, settings, id) {
-        Found::At(place) => entries::has(
+        Some(place) => entries::has(
             place::memory(store, settings, place, bucket),
             settings.entries,
             block,
         ),
-        Found::Nowhere => false,
+        None => false,
     }
 }
 
@@ -99,12 +98,12 @@ pub fn takes(store: &[u8], settings: Settings, bucket: usize, id: u64, block: Bl
     ensures { result ≡ takes settings.entries (((decode (words store.now)).bucket bucket).memory id) block.0 }
 {
     match brick::place_of(store, settings, id) {
-        Found::At(place) => entries::takes(
+        Some(place) => entries::takes(
             place::memory(store, settings, place, bucket),
             settings.entries,
             block,
         ),
-        Found::Nowhere => true,
+        None => true,
     }
 }
 

@@ -10,7 +10,6 @@ ghost use Rattle.lent.specs.Performs.{Performs};
 ghost use Rattle.lent.specs.Stores.{StoreOf};
 ghost use Rattle.maps.specs.Asks.{room_asks, item_asks, Mappable};
 
-use lent::brick::Found;
 use lent::{Answer, brick, bucket, proxy};
 use mappings::{asks, block, buffer, copy};
 use rules::numbers::BlockNumber;
@@ -78,7 +77,7 @@ fn enter(store: &mut [u8], settings: Settings, proxy: usize, block: BlockNumber)
     let key = proxy::item(store, settings, proxy, block);
     let bucket = bucket::number(settings, block);
     let agreed = bucket::agreed(store, settings, bucket);
-    let Found::At(place) = brick::place_of(store, settings, agreed.primary) else {
+    let Some(place) = brick::place_of(store, settings, agreed.primary) else {
         return;
     };
     if agreed.ready {

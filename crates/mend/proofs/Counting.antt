@@ -17,7 +17,7 @@ use Rattle.words.proofs.Laws.{length_words}
 use Rattle.rules.specs.declared.settings.Settings.{Settings}
 use Rattle.rules.specs.Limits.{buckets}
 use Rattle.rules.specs.Entries.{Entry}
-use Rattle.rules.specs.Chunks.{Chunk, held}
+use Rattle.rules.specs.Chunks.{Chunk}
 use Rattle.rules.specs.State.{State}
 use Rattle.rules.specs.Upkeep.{mend_buckets, mended}
 use Rattle.chunk_log.proofs.Codec.{dec_length}

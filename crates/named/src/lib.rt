@@ -10,7 +10,6 @@ ghost use Rattle.lent.specs.Stores.{StoreOf};
 ghost use Rattle.named.specs.Tables.{EntriesAt, named, AllNamed};
 
 use layout::sizes;
-use lent::brick::Found;
 use lent::{brick, bucket, place};
 use rules::settings::Settings;
 
@@ -20,8 +19,8 @@ fn memory_at(store: &[u8], settings: Settings, bucket: usize, id: u64) -> usize
     ensures { EntriesAt settings (words store.now) bucket (((decode (words store.now)).bucket bucket).memory id) result }
 {
     match brick::place_of(store, settings, id) {
-        Found::At(place) => sizes::place_at(settings, place) + place::memory_at(settings, bucket),
-        Found::Nowhere => 0,
+        Some(place) => sizes::place_at(settings, place) + place::memory_at(settings, bucket),
+        None => 0,
     }
 }
 

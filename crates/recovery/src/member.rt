@@ -9,7 +9,6 @@ ghost use Rattle.lent.specs.Stores.{StoreOf};
 ghost use Rattle.lent.specs.Places.{Stands};
 
 use lent::brick;
-use lent::brick::Found;
 use rules::settings::Settings;
 
 // The id of a bucket's source: the last ready primary if that is an up member, else the last ready backup if that is one, else 0.
@@ -34,7 +33,7 @@ pub fn place(store: &[u8], settings: Settings, id: u64) -> usize
     ensures { Stands settings (decode (words store.now)) id result }
 {
     match brick::find_member(store, settings, id) {
-        Found::At(place) => place,
-        Found::Nowhere => unreachable!(),
+        Some(place) => place,
+        None => unreachable!(),
     }
 }

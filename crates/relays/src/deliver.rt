@@ -13,7 +13,6 @@ ghost use Rattle.relays.specs.Asks.{take_asks};
 use crate::relay;
 use crate::relay::Relay;
 use layout::sizes;
-use lent::brick::Found;
 use lent::{Answer, brick, bucket};
 use mappings::{block, copy};
 use rules::settings::Settings;
@@ -52,7 +51,7 @@ fn take(store: &mut [u8], settings: Settings, index: usize, relay: Relay)
 {
     let bucket = bucket::number(settings, relay.block);
     let agreed = bucket::agreed(store, settings, bucket);
-    let Found::At(place) = brick::place_of(store, settings, agreed.backup) else {
+    let Some(place) = brick::place_of(store, settings, agreed.backup) else {
         return;
     };
     copy::insert(store, settings, place, bucket, relay.block, relay.key);

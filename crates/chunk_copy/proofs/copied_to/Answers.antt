@@ -12,26 +12,26 @@ target-requires c = c.requires
 pub holds_at-requires : goal.holds_at-requires
 holds_at-requires c =
     let found : let s = decode (words c.args.store.now) in
-    Stands c.args.settings s (target s c.args.key.0) c.in-At.target = rw c.in-At.is at c.target.ensures in
+    Stands c.args.settings s (target s c.args.key.0) c.in-Some.target = rw c.in-Some.is at c.target.ensures in
     let at = found in
     (c.requires, at.inside, rw at.here at.some)
 
 pub returns-then-holds_at : goal.returns-then-holds_at
 returns-then-holds_at c =
     let found : let s = decode (words c.args.store.now) in
-    Stands c.args.settings s (target s c.args.key.0) c.in-At.target = rw c.in-At.is at c.target.ensures in
+    Stands c.args.settings s (target s c.args.key.0) c.in-Some.target = rw c.in-Some.is at c.target.ensures in
     target_holds c.args.settings (decode (words c.args.store.now)) c.args.key.0 _ (found)
     (sym c.holds_at.ensures ∙ c.if-holds_at.true)
 
 pub returns-else-holds_at : goal.returns-else-holds_at
 returns-else-holds_at c =
     let found : let s = decode (words c.args.store.now) in
-    Stands c.args.settings s (target s c.args.key.0) c.in-At.target = rw c.in-At.is at c.target.ensures in
+    Stands c.args.settings s (target s c.args.key.0) c.in-Some.target = rw c.in-Some.is at c.target.ensures in
     let at = found in
     record { at = at; lacks = rw at.here at (sym c.holds_at.ensures ∙ c.if-holds_at.false) }
 
-pub returns-in-Nowhere : goal.returns-in-Nowhere
-returns-in-Nowhere c =
+pub returns-in-None : goal.returns-in-None
+returns-in-None c =
     let s = decode (words c.args.store.now) in
-    let none : target s c.args.key.0 ≡ 0 = rw c.in-Nowhere.is at c.target.ensures in
+    let none : target s c.args.key.0 ≡ 0 = rw c.in-None.is at c.target.ensures in
     no_target c.args.settings s c.args.key.0 none

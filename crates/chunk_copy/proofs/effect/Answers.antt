@@ -31,43 +31,43 @@ returns-in_default-place_of c =
 pub find_at-requires : goal.find_at-requires
 find_at-requires c =
     let state : State = decode (words c.args.store.now) in
-    let source : Stands c.args.settings (state) (home_of c.args.key.0) c.in-At-place_of.home = let place = c.in-At-place_of.home in
+    let source : Stands c.args.settings (state) (home_of c.args.key.0) c.in-Some-place_of.home = let place = c.in-Some-place_of.home in
     let home = c.home in
-    let at : Stands c.args.settings (state) home.result place = rw c.in-At-place_of.is at c.place_of.ensures in
+    let at : Stands c.args.settings (state) home.result place = rw c.in-Some-place_of.is at c.place_of.ensures in
     subst (λ (i : ℕ). Stands c.args.settings (state) i place) home.ensures at in
     (c.requires.0, (source).inside, rw (source).here (source).some)
 
 pub returns-in_default-find_at : goal.returns-in_default-find_at
 returns-in_default-find_at c =
     let state : State = decode (words c.args.store.now) in
-    let lacking : Lacking c.args.settings (state) (target (state) c.args.key.0) c.args.key.0 c.in-At.target = rw c.in-At.is at c.copied_to.ensures in
-    let source : Stands c.args.settings (state) (home_of c.args.key.0) c.in-At-place_of.home = let place = c.in-At-place_of.home in
+    let lacking : Lacking c.args.settings (state) (target (state) c.args.key.0) c.args.key.0 c.in-Some.target = rw c.in-Some.is at c.copied_to.ensures in
+    let source : Stands c.args.settings (state) (home_of c.args.key.0) c.in-Some-place_of.home = let place = c.in-Some-place_of.home in
     let home = c.home in
-    let at : Stands c.args.settings (state) home.result place = rw c.in-At-place_of.is at c.place_of.ensures in
+    let at : Stands c.args.settings (state) home.result place = rw c.in-Some-place_of.is at c.place_of.ensures in
     subst (λ (i : ℕ). Stands c.args.settings (state) i place) home.ensures at in
-    let none : held ((state).bricks.log ((state).ids c.in-At-place_of.home)) c.args.key.0 ≡ false =
+    let none : held ((state).bricks.log ((state).ids c.in-Some-place_of.home)) c.args.key.0 ≡ false =
     rw c.in_default-find_at.is at c.find_at.ensures in
     clash none (home_holds c.args.settings c.args.store.now c.requires.0 c.args.key.0 _ (lacking) c.requires.1 _ (source))
 
 pub bring-requires : goal.bring-requires
 bring-requires c =
     let state : State = decode (words c.args.store.now) in
-    let lacking : Lacking c.args.settings (state) (target (state) c.args.key.0) c.args.key.0 c.in-At.target = rw c.in-At.is at c.copied_to.ensures in
-    let source : Stands c.args.settings (state) (home_of c.args.key.0) c.in-At-place_of.home = let place = c.in-At-place_of.home in
+    let lacking : Lacking c.args.settings (state) (target (state) c.args.key.0) c.args.key.0 c.in-Some.target = rw c.in-Some.is at c.copied_to.ensures in
+    let source : Stands c.args.settings (state) (home_of c.args.key.0) c.in-Some-place_of.home = let place = c.in-Some-place_of.home in
     let home = c.home in
-    let at : Stands c.args.settings (state) home.result place = rw c.in-At-place_of.is at c.place_of.ensures in
+    let at : Stands c.args.settings (state) home.result place = rw c.in-Some-place_of.is at c.place_of.ensures in
     subst (λ (i : ℕ). Stands c.args.settings (state) i place) home.ensures at in
-    let row = c.in-Some.row in
-    let f : FoundAt ((state).bricks.log ((state).ids c.in-At-place_of.home)) c.args.key.0 row = rw c.in-Some.is at c.find_at.ensures in
+    let row = c.in-Some-find_at.row in
+    let f : FoundAt ((state).bricks.log ((state).ids c.in-Some-place_of.home)) c.args.key.0 row = rw c.in-Some-find_at.is at c.find_at.ensures in
     copy_fits c.args.settings c.args.store.now c.requires.0 c.args.key.0 _ (lacking) c.requires.1 _ (source) row f
 
 pub returns : goal.returns
 returns c =
     let state : State = decode (words c.args.store.now) in
-    let lacking : Lacking c.args.settings (state) (target (state) c.args.key.0) c.args.key.0 c.in-At.target = rw c.in-At.is at c.copied_to.ensures in
-    let source : Stands c.args.settings (state) (home_of c.args.key.0) c.in-At-place_of.home = let place = c.in-At-place_of.home in
+    let lacking : Lacking c.args.settings (state) (target (state) c.args.key.0) c.args.key.0 c.in-Some.target = rw c.in-Some.is at c.copied_to.ensures in
+    let source : Stands c.args.settings (state) (home_of c.args.key.0) c.in-Some-place_of.home = let place = c.in-Some-place_of.home in
     let home = c.home in
-    let at : Stands c.args.settings (state) home.result place = rw c.in-At-place_of.is at c.place_of.ensures in
+    let at : Stands c.args.settings (state) home.result place = rw c.in-Some-place_of.is at c.place_of.ensures in
     subst (λ (i : ℕ). Stands c.args.settings (state) i place) home.ensures at in
     c.bring.ensures
     ∙ one_copied c.args.settings c.args.store.now c.requires.0 c.args.key.0 _ (lacking) c.requires.1 _ (source)

@@ -13,20 +13,20 @@ use Rattle.chunk_copy.proofs.has_room.Goals as goal
 pub chunk_count-requires : goal.chunk_count-requires
 chunk_count-requires c =
     let found : let s = decode (words c.args.store.now) in
-    Lacking c.args.settings s (target s c.args.key.0) c.args.key.0 c.in-At.place = rw c.in-At.is at c.copied_to.ensures in
+    Lacking c.args.settings s (target s c.args.key.0) c.args.key.0 c.in-Some.place = rw c.in-Some.is at c.copied_to.ensures in
     let at = found in
     (c.requires, at.at.inside, rw at.at.here at.at.some)
 
-pub returns-in-At : goal.returns-in-At
-returns-in-At c =
+pub returns-in-Some : goal.returns-in-Some
+returns-in-Some c =
     let found : let s = decode (words c.args.store.now) in
-    Lacking c.args.settings s (target s c.args.key.0) c.args.key.0 c.in-At.place = rw c.in-At.is at c.copied_to.ensures in
+    Lacking c.args.settings s (target s c.args.key.0) c.args.key.0 c.in-Some.place = rw c.in-Some.is at c.copied_to.ensures in
     let chunks = c.args.settings.chunks in
     ap (λ (n : ℕ). ltb n chunks) c.chunk_count.ensures
     ∙ room_is c.args.settings c.args.store.now c.requires c.args.key.0 _ (found)
 
-pub returns-in-Nowhere : goal.returns-in-Nowhere
-returns-in-Nowhere c =
+pub returns-in-None : goal.returns-in-None
+returns-in-None c =
     let nothing : nothing_to_copy (decode (words c.args.store.now)) c.args.key.0 ≡ true =
-    rw c.in-Nowhere.is at c.copied_to.ensures in
+    rw c.in-None.is at c.copied_to.ensures in
     sym (or_l _ _ nothing)

@@ -1,9 +1,7 @@
 use mathlib.Core.Path.{sym, ◌∙◌}
-use Prim.Native.Nat.{◌-◌}
 use native.Mathlib.Omega.{arith}
 use borrow.Author.Count.{below_more, below_none}
 use borrow.Author.Tests.{not-true, not-false}
-use Rattle.lists.specs.Tests.{◌or◌}
 use Rattle.lists.proofs.Tests.{all_true, all_false}
 use borrow.Author.Rules.{rules}
 use Rattle.collect.proofs.all_up.Goals as goal

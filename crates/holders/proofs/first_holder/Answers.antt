@@ -1,7 +1,7 @@
 use mathlib.Core.Path.{◌≡◌, refl, sym, subst, ◌∙◌}
 use mathlib.Core.Bool.{false}
 use mathlib.Core.List.{[]}
-use Prim.Native.Nat.{ℕ, ◌-◌}
+use Prim.Native.Nat.{ℕ}
 use native.Mathlib.Omega.{arith}
 use Rattle.words.specs.Words.{words}
 use Rattle.rules.specs.Chunks.{held}
@@ -24,18 +24,18 @@ returns-in_default c =
 
 pub find_at-requires : goal.find_at-requires
 find_at-requires c =
-    let next : NextAt c.args.settings (decode (words c.args.store.now)) c.loop-low.low c.args.to c.in-At.place = rw c.in-At.is at c.next_member.ensures in
+    let next : NextAt c.args.settings (decode (words c.args.store.now)) c.loop-low.low c.args.to c.in-Some.place = rw c.in-Some.is at c.next_member.ensures in
     (c.requires, (next).inside, (next).some)
 
-pub returns-in-Some : goal.returns-in-Some
-returns-in-Some c =
-    let next : NextAt c.args.settings (decode (words c.args.store.now)) c.loop-low.low c.args.to c.in-At.place = rw c.in-At.is at c.next_member.ensures in
+pub returns-in-Some-find_at : goal.returns-in-Some-find_at
+returns-in-Some-find_at c =
+    let next : NextAt c.args.settings (decode (words c.args.store.now)) c.loop-low.low c.args.to c.in-Some.place = rw c.in-Some.is at c.next_member.ensures in
     let state = decode (words c.args.store.now) in
     let n = next in
     let k = c.args.key.0 in
-    let row = c.in-Some.row in
-    let f : FoundAt (state.bricks.log (state.ids c.in-At.place)) k row = rw c.in-Some.is at c.find_at.ensures in
-    let e = c.loop-low.invariant ∙ sought_here _ c.args.store.now c.requires k c.loop-low.low c.args.to c.in-At.place n
+    let row = c.in-Some-find_at.row in
+    let f : FoundAt (state.bricks.log (state.ids c.in-Some.place)) k row = rw c.in-Some-find_at.is at c.find_at.ensures in
+    let e = c.loop-low.invariant ∙ sought_here _ c.args.store.now c.requires k c.loop-low.low c.args.to c.in-Some.place n
     (held_at _ k row f.in_use f.same) in
     record {
       stands = record { inside = n.inside; some = rw e n.some; here = sym e };
@@ -44,27 +44,27 @@ returns-in-Some c =
 
 pub id-low-requires : goal.id-low-requires
 id-low-requires c =
-    let next : NextAt c.args.settings (decode (words c.args.store.now)) c.loop-low.low c.args.to c.in-At.place = rw c.in-At.is at c.next_member.ensures in
+    let next : NextAt c.args.settings (decode (words c.args.store.now)) c.loop-low.low c.args.to c.in-Some.place = rw c.in-Some.is at c.next_member.ensures in
     (c.requires, (next).inside)
 
 pub overflow_add-low : goal.overflow_add-low
 overflow_add-low c =
-    let next : NextAt c.args.settings (decode (words c.args.store.now)) c.loop-low.low c.args.to c.in-At.place = rw c.in-At.is at c.next_member.ensures in
+    let next : NextAt c.args.settings (decode (words c.args.store.now)) c.loop-low.low c.args.to c.in-Some.place = rw c.in-Some.is at c.next_member.ensures in
     let n = next in omega (arith, n.high, c.id-low.ensures)
 
 pub loop-low-smaller : goal.loop-low-smaller
 loop-low-smaller c =
-    let next : NextAt c.args.settings (decode (words c.args.store.now)) c.loop-low.low c.args.to c.in-At.place = rw c.in-At.is at c.next_member.ensures in
+    let next : NextAt c.args.settings (decode (words c.args.store.now)) c.loop-low.low c.args.to c.in-Some.place = rw c.in-Some.is at c.next_member.ensures in
     let n = next in omega (arith, n.low, n.high, c.id-low.ensures)
 
 pub loop-low-preserved : goal.loop-low-preserved
 loop-low-preserved c =
-    let next : NextAt c.args.settings (decode (words c.args.store.now)) c.loop-low.low c.args.to c.in-At.place = rw c.in-At.is at c.next_member.ensures in
+    let next : NextAt c.args.settings (decode (words c.args.store.now)) c.loop-low.low c.args.to c.in-Some.place = rw c.in-Some.is at c.next_member.ensures in
     let state = decode (words c.args.store.now) in
-    let none : held (state.bricks.log (state.ids c.in-At.place)) c.args.key.0 ≡ false =
+    let none : held (state.bricks.log (state.ids c.in-Some.place)) c.args.key.0 ≡ false =
     rw c.in_default-find_at.is at c.find_at.ensures in
     rw c.id-low.ensures
-    (c.loop-low.invariant ∙ sought_on _ c.args.store.now c.requires c.args.key.0 c.loop-low.low c.args.to c.in-At.place (next) none)
+    (c.loop-low.invariant ∙ sought_on _ c.args.store.now c.requires c.args.key.0 c.loop-low.low c.args.to c.in-Some.place (next) none)
 
 pub returns : goal.returns
 returns c =

@@ -1,5 +1,4 @@
 use mathlib.Core.Path.{◌≡◌, sym, ◌∙◌}
-use Prim.Native.Nat.{◌-◌}
 use native.Mathlib.Omega.{arith}
 use Rattle.holders.proofs.Scan.{scan_start, scan_hit, scan_miss, scan_none, scan_next}
 use Rattle.holders.proofs.next_member.Goals as goal

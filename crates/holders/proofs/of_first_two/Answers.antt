@@ -12,16 +12,16 @@ use Rattle.holders.proofs.of_first_two.Goals as goal
 pub id-first-requires : goal.id-first-requires
 id-first-requires c =
     let state = decode (words c.args.store.now) in
-    let n : NextAt c.args.settings state c.home-home.result ids c.in-At.place =
-    rw c.in-At.is at c.next_member.ensures in
+    let n : NextAt c.args.settings state c.home-home.result ids c.in-Some.place =
+    rw c.in-Some.is at c.next_member.ensures in
     (c.requires, n.inside)
 
 pub returns-then-first-id : goal.returns-then-first-id
 returns-then-first-id c =
     let state = decode (words c.args.store.now) in
     let home = c.home-home in
-    let n : NextAt c.args.settings state home.result ids c.in-At.place =
-    rw c.in-At.is at c.next_member.ensures in
+    let n : NextAt c.args.settings state home.result ids c.in-Some.place =
+    rw c.in-Some.is at c.next_member.ensures in
     let all = all_members_from _ c.args.store.now c.requires home.result c.args.key.0 home.ensures in
     sym (two_hit _ _ _ _ c.args.id (all ∙ round_at c.args.settings state home.result home.result _ n) c.id-first.ensures c.if-first-id.true)
 
@@ -29,27 +29,27 @@ pub overflow_add-first : goal.overflow_add-first
 overflow_add-first c =
     let state = decode (words c.args.store.now) in
     let home = c.home-home in
-    let n : NextAt c.args.settings state home.result ids c.in-At.place =
-    rw c.in-At.is at c.next_member.ensures in
+    let n : NextAt c.args.settings state home.result ids c.in-Some.place =
+    rw c.in-Some.is at c.next_member.ensures in
     omega (arith, n.high, c.id-first.ensures)
 
 pub returns-else-first-id : goal.returns-else-first-id
 returns-else-first-id c =
     let state = decode (words c.args.store.now) in
     let home = c.home-home in
-    let n : NextAt c.args.settings state home.result ids c.in-At.place =
-    rw c.in-At.is at c.next_member.ensures in
+    let n : NextAt c.args.settings state home.result ids c.in-Some.place =
+    rw c.in-Some.is at c.next_member.ensures in
     let all = all_members_from _ c.args.store.now c.requires home.result c.args.key.0 home.ensures in
     c.is_first_round.ensures
     ∙ ap (λ (j : ℕ). begins_with c.args.id (round state j home.result)) (after_first _ _ c.id-first.ensures)
     ∙ sym (two_miss _ _ _ _ c.args.id (all ∙ round_at c.args.settings state home.result home.result _ n) c.id-first.ensures
     c.if-first-id.false)
 
-pub returns-in-Nowhere : goal.returns-in-Nowhere
-returns-in-Nowhere c =
+pub returns-in-None : goal.returns-in-None
+returns-in-None c =
     let state = decode (words c.args.store.now) in
     let home = c.home-home in
-    let none : between state home.result ids ≡ [] = rw c.in-Nowhere.is at c.next_member.ensures in
+    let none : between state home.result ids ≡ [] = rw c.in-None.is at c.next_member.ensures in
     c.of_two.ensures
     ∙ sym (ap (of_first_two c.args.id)
     (all_members_from _ c.args.store.now c.requires home.result c.args.key.0 home.ensures

@@ -12,36 +12,36 @@ use Rattle.holders.proofs.of_two.Goals as goal
 pub id-first-requires : goal.id-first-requires
 id-first-requires c =
     let state = decode (words c.args.store.now) in
-    let n : NextAt c.args.settings state c.args.from c.args.to c.in-At.place =
-    rw c.in-At.is at c.next_member.ensures in
+    let n : NextAt c.args.settings state c.args.from c.args.to c.in-Some.place =
+    rw c.in-Some.is at c.next_member.ensures in
     (c.requires, n.inside)
 
 pub returns-then-first-id : goal.returns-then-first-id
 returns-then-first-id c =
     let state = decode (words c.args.store.now) in
-    let n : NextAt c.args.settings state c.args.from c.args.to c.in-At.place =
-    rw c.in-At.is at c.next_member.ensures in
+    let n : NextAt c.args.settings state c.args.from c.args.to c.in-Some.place =
+    rw c.in-Some.is at c.next_member.ensures in
     sym (two_hit _ _ _ _ c.args.id n.list c.id-first.ensures c.if-first-id.true)
 
 pub overflow_add-first : goal.overflow_add-first
 overflow_add-first c =
     let state = decode (words c.args.store.now) in
-    let n : NextAt c.args.settings state c.args.from c.args.to c.in-At.place =
-    rw c.in-At.is at c.next_member.ensures in
+    let n : NextAt c.args.settings state c.args.from c.args.to c.in-Some.place =
+    rw c.in-Some.is at c.next_member.ensures in
     omega (arith, n.high, c.id-first.ensures)
 
 pub returns-else-first-id : goal.returns-else-first-id
 returns-else-first-id c =
     let state = decode (words c.args.store.now) in
-    let n : NextAt c.args.settings state c.args.from c.args.to c.in-At.place =
-    rw c.in-At.is at c.next_member.ensures in
+    let n : NextAt c.args.settings state c.args.from c.args.to c.in-Some.place =
+    rw c.in-Some.is at c.next_member.ensures in
     c.is_first.ensures
     ∙ ap (λ (j : ℕ). begins_with c.args.id (between state j c.args.to)) (after_first _ _ c.id-first.ensures)
     ∙ sym (two_miss _ _ _ _ c.args.id n.list c.id-first.ensures c.if-first-id.false)
 
-pub returns-in-Nowhere : goal.returns-in-Nowhere
+pub returns-in-None : goal.returns-in-None
 unfolding of_first_two
-returns-in-Nowhere c =
+returns-in-None c =
     let state = decode (words c.args.store.now) in
-    let none : between state c.args.from c.args.to ≡ [] = rw c.in-Nowhere.is at c.next_member.ensures in
+    let none : between state c.args.from c.args.to ≡ [] = rw c.in-None.is at c.next_member.ensures in
     sym (ap (of_first_two c.args.id) none)

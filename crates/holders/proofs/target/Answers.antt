@@ -7,17 +7,17 @@ use Rattle.holders.specs.Members.{ids, between, NextAt}
 use Rattle.holders.proofs.MembersFrom.{target_above, target_below}
 use Rattle.holders.proofs.target.Goals as goal
 
-pub returns-in-At : goal.returns-in-At
-returns-in-At c =
+pub returns-in-Some : goal.returns-in-Some
+returns-in-Some c =
     let state = decode (words c.args.store.now) in
     let home = c.home-home in
-    let n : NextAt c.args.settings state (home.result + 1) ids c.in-At.place =
-    rw c.in-At.is at c.next_member.ensures in
+    let n : NextAt c.args.settings state (home.result + 1) ids c.in-Some.place =
+    rw c.in-Some.is at c.next_member.ensures in
     target_above _ c.args.store.now c.requires c.args.key.0 home.result home.ensures _ n
 
-pub returns-in-Nowhere : goal.returns-in-Nowhere
-returns-in-Nowhere c =
+pub returns-in-None : goal.returns-in-None
+returns-in-None c =
     let state = decode (words c.args.store.now) in
     let home = c.home-home in
-    let none : between state (home.result + 1) ids ≡ [] = rw c.in-Nowhere.is at c.next_member.ensures in
-    target_below _ c.args.store.now c.requires c.args.key.0 home.result home.ensures none c.next_member-in-Nowhere.result c.next_member-in-Nowhere.ensures
+    let none : between state (home.result + 1) ids ≡ [] = rw c.in-None.is at c.next_member.ensures in
+    target_below _ c.args.store.now c.requires c.args.key.0 home.result home.ensures none c.next_member-in-None.result c.next_member-in-None.ensures

@@ -10,24 +10,24 @@ use Rattle.named.proofs.memory_at.Goals as goal
 
 pub place_at-requires : goal.place_at-requires
 place_at-requires c =
-    let h : Stands c.args.settings (decode (words c.args.store.now)) c.args.id c.in-At.place =
-    rw c.in-At.is at c.place_of.ensures in
+    let h : Stands c.args.settings (decode (words c.args.store.now)) c.args.id c.in-Some.place =
+    rw c.in-Some.is at c.place_of.ensures in
     (c.requires.0.limits, h.inside)
 
 pub overflow_add-result : goal.overflow_add-result
 overflow_add-result c =
     omega (arith, store_small _ c.requires.0.limits)
 
-pub returns-in-At : goal.returns-in-At
-returns-in-At c =
+pub returns-in-Some : goal.returns-in-Some
+returns-in-Some c =
     let a = c.args in
-    let h : Stands a.settings (decode (words a.store.now)) a.id c.in-At.place = rw c.in-At.is at
+    let h : Stands a.settings (decode (words a.store.now)) a.id c.in-Some.place = rw c.in-Some.is at
     c.place_of.ensures in
-    memory_lies a.settings a.store.now c.requires.0 a.bucket c.requires.1 a.id c.in-At.place _ h
+    memory_lies a.settings a.store.now c.requires.0 a.bucket c.requires.1 a.id c.in-Some.place _ h
     (omega (arith, c.place_at.ensures.0, c.memory_at.ensures.0))
 
-pub returns-in-Nowhere : goal.returns-in-Nowhere
-returns-in-Nowhere c =
+pub returns-in-None : goal.returns-in-None
+returns-in-None c =
     let a = c.args in
-    let h : brick_in (decode (words a.store.now)) a.id ≡ blank_brick = rw c.in-Nowhere.is at c.place_of.ensures in
+    let h : brick_in (decode (words a.store.now)) a.id ≡ blank_brick = rw c.in-None.is at c.place_of.ensures in
     memory_none a.settings a.store.now c.requires.0 a.bucket c.requires.1 a.id h

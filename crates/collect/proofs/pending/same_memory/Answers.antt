@@ -27,28 +27,28 @@ returns-in_default-place_of c =
 pub memory-requires : goal.memory-requires
 memory-requires c =
     let a = c.args in
-    let f : Stands a.settings (decode (words a.store.now)) a.one c.in-At.first =
-    rw c.in-At.is at c.place_of.ensures in
-    let h : Stands a.settings (decode (words a.store.now)) a.two c.in-At-place_of.second =
-    rw c.in-At-place_of.is at c.place_of-2.ensures in
+    let f : Stands a.settings (decode (words a.store.now)) a.one c.in-Some.first =
+    rw c.in-Some.is at c.place_of.ensures in
+    let h : Stands a.settings (decode (words a.store.now)) a.two c.in-Some-place_of.second =
+    rw c.in-Some-place_of.is at c.place_of-2.ensures in
     (c.requires.0, f.inside, subst (λ (n : ℕ). 0 < n) (sym f.here) f.some, c.requires.1)
 
 pub memory-requires-2 : goal.memory-requires-2
 memory-requires-2 c =
     let a = c.args in
-    let f : Stands a.settings (decode (words a.store.now)) a.one c.in-At.first =
-    rw c.in-At.is at c.place_of.ensures in
-    let h : Stands a.settings (decode (words a.store.now)) a.two c.in-At-place_of.second =
-    rw c.in-At-place_of.is at c.place_of-2.ensures in
+    let f : Stands a.settings (decode (words a.store.now)) a.one c.in-Some.first =
+    rw c.in-Some.is at c.place_of.ensures in
+    let h : Stands a.settings (decode (words a.store.now)) a.two c.in-Some-place_of.second =
+    rw c.in-Some-place_of.is at c.place_of-2.ensures in
     (c.requires.0, h.inside, subst (λ (n : ℕ). 0 < n) (sym h.here) h.some, c.requires.1)
 
 pub returns : goal.returns
 returns c =
     let a = c.args in
-    let f : Stands a.settings (decode (words a.store.now)) a.one c.in-At.first =
-    rw c.in-At.is at c.place_of.ensures in
-    let h : Stands a.settings (decode (words a.store.now)) a.two c.in-At-place_of.second =
-    rw c.in-At-place_of.is at c.place_of-2.ensures in
+    let f : Stands a.settings (decode (words a.store.now)) a.one c.in-Some.first =
+    rw c.in-Some.is at c.place_of.ensures in
+    let h : Stands a.settings (decode (words a.store.now)) a.two c.in-Some-place_of.second =
+    rw c.in-Some-place_of.is at c.place_of-2.ensures in
     let k = (decode (words a.store.now)).bucket a.bucket in
     lent_same _ _ _ (k.memory a.one) (k.memory a.two) c.same.ensures (c.memory.ensures.same ∙ ap k.memory f.here)
     (c.memory-2.ensures.same ∙ ap k.memory h.here)

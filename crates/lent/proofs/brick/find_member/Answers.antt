@@ -9,25 +9,25 @@ use Rattle.lent.proofs.brick.find_member.Goals as goal
 
 pub up_member-requires : goal.up_member-requires
 up_member-requires c =
-    let h : Stands c.args.settings (decode (words c.args.store.now)) c.args.id c.in-At.place =
-    rw c.in-At.is at c.place_of.ensures in
+    let h : Stands c.args.settings (decode (words c.args.store.now)) c.args.id c.in-Some.place =
+    rw c.in-Some.is at c.place_of.ensures in
     (c.requires, h.inside)
 
 pub returns-then-up_member : goal.returns-then-up_member
 returns-then-up_member c =
-    let h : Stands c.args.settings (decode (words c.args.store.now)) c.args.id c.in-At.place =
-    rw c.in-At.is at c.place_of.ensures in
+    let h : Stands c.args.settings (decode (words c.args.store.now)) c.args.id c.in-Some.place =
+    rw c.in-Some.is at c.place_of.ensures in
     record { stands = h; up = ap (up_member (decode (words c.args.store.now))) (sym h.here) ∙ sym c.up_member.ensures ∙ c.if-up_member.true }
 
 pub returns-else-up_member : goal.returns-else-up_member
 returns-else-up_member c =
-    let h : Stands c.args.settings (decode (words c.args.store.now)) c.args.id c.in-At.place =
-    rw c.in-At.is at c.place_of.ensures in
+    let h : Stands c.args.settings (decode (words c.args.store.now)) c.args.id c.in-Some.place =
+    rw c.in-Some.is at c.place_of.ensures in
     ap (up_member (decode (words c.args.store.now))) (sym h.here) ∙ sym c.up_member.ensures ∙ c.if-up_member.false
 
-pub returns-in-Nowhere : goal.returns-in-Nowhere
+pub returns-in-None : goal.returns-in-None
 unfolding ◌and◌
-returns-in-Nowhere c =
-    let h : brick_in (decode (words c.args.store.now)) c.args.id ≡ blank_brick = rw c.in-Nowhere.is at
+returns-in-None c =
+    let h : brick_in (decode (words c.args.store.now)) c.args.id ≡ blank_brick = rw c.in-None.is at
     c.place_of.ensures in
     ap (λ (b : Brick). b.status.up and b.status.member) h

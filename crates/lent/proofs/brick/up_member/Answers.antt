@@ -9,19 +9,19 @@ use Rattle.lent.proofs.brick.up_member.Goals as goal
 
 pub up_member-requires : goal.up_member-requires
 up_member-requires c =
-    let h : Stands c.args.settings (decode (words c.args.store.now)) c.args.id c.in-At.place =
-    rw c.in-At.is at c.place_of.ensures in
+    let h : Stands c.args.settings (decode (words c.args.store.now)) c.args.id c.in-Some.place =
+    rw c.in-Some.is at c.place_of.ensures in
     (c.requires, h.inside)
 
-pub returns-in-At : goal.returns-in-At
-returns-in-At c =
-    let h : Stands c.args.settings (decode (words c.args.store.now)) c.args.id c.in-At.place =
-    rw c.in-At.is at c.place_of.ensures in
+pub returns-in-Some : goal.returns-in-Some
+returns-in-Some c =
+    let h : Stands c.args.settings (decode (words c.args.store.now)) c.args.id c.in-Some.place =
+    rw c.in-Some.is at c.place_of.ensures in
     c.up_member.ensures ∙ ap (up_member (decode (words c.args.store.now))) h.here
 
-pub returns-in-Nowhere : goal.returns-in-Nowhere
+pub returns-in-None : goal.returns-in-None
 unfolding ◌and◌
-returns-in-Nowhere c =
+returns-in-None c =
     let h : brick_in (decode (words c.args.store.now)) c.args.id ≡ blank_brick =
-    rw c.in-Nowhere.is at c.place_of.ensures in
+    rw c.in-None.is at c.place_of.ensures in
     sym (ap (λ (b : Brick). b.status.up and b.status.member) h)

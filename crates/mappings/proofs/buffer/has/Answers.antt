@@ -12,21 +12,21 @@ use Rattle.mappings.proofs.buffer.has.Goals as goal
 
 pub buffer-requires : goal.buffer-requires
 buffer-requires c =
-    let h : Stands c.args.settings (decode (words c.args.store.now)) c.args.id c.in-At.place =
-    rw c.in-At.is at c.place_of.ensures in
+    let h : Stands c.args.settings (decode (words c.args.store.now)) c.args.id c.in-Some.place =
+    rw c.in-Some.is at c.place_of.ensures in
     (c.requires, h.inside, omega (arith, h.some, h.here))
 
-pub returns-in-At : goal.returns-in-At
-returns-in-At c =
+pub returns-in-Some : goal.returns-in-Some
+returns-in-Some c =
     let state = decode (words c.args.store.now) in
-    let h : Stands c.args.settings state c.args.id c.in-At.place =
-    rw c.in-At.is at c.place_of.ensures in
+    let h : Stands c.args.settings state c.args.id c.in-Some.place =
+    rw c.in-Some.is at c.place_of.ensures in
     c.waits.ensures ∙ ap (λ (l : List Entry). has l c.args.block.0) c.buffer.ensures.same
     ∙ ap (λ (i : ℕ). has (state.bricks.buffer i) c.args.block.0) h.here
 
-pub returns-in-Nowhere : goal.returns-in-Nowhere
+pub returns-in-None : goal.returns-in-None
 unfolding has any
-returns-in-Nowhere c =
+returns-in-None c =
     let h : brick_in (decode (words c.args.store.now)) c.args.id ≡ blank_brick =
-    rw c.in-Nowhere.is at c.place_of.ensures in
+    rw c.in-None.is at c.place_of.ensures in
     sym (ap (λ (b : Brick). has b.buffer c.args.block.0) h)

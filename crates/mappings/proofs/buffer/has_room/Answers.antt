@@ -14,20 +14,20 @@ use Rattle.mappings.proofs.buffer.has_room.Goals as goal
 pub buffer-requires : goal.buffer-requires
 buffer-requires c =
     let place_of = c.place_of in
-    let h : Stands c.args.settings (decode (words c.args.store.now)) c.args.id c.in-At.place =
-    rw c.in-At.is at place_of.ensures in
+    let h : Stands c.args.settings (decode (words c.args.store.now)) c.args.id c.in-Some.place =
+    rw c.in-Some.is at place_of.ensures in
     (c.requires, h.inside, omega (arith, h.some, h.here))
 
-pub returns-in-At : goal.returns-in-At
-returns-in-At c =
+pub returns-in-Some : goal.returns-in-Some
+returns-in-Some c =
     let place_of = c.place_of in
     let state = decode (words c.args.store.now) in
-    let h : Stands c.args.settings state c.args.id c.in-At.place = rw c.in-At.is at place_of.ensures in
+    let h : Stands c.args.settings state c.args.id c.in-Some.place = rw c.in-Some.is at place_of.ensures in
     ap (λ (n : ℕ). ltb n max_waiting) (c.read.ensures ∙ sym (count_is entry_row max_waiting _) ∙ ap length c.buffer.ensures.same
     ∙ ap (λ (i : ℕ). length (state.bricks.buffer i)) h.here)
 
-pub returns-in-Nowhere : goal.returns-in-Nowhere
-returns-in-Nowhere c =
+pub returns-in-None : goal.returns-in-None
+returns-in-None c =
     let place_of = c.place_of in
-    let h : brick_in (decode (words c.args.store.now)) c.args.id ≡ blank_brick = rw c.in-Nowhere.is at place_of.ensures in
+    let h : brick_in (decode (words c.args.store.now)) c.args.id ≡ blank_brick = rw c.in-None.is at place_of.ensures in
     sym (ap (λ (b : Brick). ltb (length b.buffer) max_waiting) h)

@@ -11,21 +11,21 @@ use Rattle.mappings.proofs.copy.on_disk.Goals as goal
 
 pub disk-requires : goal.disk-requires
 disk-requires c =
-    let h : Stands c.args.settings (decode (words c.args.store.now)) c.args.id c.in-At.place =
-    rw c.in-At.is at c.place_of.ensures in
+    let h : Stands c.args.settings (decode (words c.args.store.now)) c.args.id c.in-Some.place =
+    rw c.in-Some.is at c.place_of.ensures in
     (c.requires.0, h.inside, omega (arith, h.some, h.here), c.requires.1)
 
-pub returns-in-At : goal.returns-in-At
-returns-in-At c =
+pub returns-in-Some : goal.returns-in-Some
+returns-in-Some c =
     let state = decode (words c.args.store.now) in
-    let h : Stands c.args.settings state c.args.id c.in-At.place =
-    rw c.in-At.is at c.place_of.ensures in
+    let h : Stands c.args.settings state c.args.id c.in-Some.place =
+    rw c.in-Some.is at c.place_of.ensures in
     c.key_near.ensures ∙ ap (λ (l : List Entry). key_for l c.args.block.0) c.disk.ensures.same
     ∙ ap (λ (i : ℕ). key_for ((state.bucket c.args.bucket).disk i) c.args.block.0) h.here
 
-pub returns-in-Nowhere : goal.returns-in-Nowhere
+pub returns-in-None : goal.returns-in-None
 unfolding key_for
-returns-in-Nowhere c =
+returns-in-None c =
     let h : brick_in (decode (words c.args.store.now)) c.args.id ≡ blank_brick =
-    rw c.in-Nowhere.is at c.place_of.ensures in
+    rw c.in-None.is at c.place_of.ensures in
     sym (ap (λ (b : Brick). key_for (b.copies c.args.bucket).disk c.args.block.0) h)

@@ -14,22 +14,22 @@ use Rattle.mappings.proofs.copy.takes.Goals as goal
 pub memory-requires : goal.memory-requires
 memory-requires c =
     let place_of = c.place_of in
-    let h : Stands c.args.settings (decode (words c.args.store.now)) c.args.id c.in-At.place =
-    rw c.in-At.is at place_of.ensures in
+    let h : Stands c.args.settings (decode (words c.args.store.now)) c.args.id c.in-Some.place =
+    rw c.in-Some.is at place_of.ensures in
     (c.requires.0, h.inside, omega (arith, h.some, h.here), c.requires.1)
 
-pub returns-in-At : goal.returns-in-At
-returns-in-At c =
+pub returns-in-Some : goal.returns-in-Some
+returns-in-Some c =
     let place_of = c.place_of in
     let state = decode (words c.args.store.now) in
-    let h : Stands c.args.settings state c.args.id c.in-At.place = rw c.in-At.is at place_of.ensures in
+    let h : Stands c.args.settings state c.args.id c.in-Some.place = rw c.in-Some.is at place_of.ensures in
     c.takes.ensures ∙ ap (λ (l : List Entry). takes c.args.settings.entries l c.args.block.0) c.memory.ensures.same
     ∙ ap (λ (i : ℕ). takes c.args.settings.entries ((state.bucket c.args.bucket).memory i) c.args.block.0) h.here
 
-pub returns-in-Nowhere : goal.returns-in-Nowhere
+pub returns-in-None : goal.returns-in-None
 unfolding takes has any ◌or◌
-returns-in-Nowhere c =
+returns-in-None c =
     let place_of = c.place_of in
-    let h : brick_in (decode (words c.args.store.now)) c.args.id ≡ blank_brick = rw c.in-Nowhere.is at place_of.ensures in
+    let h : brick_in (decode (words c.args.store.now)) c.args.id ≡ blank_brick = rw c.in-None.is at place_of.ensures in
     let m = c.args.settings.entries in
     sym (ap (λ (b : Brick). takes m (b.copies c.args.bucket).memory c.args.block.0) h ∙ lt-ltb 0 m (omega (arith, c.requires.0.limits.entries_from)))

@@ -22,7 +22,7 @@ pub insert-requires : goal.insert-requires
 insert-requires c =
     let read : InBucket (decode (words c.args.store.now)) c.args.settings.entries c.args.block.0 c.number-bucket.result
     (agreed_of c.agreed-agreed.result) = in_bucket c.args.settings c.args.store.now c.requires.0 c.args.block.0 _ c.number-bucket.ensures.0 _ c.agreed-agreed.ensures in
-    let stands : Stands c.args.settings (decode (words c.args.store.now)) c.agreed-agreed.result.primary c.in-At.place = rw c.in-At.is at c.place_of.ensures in
+    let stands : Stands c.args.settings (decode (words c.args.store.now)) c.agreed-agreed.result.primary c.in-Some.place = rw c.in-Some.is at c.place_of.ensures in
     let h = stands in
     let k = read in
     (c.requires.0, h.inside, c.number-bucket.ensures.1, omega (arith, h.some, h.here), copy_takes _ _ c.requires.2 _ _ _ k _ h.here c.if-agreed.true)
@@ -31,7 +31,7 @@ pub returns-then-agreed : goal.returns-then-agreed
 returns-then-agreed c =
     let read : InBucket (decode (words c.args.store.now)) c.args.settings.entries c.args.block.0 c.number-bucket.result
     (agreed_of c.agreed-agreed.result) = in_bucket c.args.settings c.args.store.now c.requires.0 c.args.block.0 _ c.number-bucket.ensures.0 _ c.agreed-agreed.ensures in
-    let stands : Stands c.args.settings (decode (words c.args.store.now)) c.agreed-agreed.result.primary c.in-At.place = rw c.in-At.is at c.place_of.ensures in
+    let stands : Stands c.args.settings (decode (words c.args.store.now)) c.agreed-agreed.result.primary c.in-Some.place = rw c.in-Some.is at c.place_of.ensures in
     let item = c.item-key in
     c.insert.ensures
     ∙ ap (λ (t : State). render t (words c.args.store.now))
@@ -41,7 +41,7 @@ pub append-requires : goal.append-requires
 append-requires c =
     let read : InBucket (decode (words c.args.store.now)) c.args.settings.entries c.args.block.0 c.number-bucket.result
     (agreed_of c.agreed-agreed.result) = in_bucket c.args.settings c.args.store.now c.requires.0 c.args.block.0 _ c.number-bucket.ensures.0 _ c.agreed-agreed.ensures in
-    let stands : Stands c.args.settings (decode (words c.args.store.now)) c.agreed-agreed.result.primary c.in-At.place = rw c.in-At.is at c.place_of.ensures in
+    let stands : Stands c.args.settings (decode (words c.args.store.now)) c.agreed-agreed.result.primary c.in-Some.place = rw c.in-Some.is at c.place_of.ensures in
     let h = stands in
     (c.requires.0, h.inside, omega (arith, h.some, h.here), buffer_takes _ _ c.requires.2 _ _ _ (read) _ h.here c.if-agreed.false)
 
@@ -49,7 +49,7 @@ pub returns : goal.returns
 returns c =
     let read : InBucket (decode (words c.args.store.now)) c.args.settings.entries c.args.block.0 c.number-bucket.result
     (agreed_of c.agreed-agreed.result) = in_bucket c.args.settings c.args.store.now c.requires.0 c.args.block.0 _ c.number-bucket.ensures.0 _ c.agreed-agreed.ensures in
-    let stands : Stands c.args.settings (decode (words c.args.store.now)) c.agreed-agreed.result.primary c.in-At.place = rw c.in-At.is at c.place_of.ensures in
+    let stands : Stands c.args.settings (decode (words c.args.store.now)) c.agreed-agreed.result.primary c.in-Some.place = rw c.in-Some.is at c.place_of.ensures in
     let item = c.item-key in
     c.append.ensures
     ∙ ap (λ (t : State). render t (words c.args.store.now))

@@ -9,11 +9,11 @@ use Rattle.recovery.proofs.member.place.Goals as goal
 
 pub returns : goal.returns
 returns c =
-    let m : MemberAt c.args.settings (decode (words c.args.store.now)) c.args.id c.in-At.place =
-    rw c.in-At.is at c.find_member.ensures in
+    let m : MemberAt c.args.settings (decode (words c.args.store.now)) c.args.id c.in-Some.place =
+    rw c.in-Some.is at c.find_member.ensures in
     m.stands
 
 pub unreachable-requires : goal.unreachable-requires
 unreachable-requires c =
-    let n : up_member (decode (words c.args.store.now)) c.args.id ≡ false = rw c.in-Nowhere.is at c.find_member.ensures in
+    let n : up_member (decode (words c.args.store.now)) c.args.id ≡ false = rw c.in-None.is at c.find_member.ensures in
     clash n c.requires.1

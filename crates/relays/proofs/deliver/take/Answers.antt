@@ -23,7 +23,7 @@ pub insert-requires : goal.insert-requires
 insert-requires c =
     let read : InBucket (decode (words c.args.store.now)) c.args.settings.entries c.args.relay.block.0 c.number-bucket.result
     (agreed_of c.agreed-agreed.result) = in_bucket c.args.settings c.args.store.now c.requires.0 c.args.relay.block.0 _ c.number-bucket.ensures.0 _ c.agreed-agreed.ensures in
-    let stands : Stands c.args.settings (decode (words c.args.store.now)) c.agreed-agreed.result.backup c.in-At.place = rw c.in-At.is at c.place_of.ensures in
+    let stands : Stands c.args.settings (decode (words c.args.store.now)) c.agreed-agreed.result.backup c.in-Some.place = rw c.in-Some.is at c.place_of.ensures in
     let h = stands in (
       c.requires.0,
       h.inside,
@@ -36,7 +36,7 @@ pub remove-requires : goal.remove-requires
 remove-requires c =
     let read : InBucket (decode (words c.args.store.now)) c.args.settings.entries c.args.relay.block.0 c.number-bucket.result
     (agreed_of c.agreed-agreed.result) = in_bucket c.args.settings c.args.store.now c.requires.0 c.args.relay.block.0 _ c.number-bucket.ensures.0 _ c.agreed-agreed.ensures in
-    let stands : Stands c.args.settings (decode (words c.args.store.now)) c.agreed-agreed.result.backup c.in-At.place = rw c.in-At.is at c.place_of.ensures in
+    let stands : Stands c.args.settings (decode (words c.args.store.now)) c.agreed-agreed.result.backup c.in-Some.place = rw c.in-Some.is at c.place_of.ensures in
     let entered : Entered c.args.settings c.args.store.now c.args.index c.args.relay
     c.number-bucket.result c.bag_span-span.result.from
     c.bag_span-span.result.to c.insert.new.store = let k = read in
@@ -56,7 +56,7 @@ pub returns : goal.returns
 returns c =
     let read : InBucket (decode (words c.args.store.now)) c.args.settings.entries c.args.relay.block.0 c.number-bucket.result
     (agreed_of c.agreed-agreed.result) = in_bucket c.args.settings c.args.store.now c.requires.0 c.args.relay.block.0 _ c.number-bucket.ensures.0 _ c.agreed-agreed.ensures in
-    let stands : Stands c.args.settings (decode (words c.args.store.now)) c.agreed-agreed.result.backup c.in-At.place = rw c.in-At.is at c.place_of.ensures in
+    let stands : Stands c.args.settings (decode (words c.args.store.now)) c.agreed-agreed.result.backup c.in-Some.place = rw c.in-Some.is at c.place_of.ensures in
     let entered : Entered c.args.settings c.args.store.now c.args.index c.args.relay
     c.number-bucket.result c.bag_span-span.result.from
     c.bag_span-span.result.to c.insert.new.store = let k = read in
