@@ -2,6 +2,7 @@ pub mod Performs
 pub mod Stores
 pub mod Effects
 pub mod Places
+pub mod LookUps
 pub mod Buckets
 pub mod Parts
 pub mod LentPlace
@@ -11,3 +12,4 @@ pub mod Proxies
 pub mod PlaceSteps
 pub mod Logs
 pub mod PlaceLogs
+pub mod Ranges

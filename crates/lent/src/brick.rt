@@ -17,14 +17,7 @@ pub fn place_of(store: &[u8], settings: Settings, id: u64) -> Option<usize>
     if id == 0 {
         return None;
     }
-    let mut p = 0;
-    while p < settings.places {
-        if place::id(store, settings, p) == id {
-            return Some(p);
-        }
-        p += 1;
-    }
-    None
+    (0..settings.places).find(|&p| place::id(store, settings, p) == id)
 }
 
 // Is the brick an up member?
@@ -32,10 +25,7 @@ pub fn up_member(store: &[u8], settings: Settings, id: u64) -> bool
     requires { StoreOf settings store.now }
     ensures { result ≡ up_member (decode (words store.now)) id }
 {
-    match place_of(store, settings, id) {
-        Some(place) => place::up_member(store, settings, place),
-        None => false,
-    }
+    place_of(store, settings, id).is_some_and(|place| place::up_member(store, settings, place))
 }
 
 // The place of the brick, if it is an up member.
@@ -43,13 +33,5 @@ pub fn find_member(store: &[u8], settings: Settings, id: u64) -> Option<usize>
     requires { StoreOf settings store.now }
     ensures { MemberOf settings (decode (words store.now)) id result }
 {
-    match place_of(store, settings, id) {
-        Some(place) => {
-            if place::up_member(store, settings, place) {
-                return Some(place);
-            }
-            None
-        }
-        None => None,
-    }
+    place_of(store, settings, id).filter(|&place| place::up_member(store, settings, place))
 }

@@ -69,10 +69,7 @@ pub fn is_up(store: &[u8], settings: Settings, place: usize) -> bool
     requires { StoreOf settings store.now × (place < settings.places) }
     ensures { result ≡ is_up (decode (words store.now)) place }
 {
-    if id(store, settings, place) == 0 {
-        return false;
-    }
-    status(store, settings, place).up
+    id(store, settings, place) != 0 && status(store, settings, place).up
 }
 
 // Is it a member?
@@ -80,10 +77,7 @@ pub fn is_member(store: &[u8], settings: Settings, place: usize) -> bool
     requires { StoreOf settings store.now × (place < settings.places) }
     ensures { result ≡ (decode (words store.now)).bricks.member ((decode (words store.now)).ids place) }
 {
-    if id(store, settings, place) == 0 {
-        return false;
-    }
-    status(store, settings, place).member
+    id(store, settings, place) != 0 && status(store, settings, place).member
 }
 
 // Is it an up member? A member of a sound store is up.
@@ -138,6 +132,7 @@ pub fn buffer<'a>(store: &'a [u8], settings: Settings, place: usize) -> &'a [u8]
 }
 
 // Its copy of a bucket in memory, and the one on disk.
+// stays: two functions, for with a parameter that says which copy each caller would name it all the same, and the promise would choose between two fields.
 pub fn memory<'a>(store: &'a [u8], settings: Settings, place: usize, bucket: usize) -> &'a [u8]
     requires { StoreOf settings store.now × (place < settings.places) × (0 < (decode (words store.now)).ids place) × (bucket < buckets settings) }
     ensures { CopyPart settings.entries

@@ -1,33 +1,12 @@
-use mathlib.Core.Path.{◌≡◌, sym, ap, ◌∙◌}
-use Rattle.lists.specs.Tests.{◌and◌}
-use Rattle.rules.specs.Derived.{up_member}
+use Rattle.std.proofs.Common.{rules, tests}
 use Rattle.words.specs.Words.{words}
-use Rattle.layout.specs.Contents.{Brick, blank_brick}
-use Rattle.layout.specs.Store.{brick_in, decode}
-use Rattle.lent.specs.Places.{Stands}
+use Rattle.layout.specs.Store.{decode}
+use Rattle.lent.proofs.LookUps.{by_place, member_found, member_nowhere}
 use Rattle.lent.proofs.brick.find_member.Goals as goal
 
-pub up_member-requires : goal.up_member-requires
-up_member-requires c =
-    let h : Stands c.args.settings (decode (words c.args.store.now)) c.args.id c.in-Some.place =
-    rw c.in-Some.is at c.place_of.ensures in
-    (c.requires, h.inside)
-
-pub returns-then-up_member : goal.returns-then-up_member
-returns-then-up_member c =
-    let h : Stands c.args.settings (decode (words c.args.store.now)) c.args.id c.in-Some.place =
-    rw c.in-Some.is at c.place_of.ensures in
-    record { stands = h; up = ap (up_member (decode (words c.args.store.now))) (sym h.here) ∙ sym c.up_member.ensures ∙ c.if-up_member.true }
-
-pub returns-else-up_member : goal.returns-else-up_member
-returns-else-up_member c =
-    let h : Stands c.args.settings (decode (words c.args.store.now)) c.args.id c.in-Some.place =
-    rw c.in-Some.is at c.place_of.ensures in
-    ap (up_member (decode (words c.args.store.now))) (sym h.here) ∙ sym c.up_member.ensures ∙ c.if-up_member.false
-
-pub returns-in-None : goal.returns-in-None
-unfolding ◌and◌
-returns-in-None c =
-    let h : brick_in (decode (words c.args.store.now)) c.args.id ≡ blank_brick = rw c.in-None.is at
-    c.place_of.ensures in
-    ap (λ (b : Brick). b.status.up and b.status.member) h
+pub returns : goal.returns
+returns c =
+    let s = decode (words c.args.store.now) in
+    by_place c.args.settings s c.args.id c.place_of.result _ _ c.place_of.ensures c.filter.ensures
+    (λ p h q. member_found c.args.settings s c.args.id p h q.0 c.filter.result (search (rules, tests)) (search rules))
+    (λ b e. member_nowhere c.args.settings s c.args.id c.filter.result b e)

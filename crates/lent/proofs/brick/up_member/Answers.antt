@@ -1,27 +1,13 @@
-use mathlib.Core.Path.{◌≡◌, sym, ap, ◌∙◌}
+use Rattle.std.proofs.Common.{◌≡◌, sym, ap, ◌∙◌, rules, tests}
 use Rattle.words.specs.Words.{words}
-use Rattle.lists.specs.Tests.{◌and◌}
 use Rattle.rules.specs.Derived.{up_member}
-use Rattle.layout.specs.Contents.{Brick, blank_brick}
-use Rattle.layout.specs.Store.{brick_in, decode}
-use Rattle.lent.specs.Places.{Stands}
+use Rattle.layout.specs.Store.{decode}
+use Rattle.lent.proofs.LookUps.{by_place, blank_down}
 use Rattle.lent.proofs.brick.up_member.Goals as goal
 
-pub up_member-requires : goal.up_member-requires
-up_member-requires c =
-    let h : Stands c.args.settings (decode (words c.args.store.now)) c.args.id c.in-Some.place =
-    rw c.in-Some.is at c.place_of.ensures in
-    (c.requires, h.inside)
-
-pub returns-in-Some : goal.returns-in-Some
-returns-in-Some c =
-    let h : Stands c.args.settings (decode (words c.args.store.now)) c.args.id c.in-Some.place =
-    rw c.in-Some.is at c.place_of.ensures in
-    c.up_member.ensures ∙ ap (up_member (decode (words c.args.store.now))) h.here
-
-pub returns-in-None : goal.returns-in-None
-unfolding ◌and◌
-returns-in-None c =
-    let h : brick_in (decode (words c.args.store.now)) c.args.id ≡ blank_brick =
-    rw c.in-None.is at c.place_of.ensures in
-    sym (ap (λ (b : Brick). b.status.up and b.status.member) h)
+pub returns : goal.returns
+returns c =
+    let s = decode (words c.args.store.now) in
+    by_place c.args.settings s c.args.id c.place_of.result _ _ c.place_of.ensures c.is_some_and.ensures
+    (λ p h q. let e : c.is_some_and.result ≡ up_member s (s.ids p) = search (rules, tests) in e ∙ ap (up_member s) h.here)
+    (λ b e. e ∙ sym (blank_down s c.args.id b))

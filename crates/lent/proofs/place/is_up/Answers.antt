@@ -3,9 +3,10 @@ use Rattle.layout.specs.Contents.{Status, Brick}
 use Rattle.lent.proofs.Places.{zero_blank}
 use Rattle.lent.proofs.place.is_up.Goals as goal
 
-pub returns-then-id-eq0 : goal.returns-then-id-eq0
-returns-then-id-eq0 c =
-    ap (λ (b : Brick). b.status.up) (sym (zero_blank _ c.args.store.now c.requires.0 _ (sym c.id.ensures ∙ c.if-id-eq0.true)))
+pub returns-else-id-ne0 : goal.returns-else-id-ne0
+returns-else-id-ne0 c =
+    rw c.if-id-ne0.false
+    (ap (λ (b : Brick). b.status.up) (sym (zero_blank _ c.args.store.now c.requires.0 _ (sym c.id.ensures ∙ c.if-id-ne0.false))))
 
-pub returns : goal.returns
-returns c = ap (λ (b : Status). b.up) c.status.ensures
+pub returns-then-id-ne0 : goal.returns-then-id-ne0
+returns-then-id-ne0 c = ap (λ (b : Status). b.up) c.status.ensures
