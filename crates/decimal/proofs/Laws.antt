@@ -1,7 +1,7 @@
 -- Laws of decimal text: digits without their bound, the way there and back, and what the loops do.
 use mathlib.Core.Path.{◌≡◌, refl, sym, ap, ◌∙◌}
 use mathlib.Core.List.{List, [], ◌∷◌, ◌++◌, append_assoc}
-use mathlib.Core.Option.{Option, some, none}
+use Rattle.std.specs.Prelude.{Option, Some, None}
 use Prim.Native.Nat.{ℕ, zero, suc, ◌+◌, ◌-◌, ◌*◌, ◌/◌, ◌%◌, ◌^◌, ◌≤◌, ◌<◌}
 use native.Mathlib.Nat.{pow-suc, div-lt_iff_lt-mul, zero-add}
 use native.Mathlib.Numerals.{add-one}
@@ -12,8 +12,7 @@ use lib.ListN.{length, take, drop, get_or, set, length-append, length-set}
 use lib.Seq.{set_split, drop_at, length-take-le}
 use Rattle.area.specs.Area.{onto}
 use Rattle.lists.proofs.Tests.{by, by_lt}
-use Rattle.decimal.specs.Decimal.{digits, decimal, push, and_then, spelled, number_of, answer}
-use Rattle.decimal.specs.declared.Number.TheVariants.{Value, Malformed}
+use Rattle.decimal.specs.Decimal.{digits, decimal, push, and_then, spelled, number_of}
 
 -- ---- the digits
 
@@ -131,54 +130,44 @@ write_done t l m e = rw zero-add e
 -- ---- one more digit
 
 module _ (v b : ℕ) where
-  pub push_under : b < 48 → push v b ≡ none
+  pub push_under : b < 48 → push v b ≡ None
   unfolding push
   push_under h = rw (lt-ltb b 48 h)
 
-  pub push_over : 57 < b → push v b ≡ none
+  pub push_over : 57 < b → push v b ≡ None
   unfolding push
   push_over h = rw (le-ltb b 48 (omega arith), le-ltb b 58 h)
 
-  pub push_wide : 48 ≤ b → b < 58 → 2 ^ 64 ≤ 10 * v + (b - 48) → push v b ≡ none
+  pub push_wide : 48 ≤ b → b < 58 → 2 ^ 64 ≤ 10 * v + (b - 48) → push v b ≡ None
   unfolding push
   push_wide p q h = rw (le-ltb b 48 p, lt-ltb b 58 q, le-ltb (10 * v + (b - 48)) (2 ^ 64) h)
 
-  pub push_fits : 48 ≤ b → b < 58 → 10 * v + (b - 48) < 2 ^ 64 → push v b ≡ some (10 * v + (b - 48))
+  pub push_fits : 48 ≤ b → b < 58 → 10 * v + (b - 48) < 2 ^ 64 → push v b ≡ Some (10 * v + (b - 48))
   unfolding push
   push_fits p q h = rw (le-ltb b 48 p, lt-ltb b 58 q, lt-ltb (10 * v + (b - 48)) (2 ^ 64) h)
 
 -- ---- texts
 
 -- what came first, and what came of it
-pub then_some : {A B : Type 0} (o : Option A) (f : A → Option B) (b : B) → and_then o f ≡ some b → (a : A) × (o ≡ some a) × (f a ≡ some b)
+pub then_some : {A B : Type 0} (o : Option A) (f : A → Option B) (b : B) → and_then o f ≡ Some b → (a : A) × (o ≡ Some a) × (f a ≡ Some b)
 unfolding and_then
-then_some none f b e = let z : ◌≡◌ {A = ℕ} 0 1 = cc in absurd (omega arith)
-then_some (some a) f b e = (a, refl, e)
+then_some None f b e = let z : ◌≡◌ {A = ℕ} 0 1 = cc in absurd (omega arith)
+then_some (Some a) f b e = (a, refl, e)
 
 then_then : {A B C : Type 0} (o : Option A) (f : A → Option B) (g : B → Option C) (h : A → Option C)
     → ((a : A) → h a ≡ and_then (f a) g) → and_then o h ≡ and_then (and_then o f) g
 unfolding and_then
-then_then none f g h e = refl
-then_then (some a) f g h e = e a
+then_then None f g h e = refl
+then_then (Some a) f g h e = e a
 
 pub spelled_append : (v : ℕ) (xs ys : List ℕ) → spelled v (xs ++ ys) ≡ and_then (spelled v xs) (λ w. spelled w ys)
 unfolding spelled and_then
 spelled_append v [] ys = refl
 spelled_append v (b ∷ xs) ys = then_then (push v b) (λ w. spelled w xs) (λ w. spelled w ys) (λ w. spelled w (xs ++ ys)) (λ w. spelled_append w xs ys)
 
-pub answer_value : (o : Option ℕ) (w : ℕ) → answer o ≡ Value w → o ≡ some w
-unfolding answer
-answer_value none w e = let z : ◌≡◌ {A = ℕ} 0 1 = cc in absurd (omega arith)
-answer_value (some n) w e = cc
-
-pub answer_malformed : (o : Option ℕ) → answer o ≡ Malformed → o ≡ none
-unfolding answer
-answer_malformed none e = refl
-answer_malformed (some n) e = let z : ◌≡◌ {A = ℕ} 0 1 = cc in absurd (omega arith)
-
 -- ---- a number's text, by its length and first digit
 
-pub no_text : (s : List ℕ) → length s ≡ 0 → number_of s ≡ none
+pub no_text : (s : List ℕ) → length s ≡ 0 → number_of s ≡ None
 unfolding number_of
 no_text [] e = refl
 no_text (b ∷ s) e = absurd (omega arith)
@@ -189,7 +178,7 @@ one_digit [] e = absurd (omega arith)
 one_digit (b ∷ []) e = refl
 one_digit (b ∷ c ∷ s) e = absurd (omega arith)
 
-pub leading_zero : (s : List ℕ) → 1 < length s → get_or s 0 0 ≡ 48 → number_of s ≡ none
+pub leading_zero : (s : List ℕ) → 1 < length s → get_or s 0 0 ≡ 48 → number_of s ≡ None
 unfolding number_of
 leading_zero [] h e = absurd (omega arith)
 leading_zero (b ∷ []) h e = absurd (omega arith)
@@ -202,7 +191,7 @@ no_leading_zero (b ∷ []) h e = refl
 no_leading_zero (b ∷ c ∷ s) h e = rw (ne_eqb b 48 e)
 
 -- what spells no number is none
-pub spells_none : (s : List ℕ) → spelled 0 s ≡ none → number_of s ≡ none
+pub spells_none : (s : List ℕ) → spelled 0 s ≡ None → number_of s ≡ None
 unfolding number_of
 spells_none [] e = refl
 spells_none (b ∷ []) e = e

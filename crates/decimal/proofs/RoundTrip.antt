@@ -2,7 +2,7 @@
 use mathlib.Core.Path.{◌≡◌, ap, ◌∙◌}
 use mathlib.Core.Bool.{true, false}
 use mathlib.Core.List.{List, [], ◌∷◌, ◌++◌, append_assoc, append-nil}
-use mathlib.Core.Option.{Option, some, none}
+use Rattle.std.specs.Prelude.{Option, Some, None}
 use Prim.Native.Nat.{ℕ, zero, suc, ◌+◌, ◌-◌, ◌*◌, ◌/◌, ◌%◌, ◌^◌, ◌≤◌, ◌<◌}
 use native.Mathlib.Omega.{arith}
 use borrow.Author.Tests.{eqb-false}
@@ -16,12 +16,12 @@ use Rattle.decimal.proofs.Laws.{spelled_append, then_some, one_digit, no_leading
 
 -- ---- there: the text of a number is read as that number
 
-push_back : (n : ℕ) → n < 2 ^ 64 → push (n / 10) (48 + n % 10) ≡ some n
+push_back : (n : ℕ) → n < 2 ^ 64 → push (n / 10) (48 + n % 10) ≡ Some n
 push_back n h =
     let e : 10 * (n / 10) + (48 + n % 10 - 48) ≡ n = omega arith in
-    push_fits (n / 10) (48 + n % 10) (omega arith) (omega arith) (omega arith) ∙ ap some e
+    push_fits (n / 10) (48 + n % 10) (omega arith) (omega arith) (omega arith) ∙ ap Some e
 
-spelled_last : (v b n : ℕ) → push v b ≡ some n → spelled v (b ∷ []) ≡ some n
+spelled_last : (v b n : ℕ) → push v b ≡ Some n → spelled v (b ∷ []) ≡ Some n
 unfolding spelled and_then
 spelled_last v b n e = rw e
 
@@ -34,13 +34,13 @@ by_digits P one longer n h = go 19 n (omega arith) h
     go zero n p h = one n p
     go (suc k) n p h = by_lt n 10 (λ _. one n) (λ _ q. longer n q h (go k (n / 10) (tenth (suc k) n p) (omega arith)))
 
-spelled_decimal : (n : ℕ) → n < 2 ^ 64 → spelled 0 (decimal n) ≡ some n
+spelled_decimal : (n : ℕ) → n < 2 ^ 64 → spelled 0 (decimal n) ≡ Some n
 unfolding and_then
 spelled_decimal =
-    by_digits (λ n. spelled 0 (decimal n) ≡ some n)
+    by_digits (λ n. spelled 0 (decimal n) ≡ Some n)
     (λ n p.
     let e : 10 * 0 + (48 + n - 48) ≡ n = omega arith in
-    rw (decimal_small n p) (spelled_last 0 (48 + n) n (push_fits 0 (48 + n) (omega arith) (omega arith) (omega arith) ∙ ap some e)))
+    rw (decimal_small n p) (spelled_last 0 (48 + n) n (push_fits 0 (48 + n) (omega arith) (omega arith) (omega arith) ∙ ap Some e)))
     (λ n p b r.
     rw (decimal_more n p b, spelled_append 0 (decimal (n / 10)) ((48 + n % 10) ∷ []), r)
     (spelled_last (n / 10) (48 + n % 10) n (push_back n b)))
@@ -53,7 +53,7 @@ leads =
     (λ n p b r o.
     rw (decimal_more n p b, get_or-append (decimal (n / 10)) ((48 + n % 10) ∷ []) 0 0 (decimal_least (n / 10))) (r (omega arith)))
 
-pub number_there : (n : ℕ) → n < 2 ^ 64 → number_of (decimal n) ≡ some n
+pub number_there : (n : ℕ) → n < 2 ^ 64 → number_of (decimal n) ≡ Some n
 number_there n h =
     by_lt n 1
     (λ _ p. one_digit (decimal n) (width_small n (omega arith)) ∙ spelled_decimal n h)
@@ -74,7 +74,7 @@ record Pushed (v b w : ℕ) : Type 0 where
   is : w ≡ 10 * v + (b - 48)
   fits : w < 2 ^ 64
 
-pushed : (v b w : ℕ) → push v b ≡ some w → Pushed v b w
+pushed : (v b w : ℕ) → push v b ≡ Some w → Pushed v b w
 pushed v b w e =
     by_lt b 48 (λ _ p. never (push_under v b p))
     (λ _ p. by_lt 57 b (λ _ q. never (push_over v b q))
@@ -84,10 +84,10 @@ pushed v b w e =
     record { low = p; high = omega arith; is = s; fits = omega arith })
     (λ _ r. never (push_wide v b p (omega arith) r))))
   where
-    never : push v b ≡ none → Pushed v b w
+    never : push v b ≡ None → Pushed v b w
     never n = let z : ◌≡◌ {A = ℕ} 0 1 = cc in absurd (omega arith)
 
-    same : {x : ℕ} → push v b ≡ some x → w ≡ x
+    same : {x : ℕ} → push v b ≡ Some x → w ≡ x
     same h = cc
 
 decimal_push : (v b w : ℕ) → 1 ≤ v → Pushed v b w → decimal w ≡ decimal v ++ (b ∷ [])
@@ -96,7 +96,7 @@ decimal_push v b w o p =
     let r : 48 + w % 10 ≡ b = omega arith in
     decimal_more w (omega arith) p.fits ∙ rw (q, r)
 
-spelled_back : (s : List ℕ) (v n : ℕ) → 1 ≤ v → spelled v s ≡ some n → decimal n ≡ decimal v ++ s
+spelled_back : (s : List ℕ) (v n : ℕ) → 1 ≤ v → spelled v s ≡ Some n → decimal n ≡ decimal v ++ s
 unfolding spelled
 spelled_back [] v n o e = let same : n ≡ v = cc in rw (same, append-nil)
 spelled_back (b ∷ s) v n o e =
@@ -109,7 +109,7 @@ decimal_first b w p =
     let e : 48 + w ≡ b = omega arith in
     decimal_small w (omega arith) ∙ rw e
 
-pub number_back : (s : List ℕ) (n : ℕ) → number_of s ≡ some n → decimal n ≡ s
+pub number_back : (s : List ℕ) (n : ℕ) → number_of s ≡ Some n → decimal n ≡ s
 unfolding number_of spelled
 number_back [] n e = let z : ◌≡◌ {A = ℕ} 0 1 = cc in absurd (omega arith)
 number_back (b ∷ []) n e =
@@ -119,28 +119,28 @@ number_back (b ∷ []) n e =
 number_back (b ∷ c ∷ s) n e = by (eqb b 48) zero_first other_first
   where
     zero_first : eqb b 48 ≡ true → decimal n ≡ b ∷ c ∷ s
-    zero_first t = let z : ◌≡◌ {A = Option ℕ} none (some n) = rw t at e in let y : ◌≡◌ {A = ℕ} 0 1 = cc in absurd (omega arith)
+    zero_first t = let z : ◌≡◌ {A = Option ℕ} None (Some n) = rw t at e in let y : ◌≡◌ {A = ℕ} 0 1 = cc in absurd (omega arith)
 
     other_first : eqb b 48 ≡ false → decimal n ≡ b ∷ c ∷ s
     other_first f =
-        let g : spelled 0 (b ∷ c ∷ s) ≡ some n = rw f at e in
+        let g : spelled 0 (b ∷ c ∷ s) ≡ Some n = rw f at e in
         let step = then_some (push 0 b) (λ w. spelled w (c ∷ s)) n g in
         let p = pushed 0 b step.0 step.1 in
         let o : 1 ≤ step.0 = omega (arith, eqb-false b 48 f) in
         spelled_back (c ∷ s) step.0 n o step.2 ∙ ap (λ (l : List ℕ). l ++ (c ∷ s)) (decimal_first b step.0 p)
 
-spelled_fits : (s : List ℕ) (v n : ℕ) → v < 2 ^ 64 → spelled v s ≡ some n → n < 2 ^ 64
+spelled_fits : (s : List ℕ) (v n : ℕ) → v < 2 ^ 64 → spelled v s ≡ Some n → n < 2 ^ 64
 unfolding spelled
 spelled_fits [] v n h e = let same : n ≡ v = cc in omega arith
 spelled_fits (b ∷ s) v n h e =
     let step = then_some (push v b) (λ w. spelled w s) n e in
     spelled_fits s step.0 n (pushed v b step.0 step.1).fits step.2
 
-pub number_fits : (s : List ℕ) (n : ℕ) → number_of s ≡ some n → n < 2 ^ 64
+pub number_fits : (s : List ℕ) (n : ℕ) → number_of s ≡ Some n → n < 2 ^ 64
 unfolding number_of
 number_fits [] n e = let z : ◌≡◌ {A = ℕ} 0 1 = cc in absurd (omega arith)
 number_fits (b ∷ []) n e = spelled_fits (b ∷ []) 0 n (lit< tt) e
 number_fits (b ∷ c ∷ s) n e =
     by (eqb b 48)
-    (λ t. let z : ◌≡◌ {A = Option ℕ} none (some n) = rw t at e in let y : ◌≡◌ {A = ℕ} 0 1 = cc in absurd (omega arith))
+    (λ t. let z : ◌≡◌ {A = Option ℕ} None (Some n) = rw t at e in let y : ◌≡◌ {A = ℕ} 0 1 = cc in absurd (omega arith))
     (λ f. spelled_fits (b ∷ c ∷ s) 0 n (lit< tt) (rw f at e))

@@ -2,64 +2,60 @@
 
 #![tactic(auto)]
 
-ghost use Rattle.std.specs.Prelude.{◌≡◌, ◌+◌, ◌%◌, ◌≤◌, ◌<◌, length};
-ghost use Rattle.std.proofs.Math.Option.{some};
+ghost use Rattle.std.specs.Prelude.{◌≡◌, ◌+◌, ◌%◌, ◌≤◌, ◌<◌, length, Some};
 ghost use Rattle.area.specs.Area.{onto};
-ghost use Rattle.decimal.specs.Decimal.{decimal, push, spelled, number_of, answer};
-
-// What reading a number gives.
-#[derive(Clone, Copy)]
-pub enum Number {
-    Value(u64),
-    Malformed,
-}
+ghost use Rattle.decimal.specs.Decimal.{decimal, push, spelled, number_of};
 
 // A number with one more digit. Below the tenth of 2^64 every digit fits; after it, up to 5.
-pub fn push_digit(number: u64, b: u8) -> Number
-    ensures { result ≡ answer (push number b) }
+#[tactic(auto, unfolding(crate::specs::Decimal::push))]
+pub fn push_digit(number: u64, b: u8) -> Option<u64>
+    ensures { result ≡ push number b }
 {
-    if b < 48 {
-        return Number::Malformed;
+    if b < b'0' {
+        return None;
     }
-    if 57 < b {
-        return Number::Malformed;
+    if b'9' < b {
+        return None;
     }
-    let d = (b - 48) as u64;
+    let d = (b - b'0') as u64;
     if number < 0x1999_9999_9999_9999 {
-        return Number::Value(10 * number + d);
+        return Some(10 * number + d);
     }
     if 0x1999_9999_9999_9999 < number {
-        return Number::Malformed;
+        return None;
     }
     if 5 < d {
-        return Number::Malformed;
+        return None;
     }
-    Number::Value(10 * number + d)
+    Some(10 * number + d)
 }
 
 // The number that a whole text is, written as `write` writes it, where its digits spell this number.
-pub fn whole(digits: &[u8], number: u64) -> Number
-    requires { spelled 0 digits.now ≡ some number }
-    ensures { result ≡ answer (number_of digits.now) }
+#[tactic(auto, using(crate::proofs::Laws::no_text, crate::proofs::Laws::one_digit, crate::proofs::Laws::leading_zero, crate::proofs::Laws::no_leading_zero))]
+pub fn whole(digits: &[u8], number: u64) -> Option<u64>
+    requires { spelled 0 digits.now ≡ Some number }
+    ensures { result ≡ number_of digits.now }
 {
-    if digits.len() == 0 {
-        return Number::Malformed;
+    if digits.is_empty() {
+        return None;
     }
     if digits.len() == 1 {
-        return Number::Value(number);
+        return Some(number);
     }
-    if digits[0] == 48 {
-        return Number::Malformed;
+    if digits[0] == b'0' {
+        return None;
     }
-    Number::Value(number)
+    Some(number)
 }
 
 // How many digits a number has.
+#[tactic(auto, using(crate::proofs::Laws::width_four, crate::proofs::Laws::decimal_most))]
 pub fn width(number: u64) -> usize
     ensures { (result ≡ length (decimal number)) × (result ≤ 20) }
 {
     let mut x = number;
     let mut n: usize = 0;
+    // stays: a number is divided down, four digits a turn; a `for` over the turns would need a `break` besides
     while 10000 <= x {
         x = x / 10000;
         n += 4;
@@ -68,27 +64,24 @@ pub fn width(number: u64) -> usize
 }
 
 // The same of a number of at most four digits.
+#[tactic(auto, using(crate::proofs::Laws::width_small, crate::proofs::Laws::width_2, crate::proofs::Laws::width_3, crate::proofs::Laws::width_4))]
 fn short_width(x: u64) -> usize
     requires { x < 10000 }
     ensures { (result ≡ length (decimal x)) × (result ≤ 4) }
 {
-    if x < 10 {
-        return 1;
+    match x {
+        0..=9 => 1,
+        10..=99 => 2,
+        100..=999 => 3,
+        _ => 4,
     }
-    if x < 100 {
-        return 2;
-    }
-    if x < 1000 {
-        return 3;
-    }
-    4
 }
 
 // The last digit of a number, as text.
 fn last_digit(x: u64) -> u8
     ensures { result ≡ 48 + x % 10 }
 {
-    48 + (x % 10) as u8
+    b'0' + (x % 10) as u8
 }
 
 // The digits at the front of an area, two in each turn; how many they are.
@@ -99,6 +92,7 @@ fn write_front(number: u64, area: &mut [u8]) -> usize
     let n = width(number);
     let mut x = number;
     let mut i = n - 1;
+    // stays: a number is divided down, two digits a turn; a `for` over the places would need a `break` besides
     while 100 <= x {
         area[i] = last_digit(x);
         area[i - 1] = last_digit(x / 10);
