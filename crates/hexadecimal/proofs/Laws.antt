@@ -1,17 +1,16 @@
 -- Laws of hexadecimal text: digits, the way there and back, and what the loops do.
 use mathlib.Core.Path.{◌≡◌, refl, sym, ap, ◌∙◌}
-use mathlib.Core.Bool.{true, false}
-use mathlib.Core.List.{List, [], ◌∷◌, ◌++◌, append-nil}
-use mathlib.Core.Option.{Option, some, none}
+use mathlib.Core.Bool.{true, false, ◌&&◌}
+use mathlib.Core.List.{List, [], ◌∷◌, ◌++◌}
+use Rattle.std.specs.Prelude.{Option, Some, None}
 use Prim.Native.Nat.{ℕ, zero, suc, ◌+◌, ◌-◌, ◌*◌, ◌/◌, ◌%◌, ◌≤◌, ◌<◌}
 use native.Mathlib.Numerals.{add-one}
 use native.Mathlib.Omega.{arith}
 use borrow.Author.Tests.{lt-ltb, le-ltb, ltb-true, eqb-true, eq-eqb, ne_eqb}
 use lib.Dec.{ltb, eqb}
-use lib.ListN.{length, take, drop, get_or, set, drop_of_length-le}
-use lib.Seq.{take-suc, length-take-le, take_all, paste, paste-suc}
+use lib.ListN.{length, take, get_or}
+use lib.Seq.{take-suc, length-take-le}
 use Rattle.area.specs.Area.{onto}
-use Rattle.lists.specs.Tests.{◌and◌}
 use Rattle.lists.proofs.Tests.{impossible, by, by_lt}
 use Rattle.area.proofs.Laws.{onto_onto}
 use Rattle.area.proofs.Each.{Above, Below, each_none, each_more}
@@ -109,12 +108,12 @@ digits_at (b ∷ s) zero h t = (digits_head b s t).0
 digits_at (b ∷ s) (suc i) h t = digits_at s i (omega arith) (digits_head b s t).1
 
 -- a turn of the loop that looks at each digit
-digits_append : (s : List ℕ) (b : ℕ) → only_digits (s ++ (b ∷ [])) ≡ (only_digits s and is_digit b)
-unfolding only_digits ◌and◌
+digits_append : (s : List ℕ) (b : ℕ) → only_digits (s ++ (b ∷ [])) ≡ (only_digits s && is_digit b)
+unfolding only_digits
 digits_append [] b = by (is_digit b) (λ e. rw e) (λ e. rw e)
 digits_append (a ∷ s) b = by (is_digit a) (λ e. rw e (digits_append s b)) (λ e. rw e)
 
-pub digits_turn : (s : List ℕ) (i : ℕ) → i < length s → only_digits (take (i + 1) s) ≡ (only_digits (take i s) and is_digit (get_or s i 0))
+pub digits_turn : (s : List ℕ) (i : ℕ) → i < length s → only_digits (take (i + 1) s) ≡ (only_digits (take i s) && is_digit (get_or s i 0))
 digits_turn s i h = rw (add-one, take-suc s i 0 h) (digits_append (take i s) (get_or s i 0))
 
 pub unhex_length : (n : ℕ) (s : List ℕ) → length s ≡ 2 * n → length (unhex s) ≡ n
@@ -179,7 +178,7 @@ unhex_hex (each_more {x = b} {xs = bs} h r) =
     rw (hex_value (b / 16) (omega arith), hex_value (b % 16) (omega arith), e, unhex_hex r)
 
 -- bytes are read back from their text
-pub bytes_there : (n : ℕ) {bs : List ℕ} → Below 256 bs → length bs ≡ n → hex_bytes n (hex bs) ≡ some bs
+pub bytes_there : (n : ℕ) {bs : List ℕ} → Below 256 bs → length bs ≡ n → hex_bytes n (hex bs) ≡ Some bs
 unfolding hex_bytes spells_bytes
 bytes_there n {bs} h e =
     rw (eq-eqb (length (hex bs)) (2 * n) (hex_length bs ∙ ap (λ (k : ℕ). 2 * k) e), hex_digits h, unhex_hex h)
@@ -232,12 +231,12 @@ pub record ReadBytes (n : ℕ) (s bs : List ℕ) : Type 0 where
   pub value : bs ≡ unhex s
 
 -- a text that is read as bytes is their text
-pub bytes_back : (n : ℕ) (s bs : List ℕ) → hex_bytes n s ≡ some bs → ReadBytes n s bs
+pub bytes_back : (n : ℕ) (s bs : List ℕ) → hex_bytes n s ≡ Some bs → ReadBytes n s bs
 unfolding hex_bytes
 bytes_back n s bs e =
     by (spells_bytes n s)
     (λ t.
-    let g : some (unhex s) ≡ some bs = rw t at e in
+    let g : Some (unhex s) ≡ Some bs = rw t at e in
     let same : bs ≡ unhex s = cc in
     let i = is_bytes n s t in
     record {
@@ -246,19 +245,4 @@ bytes_back n s bs e =
       text = ap hex same ∙ hex_unhex n s i.0 i.1;
       value = same;
     })
-    (λ t. let z : ◌≡◌ {A = Option (List ℕ)} none (some bs) = rw t at e in let y : ◌≡◌ {A = ℕ} 0 1 = cc in absurd (omega arith))
-
--- ---- the loop that reads
-
-module _ (u d : List ℕ) (e : length u ≡ length d) where
-  pub decode_turn : (m : List ℕ) (i b : ℕ) → i < length d → m ≡ paste d 0 u i → b ≡ get_or u i 0 → set m i b ≡ paste d 0 u (i + 1)
-  decode_turn m i b h em eb =
-      let z : 0 + i ≡ i = omega arith in
-      rw (em, eb, add-one)
-      (ap (λ (k : ℕ). set (paste d 0 u i) k (get_or u i 0)) (sym z) ∙ paste-suc d 0 u i 0 (omega arith) (omega arith))
-
-  pub decode_done : (m : List ℕ) (i : ℕ) → i ≡ length d → m ≡ paste d 0 u i → m ≡ u
-  decode_done m i h em =
-      let z : drop (0 + i) d ≡ [] = drop_of_length-le d {i = 0 + i} (omega arith) in
-      let a : take i u ≡ u = take_all i u (omega arith) in
-      em ∙ rw (z, a) (append-nil u)
+    (λ t. let z : ◌≡◌ {A = Option (List ℕ)} None (Some bs) = rw t at e in let y : ◌≡◌ {A = ℕ} 0 1 = cc in absurd (omega arith))

@@ -1,6 +1,5 @@
 -- Bytes in hexadecimal: two digits for each, the greater first, lower case.
-use Rattle.std.specs.Prelude.{Bool, true, false, cond, List, [], ◌∷◌, ℕ, ◌+◌, ◌-◌, ◌*◌, ◌/◌, ◌%◌, ltb, eqb, length}
-use Rattle.std.proofs.Math.Option.{Option, some, none}
+use Rattle.std.specs.Prelude.{Bool, true, false, cond, List, [], ◌∷◌, ℕ, ◌+◌, ◌-◌, ◌*◌, ◌/◌, ◌%◌, ltb, eqb, length, Option, Some, None}
 
 -- the digit of a number below 16: 0 to 9, a to f
 unfoldable pub hex_digit : ℕ → ℕ
@@ -34,4 +33,4 @@ spells_bytes n s = cond (eqb (length s) (2 * n)) (only_digits s) false
 
 -- the n bytes that a text is
 unfoldable pub hex_bytes : ℕ → List ℕ → Option (List ℕ)
-hex_bytes n s = cond (spells_bytes n s) (some (unhex s)) none
+hex_bytes n s = cond (spells_bytes n s) (Some (unhex s)) None
