@@ -2,7 +2,7 @@
 use mathlib.Core.Path.{◌≡◌, refl, sym, ap, ◌∙◌}
 use mathlib.Core.Bool.{Bool, true, false, cond}
 use mathlib.Core.List.{List, [], ◌∷◌}
-use mathlib.Core.Option.{some}
+use Rattle.std.specs.Prelude.{Some}
 use Prim.Native.Nat.{ℕ, zero, suc, ◌+◌, ◌≤◌, ◌<◌}
 use native.Mathlib.Nat.{add-zero, add-suc, suc-add}
 use native.Mathlib.Numerals.{one-add}
@@ -135,31 +135,31 @@ formed_fields S p w =
 -- ---- events and lines
 
 -- THEOREM. The line of an event whose fields are below 2^64 and whose data has S bytes is read as that event.
-pub read_event_line : (S : ℕ) (e : Event) → has_line S e ≡ true → read_event S (event_line e) ≡ some e
+pub read_event_line : (S : ℕ) (e : Event) → has_line S e ≡ true → read_event S (event_line e) ≡ Some e
 unfolding has_line read_event event_line and_then
-read_event_line S e h = rw (fields_of_line S (event_fields e) h) (ap some (event_of_event_fields e))
+read_event_line S e h = rw (fields_of_line S (event_fields e) h) (ap Some (event_of_event_fields e))
 
 record Was (S : ℕ) (l : List ℕ) (e : Event) : Type 0 where
   line : event_line e ≡ l
   fits : has_line S e ≡ true
 
-was : (S : ℕ) (l : List ℕ) (e : Event) → read_event S l ≡ some e → Was S l e
+was : (S : ℕ) (l : List ℕ) (e : Event) → read_event S l ≡ Some e → Was S l e
 unfolding read_event event_line has_line
 was S l e t =
     let r = then_some (read_fields S l) _ e t in
     let p : EventFields = r.0 in
-    let made : some (event_of p) ≡ some e = r.2 in
+    let made : Some (event_of p) ≡ Some e = r.2 in
     let same : e ≡ event_of p = cc in
     let formed = fields_well_formed S l p r.1 in
     let back : event_fields e ≡ p = ap event_fields same ∙ formed_fields S p (well_formed S p formed) in
     record { line = ap line_of back ∙ line_of_fields S l p r.1; fits = ap (is_well_formed S) back ∙ formed }
 
 -- THEOREM. A line that is read as an event is that event's line ..
-pub event_line_read : (S : ℕ) (l : List ℕ) (e : Event) → read_event S l ≡ some e → event_line e ≡ l
+pub event_line_read : (S : ℕ) (l : List ℕ) (e : Event) → read_event S l ≡ Some e → event_line e ≡ l
 event_line_read S l e t = (was S l e t).line
 
 -- .. and the event is one that has a line. So each event has one line at most, and each line that is read is one event's.
-pub read_has_line : (S : ℕ) (l : List ℕ) (e : Event) → read_event S l ≡ some e → has_line S e ≡ true
+pub read_has_line : (S : ℕ) (l : List ℕ) (e : Event) → read_event S l ≡ Some e → has_line S e ≡ true
 read_has_line S l e t = (was S l e t).fits
 
 -- what stands for a refused line has none

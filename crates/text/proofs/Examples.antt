@@ -2,7 +2,7 @@
 use mathlib.Core.Path.{◌≡◌, refl}
 use mathlib.Core.Bool.{Bool, true, false}
 use mathlib.Core.List.{List, [], ◌∷◌}
-use mathlib.Core.Option.{Option, some, none}
+use Rattle.std.specs.Prelude.{Option, Some, None}
 use Prim.Native.Nat.{◌^◌, ◌-◌}
 use Prim.Native.String.{String}
 use Rattle.lists.specs.Tests.{◌and◌, same_numbers}
@@ -18,8 +18,8 @@ reads : String → Option EventFields
 reads s = read_fields 8 (ascii s)
 
 is_none : Option EventFields → Bool
-is_none none = true
-is_none (some e) = false
+is_none None = true
+is_none (Some e) = false
 
 only_refused : List String → Bool
 only_refused [] = true
@@ -29,17 +29,17 @@ only_refused (s ∷ ss) = one (is_none (reads s)) (only_refused ss)
     one true b = b
     one false b = false
 
-get_read : reads "get,0,5\n" ≡ some (make_fields 10 (0 ∷ 5 ∷ []) [])
+get_read : reads "get,0,5\n" ≡ Some (make_fields 10 (0 ∷ 5 ∷ []) [])
 unfolding reads push and_then spelled number_of ascii kinds kind_at same_numbers kind_from kind_of_word before fields take_numbers take_bytes
     fields_of_kind fields_of_texts is_line without_feed read_fields ◌and◌
 get_read = refl
 
-put_read : reads "put,0,0,5,a1a1a1a1a1a1a10f\n" ≡ some (make_fields 1 (0 ∷ 0 ∷ 5 ∷ []) (161 ∷ 161 ∷ 161 ∷ 161 ∷ 161 ∷ 161 ∷ 161 ∷ 15 ∷ []))
+put_read : reads "put,0,0,5,a1a1a1a1a1a1a10f\n" ≡ Some (make_fields 1 (0 ∷ 0 ∷ 5 ∷ []) (161 ∷ 161 ∷ 161 ∷ 161 ∷ 161 ∷ 161 ∷ 161 ∷ 15 ∷ []))
 unfolding reads push and_then spelled number_of is_digit digit_value only_digits unhex spells_bytes hex_bytes ascii kinds kind_at same_numbers kind_from
     kind_of_word before fields take_numbers take_bytes fields_of_kind fields_of_texts is_line without_feed read_fields ◌and◌
 put_read = refl
 
-largest_read : reads "copy,18446744073709551615\n" ≡ some (make_fields 2 ((2 ^ 64 - 1) ∷ []) [])
+largest_read : reads "copy,18446744073709551615\n" ≡ Some (make_fields 2 ((2 ^ 64 - 1) ∷ []) [])
 unfolding reads push and_then spelled number_of ascii kinds kind_at same_numbers kind_from kind_of_word before fields take_numbers take_bytes
     fields_of_kind fields_of_texts is_line without_feed read_fields ◌and◌
 largest_read = refl
@@ -49,7 +49,7 @@ unfolding digits decimal hex_digit hex ascii kinds kind_at parted field_texts li
 put_written = refl
 
 -- the settings line of the worked trace
-settings_read : read_settings (ascii "3,8,2,4\n") ≡ some (record { places = 3; size = 8; entries = 2; chunks = 4 })
+settings_read : read_settings (ascii "3,8,2,4\n") ≡ Some (record { places = 3; size = 8; entries = 2; chunks = 4 })
 unfolding ascii push and_then spelled number_of before fields take_numbers is_line without_feed ◌and◌ settings_at settings_of_fields read_settings
 settings_read = refl
 

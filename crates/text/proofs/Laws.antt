@@ -2,7 +2,7 @@
 use mathlib.Core.Path.{◌≡◌, refl, sym, ap, ◌∙◌}
 use mathlib.Core.Bool.{Bool, true}
 use mathlib.Core.List.{List, [], ◌∷◌}
-use mathlib.Core.Option.{Option, some, none}
+use Rattle.std.specs.Prelude.{Option, Some, None, unwrap_or}
 use Prim.Native.Nat.{ℕ, zero, suc, ◌+◌, ◌≤◌, ◌<◌}
 use native.Mathlib.Nat.{add-zero}
 use native.Mathlib.Omega.{arith}
@@ -10,13 +10,12 @@ use borrow.Author.Tests.{eqb-true, leb-true, ltb-true}
 use lib.Dec.{eqb, leb, ltb}
 use lib.ListN.{length, get_or}
 use Rattle.lists.specs.Tests.{◌and◌, all_below, every, same_numbers}
-use Rattle.lists.proofs.Tests.{by, by_lt, and_l, and_r, all_at, same_numbers_eq}
-use Rattle.area.specs.Area.{onto}
+use Rattle.lists.proofs.Tests.{by, and_l, and_r, all_at, same_numbers_eq}
 use Rattle.area.proofs.Each.{Above, each_of}
 use Rattle.rules.specs.Event.{kind_count, ascii, Kind, kinds, no_kind, kind_at}
 use Rattle.rules.proofs.Event.{kinds_count}
 use Rattle.text.specs.Kinds.{kind_from, kind_of_word}
-use Rattle.text.specs.Table.{shape_of, kind_number}
+use Rattle.text.specs.Table.{shape_of}
 use Rattle.text.specs.declared.Shape.{Shape}
 
 -- ---- every row of the table
@@ -24,22 +23,21 @@ use Rattle.text.specs.declared.Shape.{Shape}
 -- the word finds its own kind, is short and has no comma; at most three numbers follow
 row_ok : ℕ → Kind → Bool
 row_ok k f =
-    eqb (kind_number (kind_of_word f.word)) k and leb (length f.word) 7 and every (λ b. ltb 44 b) f.word and leb f.numbers 3
+    eqb (unwrap_or (kind_of_word f.word) 0) k and leb (length f.word) 7 and every (λ b. ltb 44 b) f.word and leb f.numbers 3
 
 rows : (i : ℕ) → i < kind_count → row_ok (suc i) (kind_at (suc i)) ≡ true
-unfolding row_ok ◌and◌ all_below every kind_of_word kind_from same_numbers kind_number kind_at kinds ascii
+unfolding row_ok ◌and◌ all_below every kind_of_word kind_from same_numbers kind_at kinds ascii
 rows i h = all_at kind_count (λ k. row_ok (suc k) (kind_at (suc k))) refl i h
 
 pub record KindOk (k : ℕ) : Type 0 where
-  pub kind : kind_of_word (kind_at k).word ≡ some k
+  pub kind : kind_of_word (kind_at k).word ≡ Some k
   pub short : length (kind_at k).word ≤ 7
   pub plain : Above 44 (kind_at k).word
   pub few : (kind_at k).numbers ≤ 3
 
-pub number_some : (o : Option ℕ) (k : ℕ) → 1 ≤ k → kind_number o ≡ k → o ≡ some k
-unfolding kind_number
-number_some none k h e = absurd (omega arith)
-number_some (some j) k h e = ap some e
+number_some : (o : Option ℕ) (k : ℕ) → 1 ≤ k → unwrap_or o 0 ≡ k → o ≡ Some k
+number_some None k h e = absurd (omega arith)
+number_some (Some j) k h e = ap Some e
 
 opened : (k : ℕ) → 1 ≤ k → row_ok k (kind_at k) ≡ true → KindOk k
 unfolding row_ok
@@ -48,7 +46,7 @@ opened k h t =
     let t0 = and_l _ _ t1 in
     let w = (kind_at k).word in
     record {
-      kind = number_some (kind_of_word w) k h (eqb-true (kind_number (kind_of_word w)) k (and_l _ _ t0));
+      kind = number_some (kind_of_word w) k h (eqb-true (unwrap_or (kind_of_word w) 0) k (and_l _ _ t0));
       short = leb-true (length w) 7 (and_r _ _ t0);
       plain = each_of (λ (b : ℕ). 44 < b) (λ b. ltb 44 b) (λ b. ltb-true 44 b) w (and_r _ _ t1);
       few = leb-true (kind_at k).numbers 3 (and_r _ _ t);
@@ -58,51 +56,16 @@ pub form_ok : (k : ℕ) → 1 ≤ k → k ≤ kind_count → KindOk k
 form_ok zero h g = absurd (omega arith)
 form_ok (suc i) h g = opened (suc i) h (rows i (omega arith))
 
--- ---- the code's table is the table
-
-pub row_is : (k kind : ℕ) (r : Shape) → kind ≡ k → r ≡ shape_of (kind_at k) → r ≡ shape_of (kind_at kind)
-row_is k kind r e h = rw e h
-
--- a word, written where its kind asks for it
-pub word_fits : (k kind n : ℕ) → kind ≡ k → length (kind_at kind).word ≤ n → length (kind_at k).word ≤ n
-word_fits k kind n e h = rw e at h
-
-pub word_is : (k kind r : ℕ) (area area' : List ℕ) → kind ≡ k → (r ≡ length (kind_at k).word) × (area' ≡ onto 0 (kind_at k).word area)
-    → (r ≡ length (kind_at kind).word) × (area' ≡ onto 0 (kind_at kind).word area)
-word_is k kind r area area' e h = rw e h
-
--- the number is none of a match's first n keys
-unfoldable pub Passed : (ℕ → ℕ) → ℕ → ℕ → Type 0
-Passed key k zero = Unit {0}
-Passed key k (suc n) = Passed key k n × (k ≡ key (suc n) → ⊥)
-
-pub passed_at : (key : ℕ → ℕ) (k n i : ℕ) → Passed key k n → i < n → k ≡ key (suc i) → ⊥
-unfolding Passed
-passed_at key k zero i p h e = omega arith
-passed_at key k (suc n) i p h e =
-    by_lt i n
-    (λ _ q. passed_at key k n i p.0 q e)
-    (λ _ q. let j : i ≡ n = omega arith in p.1 (e ∙ ap (λ (m : ℕ). key (suc m)) j))
-
-past : (from k n : ℕ) → suc from ≤ k → Passed (λ j. from + j) k n → suc (from + n) ≤ k
-unfolding Passed
-past from k zero h p = omega arith
-past from k (suc n) h p = let r = past from k n h p.0 in let ne = p.1 in omega arith
-
--- a kind above `from` that is none of the next n is the one after them
-pub last_kind : (from k n : ℕ) → suc from ≤ k → k ≤ suc (from + n) → Passed (λ j. from + j) k n → k ≡ suc (from + n)
-last_kind from k n h g p = let r = past from k n h p in omega arith
-
 -- ---- the kind of a word
 
-kind_in_some : (fs : List Kind) (k j : ℕ) (w : List ℕ) → kind_from k fs w ≡ some j
+kind_in_some : (fs : List Kind) (k j : ℕ) (w : List ℕ) → kind_from k fs w ≡ Some j
     → (i : ℕ) × (j ≡ k + i) × (i < length fs) × ((get_or fs i no_kind).word ≡ w)
 unfolding kind_from
 kind_in_some [] k j w e = let z : ◌≡◌ {A = ℕ} 0 1 = cc in absurd (omega arith)
 kind_in_some (f ∷ fs) k j w e =
     by (same_numbers w f.word)
     (λ p.
-    let g : some k ≡ some j = rw p at e in
+    let g : Some k ≡ Some j = rw p at e in
     let s : j ≡ k = cc in
     (0, rw add-zero s, omega arith, sym (same_numbers_eq w f.word p)))
     (λ p.
@@ -114,7 +77,7 @@ pub record KindIs (w : List ℕ) (k : ℕ) : Type 0 where
   pub most : k ≤ kind_count
   pub word : (kind_at k).word ≡ w
 
-pub kind_some : (w : List ℕ) (k : ℕ) → kind_of_word w ≡ some k → KindIs w k
+pub kind_some : (w : List ℕ) (k : ℕ) → kind_of_word w ≡ Some k → KindIs w k
 unfolding kind_of_word kind_at
 kind_some w k e =
     let r = kind_in_some kinds 1 k w e in

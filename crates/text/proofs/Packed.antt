@@ -2,21 +2,20 @@
 use mathlib.Core.Path.{◌≡◌, refl, sym, ap, ◌∙◌}
 use mathlib.Core.Bool.{Bool, true}
 use mathlib.Core.List.{List, [], ◌∷◌}
-use mathlib.Core.Option.{Option, some, none}
+use Rattle.std.specs.Prelude.{Option, Some, None}
 use Prim.Native.Nat.{ℕ, zero, suc, ◌+◌, ◌*◌, ◌^◌, ◌≤◌, ◌<◌}
-use native.Mathlib.Nat.{add-zero, pow-suc}
+use native.Mathlib.Nat.{pow-suc}
 use native.Mathlib.Numerals.{add-one}
 use native.Mathlib.Omega.{arith}
 use borrow.Author.Tests.{eq-eqb, ne_eqb, ltb-true}
 use lib.Dec.{eqb, ltb}
-use lib.ListN.{length, get_or, drop}
+use lib.ListN.{length, get_or}
 use lib.Seq.{ext_get_or}
 use Rattle.lists.specs.Tests.{◌and◌, all_below, every, same_numbers}
 use Rattle.lists.proofs.Tests.{by, by_lt, clash, and_l, and_r, all_at, same_numbers_eq, same_numbers_self}
-use Rattle.rules.specs.Event.{kind_count, ascii, Kind, kinds, no_kind}
+use Rattle.rules.specs.Event.{ascii, Kind, kinds}
 use Rattle.text.specs.Kinds.{kind_from, kind_of_word, packed_upto, packed, packed_from, kind_of_packed}
-use Rattle.text.specs.Table.{kind_number}
-use Rattle.text.proofs.Laws.{form_ok, kind_some, Passed, passed_at}
+use Rattle.text.proofs.Laws.{form_ok, kind_some}
 
 abbrev pub Bytes : List ℕ → ℕ → Type 0
 Bytes w n = (i : ℕ) → i < n → get_or w i 0 < 256
@@ -104,41 +103,14 @@ pub kind_by_number : (w : List ℕ) → Bytes w (length w) → kind_of_word w �
 unfolding kind_of_word kind_of_packed
 kind_by_number w b = kind_from_packed w b kinds 1 words_bytes
 
-none_but : (o : Option ℕ) → ((k : ℕ) → o ≡ some k → ⊥) → o ≡ none
-none_but none f = refl
-none_but (some k) f = absurd (f k refl)
+none_but : (o : Option ℕ) → ((k : ℕ) → o ≡ Some k → ⊥) → o ≡ None
+none_but None f = refl
+none_but (Some k) f = absurd (f k refl)
 
 -- no word is so long
-pub too_long : (w : List ℕ) → 7 < length w → kind_of_word w ≡ none
+pub too_long : (w : List ℕ) → 7 < length w → kind_of_word w ≡ None
 too_long w h =
     none_but (kind_of_word w) (λ k e.
     let q = kind_some w k e in
     let n = (form_ok k q.least q.most).short in
     omega (arith, h, n, ap length q.word))
-
--- ---- the code's comparisons with the fixed words
-
-pub number_is : (k p key : ℕ) (find : ℕ → Option ℕ) → p ≡ key → k ≡ kind_number (find key) → k ≤ kind_count → (k ≡ kind_number (find p)) × (k ≤ kind_count)
-number_is k p key find e h g = (rw e h, g)
-
--- past the first n forms, where none of them has the word
-skipped : (fs : List Kind) (k n p : ℕ) → ((i : ℕ) → i < n → p ≡ packed (get_or fs i no_kind).word → ⊥) → packed_from k fs p ≡ packed_from (k + n) (drop n fs) p
-unfolding packed_from
-skipped fs k zero p h = rw add-zero
-skipped [] k (suc n) p h = refl
-skipped (f ∷ fs) k (suc n) p h =
-    let e : suc k + n ≡ k + suc n = omega arith in
-    rw (ne_eqb p (packed f.word) (h 0 (omega arith))) (rw e at (skipped fs (suc k) n p (λ i q. h (suc i) (omega arith))))
-
--- the kinds after the first n, counted from 1
-unfoldable pub row_after : ℕ → ℕ → Kind
-row_after n zero = no_kind
-row_after n (suc i) = get_or (drop n kinds) i no_kind
-
-pub past_rows : (n k m p : ℕ) → Passed (λ j. packed (row_after n j).word) p m
-    → packed_from k (drop n kinds) p ≡ packed_from (k + m) (drop m (drop n kinds)) p
-unfolding row_after
-past_rows n k m p h = skipped (drop n kinds) k m p (λ i q. passed_at (λ j. packed (row_after n j).word) p m i h q)
-
-pub other : {p r key : ℕ} → (p ≡ r → ⊥) → r ≡ key → p ≡ key → ⊥
-other f e q = f (q ∙ sym e)

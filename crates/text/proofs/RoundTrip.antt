@@ -2,7 +2,7 @@
 use mathlib.Core.Path.{◌≡◌, refl, sym, ap, ◌∙◌}
 use mathlib.Core.Bool.{Bool, true, false, cond}
 use mathlib.Core.List.{List, [], ◌∷◌, ◌++◌, map, append_assoc}
-use mathlib.Core.Option.{Option, some, none}
+use Rattle.std.specs.Prelude.{Option, Some, None}
 use Prim.Native.Nat.{ℕ, zero, suc, ◌+◌, ◌-◌, ◌^◌, ◌≤◌, ◌<◌}
 use native.Mathlib.Omega.{arith}
 use borrow.Author.Tests.{lt-ltb, ltb-true, le-leb, leb-true, eqb-true, eq-eqb}
@@ -81,7 +81,7 @@ plain_payload : (p : Bool) (bs : List ℕ) → Plain (cond p (hex bs ∷ []) [])
 plain_payload true bs = each_more (hex_all_above bs) each_none
 plain_payload false bs = each_none
 
-take_there : {ns : List ℕ} (left : List (List ℕ)) → Below (2 ^ 64) ns → take_numbers (length ns) (map decimal ns ++ left) ≡ some (taken ns left)
+take_there : {ns : List ℕ} (left : List (List ℕ)) → Below (2 ^ 64) ns → take_numbers (length ns) (map decimal ns ++ left) ≡ Some (taken ns left)
 unfolding take_numbers and_then
 take_there left each_none = refl
 take_there left (each_more {x} {xs} h r) = rw (number_there x h, take_there left r)
@@ -91,7 +91,7 @@ record TakenFrom (n : ℕ) (fs : List (List ℕ)) (t : Taken) : Type 0 where
   fit : Below (2 ^ 64) t.numbers
   texts : map decimal t.numbers ++ t.left ≡ fs
 
-take_back : (n : ℕ) (fs : List (List ℕ)) (t : Taken) → take_numbers n fs ≡ some t → TakenFrom n fs t
+take_back : (n : ℕ) (fs : List (List ℕ)) (t : Taken) → take_numbers n fs ≡ Some t → TakenFrom n fs t
 unfolding take_numbers
 take_back zero fs t e =
     let same : t ≡ taken [] fs = cc in
@@ -100,7 +100,7 @@ take_back (suc n) [] t e = let z : ◌≡◌ {A = ℕ} 0 1 = cc in absurd (omega
 take_back (suc n) (f ∷ fs) t e =
     let s = then_some (number_of f) _ t e in
     let r = then_some (take_numbers n fs) _ t s.2 in
-    let g : some (taken (s.0 ∷ r.0.numbers) r.0.left) ≡ some t = r.2 in
+    let g : Some (taken (s.0 ∷ r.0.numbers) r.0.left) ≡ Some t = r.2 in
     let same : t ≡ taken (s.0 ∷ r.0.numbers) r.0.left = cc in
     let i = take_back n fs r.0 r.1 in
     rw same
@@ -110,7 +110,7 @@ take_back (suc n) (f ∷ fs) t e =
       texts = rw (number_back f s.0 s.1, i.texts);
     })
 
-payload_there : (p : Bool) (S : ℕ) (bs : List ℕ) → length bs ≡ cond p S 0 → Below 256 bs → take_bytes p S (cond p (hex bs ∷ []) []) ≡ some bs
+payload_there : (p : Bool) (S : ℕ) (bs : List ℕ) → length bs ≡ cond p S 0 → Below 256 bs → take_bytes p S (cond p (hex bs ∷ []) []) ≡ Some bs
 unfolding take_bytes
 payload_there true S bs e h = bytes_there S h e
 payload_there false S [] e h = refl
@@ -121,7 +121,7 @@ record PayloadFrom (p : Bool) (S : ℕ) (fs : List (List ℕ)) (bs : List ℕ) :
   small : Below 256 bs
   texts : cond p (hex bs ∷ []) [] ≡ fs
 
-payload_back : (p : Bool) (S : ℕ) (fs : List (List ℕ)) (bs : List ℕ) → take_bytes p S fs ≡ some bs → PayloadFrom p S fs bs
+payload_back : (p : Bool) (S : ℕ) (fs : List (List ℕ)) (bs : List ℕ) → take_bytes p S fs ≡ Some bs → PayloadFrom p S fs bs
 unfolding take_bytes
 payload_back false S [] bs e =
     let same : bs ≡ [] = cc in
@@ -149,7 +149,7 @@ fields_of_body S e w =
     fields_there (form_ok e.kind w.least w.most).plain
     (each_append (plain_numbers w.fit) (plain_payload (kind_at e.kind).payload e.bytes))
 
-of_fields : (S : ℕ) (e : EventFields) → WellFormed S e → fields_of_texts S ((kind_at e.kind).word ∷ field_texts e) ≡ some e
+of_fields : (S : ℕ) (e : EventFields) → WellFormed S e → fields_of_texts S ((kind_at e.kind).word ∷ field_texts e) ≡ Some e
 unfolding fields_of_texts fields_of_kind and_then field_texts
 of_fields S e w =
     rw (
@@ -173,7 +173,7 @@ body_event_fields S body h =
     )
 
 -- THEOREM. The line of a well-formed event is read as that event.
-pub fields_of_line : (S : ℕ) (e : EventFields) → is_well_formed S e ≡ true → read_fields S (line_of e) ≡ some e
+pub fields_of_line : (S : ℕ) (e : EventFields) → is_well_formed S e ≡ true → read_fields S (line_of e) ≡ Some e
 fields_of_line S e t =
     let w = well_formed S e t in
     let n : length (line_of e) ≡ length (body_of e) + 1 = ap length (line_body e) ∙ length-append (body_of e) (line_feed ∷ []) in
@@ -182,7 +182,7 @@ fields_of_line S e t =
 record Line (S : ℕ) (l : List ℕ) (e : EventFields) : Type 0 where
   whole : without_feed l ++ (line_feed ∷ []) ≡ l
   short : length l ≤ longest
-  inside : fields_of_texts S (fields (without_feed l)) ≡ some e
+  inside : fields_of_texts S (fields (without_feed l)) ≡ Some e
 
 ended : (l : List ℕ) → get_or l (length l - 1) 0 ≡ line_feed → without_feed l ++ (line_feed ∷ []) ≡ l
 unfolding without_feed
@@ -191,7 +191,7 @@ ended (b ∷ l) q =
     let n : suc (length (b ∷ l) - 1) ≡ length (b ∷ l) = omega arith in
     rw (← q) (sym (take-suc (b ∷ l) (length (b ∷ l) - 1) 0 (omega arith)) ∙ ap (λ (k : ℕ). take k (b ∷ l)) n ∙ take_all (length (b ∷ l)) (b ∷ l) (omega arith))
 
-line_fields : (S : ℕ) (l : List ℕ) (e : EventFields) → read_fields S l ≡ some e → Line S l e
+line_fields : (S : ℕ) (l : List ℕ) (e : EventFields) → read_fields S l ≡ Some e → Line S l e
 unfolding read_fields is_line
 line_fields S l e t =
     by (is_line l)
@@ -200,7 +200,7 @@ line_fields S l e t =
       short = leb-true (length l) longest (and_l _ _ p);
       inside = rw p at t;
     })
-    (λ p. let y : ◌≡◌ {A = Option EventFields} none (some e) = rw p at t in let z : ◌≡◌ {A = ℕ} 0 1 = cc in absurd (omega arith))
+    (λ p. let y : ◌≡◌ {A = Option EventFields} None (Some e) = rw p at t in let z : ◌≡◌ {A = ℕ} 0 1 = cc in absurd (omega arith))
 
 record Inside (S : ℕ) (w : List ℕ) (fs : List (List ℕ)) (e : EventFields) : Type 0 where
   kind : KindIs w e.kind
@@ -208,13 +208,13 @@ record Inside (S : ℕ) (w : List ℕ) (fs : List (List ℕ)) (e : EventFields) 
   size : length e.bytes ≡ cond (kind_at e.kind).payload S 0
   small : Below 256 e.bytes
 
-of_fields_back : (S : ℕ) (w : List ℕ) (fs : List (List ℕ)) (e : EventFields) → fields_of_texts S (w ∷ fs) ≡ some e → Inside S w fs e
+of_fields_back : (S : ℕ) (w : List ℕ) (fs : List (List ℕ)) (e : EventFields) → fields_of_texts S (w ∷ fs) ≡ Some e → Inside S w fs e
 unfolding fields_of_texts fields_of_kind
 of_fields_back S w fs e t =
     let a = then_some (kind_of_word w) _ e t in
     let b = then_some (take_numbers (kind_at a.0).numbers fs) _ e a.2 in
     let c = then_some (take_bytes (kind_at a.0).payload S b.0.left) _ e b.2 in
-    let g : some (make_fields a.0 b.0.numbers c.0) ≡ some e = c.2 in
+    let g : Some (make_fields a.0 b.0.numbers c.0) ≡ Some e = c.2 in
     let same : e ≡ make_fields a.0 b.0.numbers c.0 = cc in
     let p = payload_back (kind_at a.0).payload S b.0.left c.0 c.1 in
     let q = take_back (kind_at a.0).numbers fs b.0 b.1 in
@@ -243,9 +243,9 @@ read_back S l e p =
     )
 
 -- THEOREM. A line that is read as an event is that event's line ..
-pub line_of_fields : (S : ℕ) (l : List ℕ) (e : EventFields) → read_fields S l ≡ some e → line_of e ≡ l
+pub line_of_fields : (S : ℕ) (l : List ℕ) (e : EventFields) → read_fields S l ≡ Some e → line_of e ≡ l
 line_of_fields S l e t = (read_back S l e (line_fields S l e t)).0
 
 -- .. and the event is well formed.
-pub fields_well_formed : (S : ℕ) (l : List ℕ) (e : EventFields) → read_fields S l ≡ some e → is_well_formed S e ≡ true
+pub fields_well_formed : (S : ℕ) (l : List ℕ) (e : EventFields) → read_fields S l ≡ Some e → is_well_formed S e ≡ true
 fields_well_formed S l e t = formed_well S e (read_back S l e (line_fields S l e t)).1

@@ -2,12 +2,11 @@
 use mathlib.Core.Path.{◌≡◌, ap}
 use mathlib.Core.Bool.{Bool, true, false, cond}
 use mathlib.Core.List.{List, [], ◌∷◌, ◌++◌, map}
-use mathlib.Core.Option.{some}
+use Rattle.std.specs.Prelude.{Some}
 use Prim.Native.Nat.{ℕ, ◌+◌, ◌*◌, ◌≤◌}
 use native.Mathlib.Omega.{arith}
 use lib.ListN.{length, length-append}
 use borrow.Author.Tests.{eqb-true, leb-true, le-leb}
-use Rattle.lists.specs.Tests.{◌and◌}
 use Rattle.lists.proofs.Tests.{and_l, and_r, both}
 use Rattle.rules.specs.Limits.{max_size}
 use Rattle.rules.specs.Event.{Event, kind_count, kind_at, EventFields, event_fields}
@@ -67,5 +66,5 @@ event_has_line S e small y =
     (le-leb _ _ (line_short S p small (leb-true 1 p.kind (and_l _ _ kind)) (leb-true p.kind kind_count (and_r _ _ kind)) (eqb-true _ _ (and_r _ _ arity))
     (eqb-true _ _ (and_r _ _ size))))
 
-pub every_event_read : (S : ℕ) (e : Event) → S ≤ max_size → is_event S (event_fields e) ≡ true → read_event S (event_line e) ≡ some e
+pub every_event_read : (S : ℕ) (e : Event) → S ≤ max_size → is_event S (event_fields e) ≡ true → read_event S (event_line e) ≡ Some e
 every_event_read S e small y = read_event_line S e (event_has_line S e small y)

@@ -1,13 +1,12 @@
 -- The kind of a word: the rules' table is gone through in order.
-use Rattle.std.specs.Prelude.{cond, List, [], ◌∷◌, ℕ, zero, suc, ◌+◌, ◌*◌, eqb, length, get_or}
-use Rattle.std.proofs.Math.Option.{Option, some, none}
+use Rattle.std.specs.Prelude.{cond, List, [], ◌∷◌, ℕ, zero, suc, ◌+◌, ◌*◌, eqb, length, get_or, Option, Some, None}
 use Rattle.lists.specs.Tests.{same_numbers}
 use Rattle.rules.specs.Event.{Kind, kinds}
 
 -- the kind of the first form with a word, where the first form is of kind k
 unfoldable pub kind_from : ℕ → List Kind → List ℕ → Option ℕ
-kind_from k [] w = none
-kind_from k (f ∷ fs) w = cond (same_numbers w f.word) (some k) (kind_from (suc k) fs w)
+kind_from k [] w = None
+kind_from k (f ∷ fs) w = cond (same_numbers w f.word) (Some k) (kind_from (suc k) fs w)
 
 unfoldable pub kind_of_word : List ℕ → Option ℕ
 kind_of_word w = kind_from 1 kinds w
@@ -22,8 +21,8 @@ packed w = packed_upto w (length w)
 
 -- the kind by its word's number, where the first form is of kind k
 unfoldable pub packed_from : ℕ → List Kind → ℕ → Option ℕ
-packed_from k [] p = none
-packed_from k (f ∷ fs) p = cond (eqb p (packed f.word)) (some k) (packed_from (suc k) fs p)
+packed_from k [] p = None
+packed_from k (f ∷ fs) p = cond (eqb p (packed f.word)) (Some k) (packed_from (suc k) fs p)
 
 unfoldable pub kind_of_packed : ℕ → Option ℕ
 kind_of_packed p = packed_from 1 kinds p

@@ -1,6 +1,5 @@
 -- An event and its line of text: the word of its kind, its numbers and its data, parted by commas, ended by a line feed.
-use Rattle.std.specs.Prelude.{Bool, true, false, cond, List, [], ◌∷◌, ◌++◌, map, ℕ, zero, suc, ◌-◌, ◌^◌, leb, ltb, eqb, length, get_or, take}
-use Rattle.std.proofs.Math.Option.{Option, some, none}
+use Rattle.std.specs.Prelude.{Bool, true, false, cond, List, [], ◌∷◌, ◌++◌, map, ℕ, zero, suc, ◌-◌, ◌^◌, leb, ltb, eqb, length, get_or, take, Option, Some, None}
 use Rattle.lists.specs.Tests.{◌and◌, every}
 use Rattle.rules.specs.Event.{Event, kind_count, kind_at, EventFields, event_of, event_fields}
 use Rattle.rules.specs.declared.settings.Settings.{Settings}
@@ -37,25 +36,25 @@ taken ns fs = record { numbers = ns; left = fs }
 
 -- so many numbers from the front of the fields
 unfoldable pub take_numbers : ℕ → List (List ℕ) → Option Taken
-take_numbers zero fs = some (taken [] fs)
-take_numbers (suc n) [] = none
-take_numbers (suc n) (f ∷ fs) = and_then (number_of f) (λ v. and_then (take_numbers n fs) (λ t. some (taken (v ∷ t.numbers) t.left)))
+take_numbers zero fs = Some (taken [] fs)
+take_numbers (suc n) [] = None
+take_numbers (suc n) (f ∷ fs) = and_then (number_of f) (λ v. and_then (take_numbers n fs) (λ t. Some (taken (v ∷ t.numbers) t.left)))
 
 -- what is left is one field of data, of S bytes, or nothing
 unfoldable pub take_bytes : Bool → ℕ → List (List ℕ) → Option (List ℕ)
-take_bytes false S [] = some []
-take_bytes false S (f ∷ fs) = none
-take_bytes true S [] = none
+take_bytes false S [] = Some []
+take_bytes false S (f ∷ fs) = None
+take_bytes true S [] = None
 take_bytes true S (f ∷ []) = hex_bytes S f
-take_bytes true S (f ∷ g ∷ fs) = none
+take_bytes true S (f ∷ g ∷ fs) = None
 
 unfoldable pub fields_of_kind : ℕ → ℕ → List (List ℕ) → Option EventFields
 fields_of_kind S k fs =
     and_then (take_numbers (kind_at k).numbers fs)
-    (λ t. and_then (take_bytes (kind_at k).payload S t.left) (λ bs. some (make_fields k t.numbers bs)))
+    (λ t. and_then (take_bytes (kind_at k).payload S t.left) (λ bs. Some (make_fields k t.numbers bs)))
 
 unfoldable pub fields_of_texts : ℕ → List (List ℕ) → Option EventFields
-fields_of_texts S [] = none
+fields_of_texts S [] = None
 fields_of_texts S (w ∷ fs) = and_then (kind_of_word w) (λ k. fields_of_kind S k fs)
 
 -- a line ends in a line feed and has at most 16,500 bytes
@@ -67,7 +66,7 @@ without_feed l = take (length l - 1) l
 
 -- the fields that a line gives, where data has S bytes; only this form is read, so a line feed inside is part of a field that is none
 unfoldable pub read_fields : ℕ → List ℕ → Option EventFields
-read_fields S l = cond (is_line l) (fields_of_texts S (fields (without_feed l))) none
+read_fields S l = cond (is_line l) (fields_of_texts S (fields (without_feed l))) None
 
 -- ---- which fields have a line
 unfoldable pub only_below : ℕ → List ℕ → Bool
@@ -88,7 +87,7 @@ unfoldable pub event_line : Event → List ℕ
 event_line e = line_of (event_fields e)
 
 unfoldable pub read_event : ℕ → List ℕ → Option Event
-read_event S l = and_then (read_fields S l) (λ p. some (event_of p))
+read_event S l = and_then (read_fields S l) (λ p. Some (event_of p))
 
 -- fields below 2^64, and data of S bytes where the kind has data
 unfoldable pub has_line : ℕ → Event → Bool
@@ -99,7 +98,7 @@ unfoldable pub settings_at : List ℕ → Settings
 settings_at ns = record { places = get_or ns 0 0; size = get_or ns 1 0; entries = get_or ns 2 0; chunks = get_or ns 3 0 }
 
 unfoldable pub settings_of_fields : List (List ℕ) → Option Settings
-settings_of_fields fs = and_then (take_numbers 4 fs) (λ t. cond (eqb (length t.left) 0) (some (settings_at t.numbers)) none)
+settings_of_fields fs = and_then (take_numbers 4 fs) (λ t. cond (eqb (length t.left) 0) (Some (settings_at t.numbers)) None)
 
 unfoldable pub read_settings : List ℕ → Option Settings
-read_settings l = cond (is_line l) (settings_of_fields (fields (without_feed l))) none
+read_settings l = cond (is_line l) (settings_of_fields (fields (without_feed l))) None
