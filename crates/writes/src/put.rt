@@ -5,6 +5,7 @@ ghost use Rattle.words.specs.Words.{words};
 ghost use Rattle.rules.specs.Limits.{proxies, ceiling_step};
 ghost use Rattle.rules.specs.Numbers.{sequences};
 ghost use Rattle.rules.specs.Event.{Event};
+ghost use Rattle.rules.specs.Refusals.{code_of};
 ghost use Rattle.rules.specs.Question.{first_no, AllYes};
 ghost use Rattle.rules.specs.Writes.{raised, put_asks};
 ghost use Rattle.codec.specs.Codec.{change};
@@ -21,19 +22,26 @@ use lent::{Answer, place, proxy};
 use records::status::Status;
 use rules::constants;
 use rules::numbers::{BlockNumber, ChunkKey};
+use rules::refusal::Refusal;
 use rules::settings::Settings;
 
 // ---- questions
 
-// Of the fields: the number of the first no, or 0.
-fn field_asks(settings: Settings, proxy: u64, place: u64, block: u64, bytes: &[u8]) -> u64
-    ensures { result ≡ first_no (field_asks settings proxy place block bytes.now) }
+// Of the fields: refuses with the first that is answered no.
+fn field_asks(
+    settings: Settings,
+    proxy: u64,
+    place: u64,
+    block: u64,
+    bytes: &[u8],
+) -> Result<(), Refusal>
+    ensures { code_of result ≡ first_no (field_asks settings proxy place block bytes.now) }
 {
     if settings.places as u64 <= place {
-        return 3;
+        return Err(Refusal::BadInput);
     }
     if bytes.len() != settings.size {
-        return 3;
+        return Err(Refusal::BadInput);
     }
     proxy::block_asks(proxy, block)
 }
@@ -53,27 +61,28 @@ fn store_asks(
     proxy: usize,
     place: usize,
     block: BlockNumber,
-) -> u64
+) -> Result<(), Refusal>
     requires { StoreOf settings store.now × (proxy < proxies) × (place < settings.places) }
-    ensures { result ≡ first_no (store_asks (decode (words store.now)) proxy place block.0) }
+    ensures { code_of result ≡ first_no (store_asks (decode (words store.now)) proxy place block.0) }
 {
     if !place::up_member(store, settings, place) {
-        return 6;
+        return Err(Refusal::NoMember);
     }
     if proxy::has_item(store, settings, proxy, block) {
-        return 9;
+        return Err(Refusal::WrongItem);
     }
     if constants::MAX_ITEMS as u64 <= proxy::item_count(store, settings, proxy) {
-        return 10;
+        return Err(Refusal::NoRoom);
     }
     if settings.chunks as u64 <= place::chunk_count(store, settings, place) {
-        return 10;
+        return Err(Refusal::NoRoom);
     }
     let status = place::status(store, settings, place);
     if has_number(status.next, status.ceiling) {
-        return 0;
+        Ok(())
+    } else {
+        Err(Refusal::NoNumber)
     }
-    12
 }
 
 // ---- the effect
@@ -140,20 +149,14 @@ pub fn put(
     requires { StoreOf settings store.old }
     ensures { Performs (Event.put proxy place block bytes.now) (words store.old) result (words store.new) }
 {
-    let no = field_asks(settings, proxy, place, block, bytes);
-    if no != 0 {
-        return Answer::No(no);
-    }
-    let no = store_asks(
+    field_asks(settings, proxy, place, block, bytes)?;
+    store_asks(
         store,
         settings,
         proxy as usize,
         place as usize,
         BlockNumber(block),
-    );
-    if no != 0 {
-        return Answer::No(no);
-    }
+    )?;
     let key = effect(
         store,
         settings,
@@ -162,5 +165,5 @@ pub fn put(
         BlockNumber(block),
         bytes,
     );
-    Answer::Yes(key.0)
+    Ok(key.0)
 }

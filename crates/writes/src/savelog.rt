@@ -31,11 +31,8 @@ pub fn savelog(store: &mut [u8], settings: Settings, place: u64) -> Answer
     requires { StoreOf settings store.old }
     ensures { Performs (Event.savelog place) (words store.old) result (words store.new) }
 {
-    let no = place::asks(store, settings, place);
-    if no != 0 {
-        return Answer::No(no);
-    }
+    place::asks(store, settings, place)?;
     let Span { from, to } = place::span_of(settings, place as usize);
     save_place(&mut store[from..to], settings);
-    Answer::Yes(0)
+    Ok(0)
 }

@@ -1,131 +1,82 @@
 use mathlib.Core.Path.{◌≡◌, sym, ap, ◌∙◌}
-use mathlib.Core.Bool.{true, not}
-use mathlib.Core.List.{List}
+use mathlib.Core.Bool.{true}
 use Prim.Native.Nat.{◌+◌, ◌<◌}
 use native.Mathlib.Omega.{arith}
 use lib.Dec.{ltb, leb}
-use lib.ListN.{length, drop}
-use borrow.Author.Tests.{lt-ltb, le-ltb, not-true, not-false}
 use Rattle.lists.specs.Tests.{◌or◌}
 use Rattle.lists.proofs.Tests.{and_l}
 use Rattle.words.specs.Words.{words}
 use Rattle.rules.specs.declared.settings.Settings.{Settings}
-use Rattle.rules.specs.Limits.{max_items, ceiling_step}
+use Rattle.rules.specs.Limits.{ceiling_step}
 use Rattle.rules.specs.Numbers.{sequences}
-use Rattle.rules.specs.Entries.{Entry}
-use Rattle.rules.specs.Chunks.{Chunk}
-use Rattle.rules.specs.State.{State}
 use Rattle.rules.specs.Derived.{up_member}
-use Rattle.rules.specs.Question.{Question, first_no}
-use Rattle.rules.proofs.Questions.{first_yes, first_stop, none_asked}
 use Rattle.layout.specs.Contents.{Status}
 use Rattle.layout.specs.Store.{decode}
 use Rattle.lent.proofs.Places.{up_filled}
 use Rattle.lent.proofs.Stores.{settings_are, facts}
-use Rattle.writes.specs.Puts.{store_asks}
+use Rattle.writes.proofs.PutAsks.{no_member, item_there, items_full, log_full, number_left, no_number}
 use Rattle.writes.proofs.put.store_asks.Goals as goal
+use Rattle.writes.proofs.put.store_asks.Goals.{Else-not-up_member, Else-item_count, After-has_number}
+
+live : (c : Else-not-up_member) → let s = decode (words c.args.store.now) in up_member s (s.ids c.args.place) ≡ true
+live c = sym c.up_member.ensures ∙ c.if-not-up_member.false
+
+filled : (c : Else-not-up_member) → 0 < (decode (words c.args.store.now)).ids c.args.place
+filled c = up_filled c.args.settings c.args.store.now c.requires.0 c.args.place (and_l _ _ (live c))
 
 pub returns-then-not-up_member : goal.returns-then-not-up_member
-returns-then-not-up_member c = sym (first_stop 6 _ (sym c.up_member.ensures ∙ not-true _ c.if-not-up_member.true-raw))
+returns-then-not-up_member c = no_member (decode (words c.args.store.now)) c.args.proxy c.args.place c.args.block.0 (sym c.up_member.ensures ∙ c.if-not-up_member.true)
 
 pub has_item-requires : goal.has_item-requires
 has_item-requires c = (c.requires.0, c.requires.1)
 
 pub returns-then-has_item : goal.returns-then-has_item
 returns-then-has_item c =
-    let state : State = decode (words c.args.store.now) in
-    let questions : List Question = store_asks (state) c.args.proxy c.args.place c.args.block.0 in
-    let live : up_member (state) ((state).ids c.args.place) ≡ true = sym c.up_member.ensures ∙ not-false _ c.if-not-up_member.false-raw in
-    let past-member : let qs = questions in first_no qs ≡ first_no (drop 1 qs) = first_yes 6 _ (live) in
-    sym (past-member ∙ first_stop 9 _ (ap not (sym c.has_item.ensures ∙ c.if-has_item.true)))
+    item_there (decode (words c.args.store.now)) c.args.proxy c.args.place c.args.block.0 (live (goal.at.returns-then-has_item c).Else-not-up_member) (sym c.has_item.ensures ∙ c.if-has_item.true)
 
 pub item_count-requires : goal.item_count-requires
 item_count-requires c = (c.requires.0, c.requires.1)
 
 pub returns-then-item_count : goal.returns-then-item_count
 returns-then-item_count c =
-    let state : State = decode (words c.args.store.now) in
-    let items : List Entry = (state).items c.args.proxy in
-    let questions : List Question = store_asks (state) c.args.proxy c.args.place c.args.block.0 in
-    let live : up_member (state) ((state).ids c.args.place) ≡ true = sym c.up_member.ensures ∙ not-false _ c.if-not-up_member.false-raw in
-    let past-member : let qs = questions in first_no qs ≡ first_no (drop 1 qs) = first_yes 6 _ (live) in
-    let past-item : let qs = questions in first_no qs ≡ first_no (drop 2 qs) = past-member ∙ first_yes 9 _ (ap not (sym c.has_item.ensures ∙ c.if-has_item.false)) in
-    let count = length (items) in
-    sym (past-item ∙ first_stop 10 _ (le-ltb count max_items (omega (arith, c.if-item_count.true, c.item_count.ensures))))
+    items_full (decode (words c.args.store.now)) c.args.proxy c.args.place c.args.block.0 (live (goal.at.returns-then-item_count c).Else-not-up_member) (sym c.has_item.ensures ∙ c.if-has_item.false)
+    (omega (arith, c.if-item_count.true, c.item_count.ensures))
 
 pub chunk_count-requires : goal.chunk_count-requires
-chunk_count-requires c =
-    let state : State = decode (words c.args.store.now) in
-    let live : up_member (state) ((state).ids c.args.place) ≡ true = sym c.up_member.ensures ∙ not-false _ c.if-not-up_member.false-raw in
-    let filled : 0 < (state).ids c.args.place = up_filled c.args.settings c.args.store.now c.requires.0 c.args.place (and_l _ _ (live)) in
-    (c.requires.0, c.requires.2, filled)
+chunk_count-requires c = (c.requires.0, c.requires.2, filled (goal.at.chunk_count-requires c).Else-not-up_member)
 
 pub returns-then-settings-chunk_count : goal.returns-then-settings-chunk_count
 returns-then-settings-chunk_count c =
-    let state : State = decode (words c.args.store.now) in
-    let items : List Entry = (state).items c.args.proxy in
-    let log : List Chunk = (state).bricks.log ((state).ids c.args.place) in
-    let questions : List Question = store_asks (state) c.args.proxy c.args.place c.args.block.0 in
-    let chunks_are : (state).settings.chunks ≡ c.args.settings.chunks = ap (λ (d : Settings). d.chunks) (settings_are c.args.settings c.args.store.now c.requires.0) in
-    let live : up_member (state) ((state).ids c.args.place) ≡ true = sym c.up_member.ensures ∙ not-false _ c.if-not-up_member.false-raw in
-    let past-member : let qs = questions in first_no qs ≡ first_no (drop 1 qs) = first_yes 6 _ (live) in
-    let past-item : let qs = questions in first_no qs ≡ first_no (drop 2 qs) = past-member ∙ first_yes 9 _ (ap not (sym c.has_item.ensures ∙ c.if-has_item.false)) in
-    let past-items : let qs = questions in first_no qs ≡ first_no (drop 3 qs) = let count = length (items) in
-    past-item ∙ first_yes 10 _ (lt-ltb count max_items (omega (arith, c.if-item_count.false, c.item_count.ensures))) in
-    let few = c.chunk_count.ensures in
-    let no = le-ltb (length (log)) (state).settings.chunks (omega (arith, c.if-settings-chunk_count.true, few, chunks_are)) in
-    sym (past-items ∙ first_stop 10 _ no)
+    let chunks_are = ap (λ (d : Settings). d.chunks) (settings_are c.args.settings c.args.store.now c.requires.0) in
+    log_full (decode (words c.args.store.now)) c.args.proxy c.args.place c.args.block.0 (live (goal.at.returns-then-settings-chunk_count c).Else-not-up_member) (sym c.has_item.ensures ∙ c.if-has_item.false)
+    (omega (arith, c.if-item_count.false, c.item_count.ensures)) (omega (arith, c.if-settings-chunk_count.true, c.chunk_count.ensures, chunks_are))
 
 pub status-status-requires : goal.status-status-requires
-status-status-requires c =
-    let state : State = decode (words c.args.store.now) in
-    let live : up_member (state) ((state).ids c.args.place) ≡ true = sym c.up_member.ensures ∙ not-false _ c.if-not-up_member.false-raw in
-    let filled : 0 < (state).ids c.args.place = up_filled c.args.settings c.args.store.now c.requires.0 c.args.place (and_l _ _ (live)) in
-    (c.requires.0, c.requires.2, filled)
+status-status-requires c = (c.requires.0, c.requires.2, filled (goal.at.status-status-requires c).Else-not-up_member)
 
 pub has_number-requires : goal.has_number-requires
 has_number-requires c =
-    let state : State = decode (words c.args.store.now) in
-    let most = (facts c.args.settings c.args.store.now c.requires.0).numbers.most ((state).ids c.args.place) in
+    let most = (facts c.args.settings c.args.store.now c.requires.0).numbers.most ((decode (words c.args.store.now)).ids c.args.place) in
     let ceiling = ap (λ (x : Status). x.ceiling) c.status-status.ensures in
     omega (arith, most, ceiling)
 
+decided : (c : After-has_number) → let s = decode (words c.args.store.now) in
+    let id = s.ids c.args.place in
+    c.has_number.result ≡ (ltb (s.bricks.next id) (s.bricks.ceiling id) or leb (s.bricks.ceiling id + ceiling_step) sequences)
+decided c = c.has_number.ensures ∙ ap (λ (x : Status). ltb x.next x.ceiling or leb (x.ceiling + ceiling_step) sequences) c.status-status.ensures
+
 pub returns-then-has_number : goal.returns-then-has_number
 returns-then-has_number c =
-    let state : State = decode (words c.args.store.now) in
-    let items : List Entry = (state).items c.args.proxy in
-    let log : List Chunk = (state).bricks.log ((state).ids c.args.place) in
-    let questions : List Question = store_asks (state) c.args.proxy c.args.place c.args.block.0 in
-    let chunks_are : (state).settings.chunks ≡ c.args.settings.chunks = ap (λ (d : Settings). d.chunks) (settings_are c.args.settings c.args.store.now c.requires.0) in
-    let live : up_member (state) ((state).ids c.args.place) ≡ true = sym c.up_member.ensures ∙ not-false _ c.if-not-up_member.false-raw in
-    let past-member : let qs = questions in first_no qs ≡ first_no (drop 1 qs) = first_yes 6 _ (live) in
-    let past-item : let qs = questions in first_no qs ≡ first_no (drop 2 qs) = past-member ∙ first_yes 9 _ (ap not (sym c.has_item.ensures ∙ c.if-has_item.false)) in
-    let past-items : let qs = questions in first_no qs ≡ first_no (drop 3 qs) = let count = length (items) in
-    past-item ∙ first_yes 10 _ (lt-ltb count max_items (omega (arith, c.if-item_count.false, c.item_count.ensures))) in
-    let past-log : let qs = questions in first_no qs ≡ first_no (drop 4 qs) = let few = c.chunk_count.ensures in
-    let yes = lt-ltb (length (log)) (state).settings.chunks (omega (arith, c.if-settings-chunk_count.false, few, chunks_are)) in
-    past-items ∙ first_yes 10 _ yes in
-    let number : let id = (state).ids c.args.place in
-    let old = (state).bricks in
-    c.has_number.result ≡ (ltb (old.next id) (old.ceiling id) or leb (old.ceiling id + ceiling_step) sequences) = c.has_number.ensures ∙ ap (λ (x : Status). ltb x.next x.ceiling or leb (x.ceiling + ceiling_step) sequences) c.status-status.ensures in
-    sym (past-log ∙ first_yes 12 _ (sym (number) ∙ c.if-has_number.true) ∙ none_asked)
+    let at = goal.at.returns-then-has_number c in
+    let chunks_are = ap (λ (d : Settings). d.chunks) (settings_are c.args.settings c.args.store.now c.requires.0) in
+    number_left (decode (words c.args.store.now)) c.args.proxy c.args.place c.args.block.0 (live at.Else-not-up_member) (sym c.has_item.ensures ∙ c.if-has_item.false)
+    (omega (arith, c.if-item_count.false, c.item_count.ensures)) (omega (arith, c.if-settings-chunk_count.false, c.chunk_count.ensures, chunks_are))
+    (decided at.After-has_number) c.if-has_number.true
 
-pub returns : goal.returns
-returns c =
-    let state : State = decode (words c.args.store.now) in
-    let items : List Entry = (state).items c.args.proxy in
-    let log : List Chunk = (state).bricks.log ((state).ids c.args.place) in
-    let questions : List Question = store_asks (state) c.args.proxy c.args.place c.args.block.0 in
-    let chunks_are : (state).settings.chunks ≡ c.args.settings.chunks = ap (λ (d : Settings). d.chunks) (settings_are c.args.settings c.args.store.now c.requires.0) in
-    let live : up_member (state) ((state).ids c.args.place) ≡ true = sym c.up_member.ensures ∙ not-false _ c.if-not-up_member.false-raw in
-    let past-member : let qs = questions in first_no qs ≡ first_no (drop 1 qs) = first_yes 6 _ (live) in
-    let past-item : let qs = questions in first_no qs ≡ first_no (drop 2 qs) = past-member ∙ first_yes 9 _ (ap not (sym c.has_item.ensures ∙ c.if-has_item.false)) in
-    let past-items : let qs = questions in first_no qs ≡ first_no (drop 3 qs) = let count = length (items) in
-    past-item ∙ first_yes 10 _ (lt-ltb count max_items (omega (arith, c.if-item_count.false, c.item_count.ensures))) in
-    let past-log : let qs = questions in first_no qs ≡ first_no (drop 4 qs) = let few = c.chunk_count.ensures in
-    let yes = lt-ltb (length (log)) (state).settings.chunks (omega (arith, c.if-settings-chunk_count.false, few, chunks_are)) in
-    past-items ∙ first_yes 10 _ yes in
-    let number : let id = (state).ids c.args.place in
-    let old = (state).bricks in
-    c.has_number.result ≡ (ltb (old.next id) (old.ceiling id) or leb (old.ceiling id + ceiling_step) sequences) = c.has_number.ensures ∙ ap (λ (x : Status). ltb x.next x.ceiling or leb (x.ceiling + ceiling_step) sequences) c.status-status.ensures in
-    sym (past-log ∙ first_stop 12 _ (sym (number) ∙ c.if-has_number.false))
+pub returns-else-has_number : goal.returns-else-has_number
+returns-else-has_number c =
+    let at = goal.at.returns-else-has_number c in
+    let chunks_are = ap (λ (d : Settings). d.chunks) (settings_are c.args.settings c.args.store.now c.requires.0) in
+    no_number (decode (words c.args.store.now)) c.args.proxy c.args.place c.args.block.0 (live at.Else-not-up_member) (sym c.has_item.ensures ∙ c.if-has_item.false)
+    (omega (arith, c.if-item_count.false, c.item_count.ensures)) (omega (arith, c.if-settings-chunk_count.false, c.chunk_count.ensures, chunks_are))
+    (decided at.After-has_number) c.if-has_number.false
