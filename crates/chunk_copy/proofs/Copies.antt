@@ -2,12 +2,12 @@
 use mathlib.Core.Path.{◌≡◌, sym, ap, ◌∙◌}
 use mathlib.Core.List.{List}
 use mathlib.Core.Bool.{true, false}
-use Prim.Native.Nat.{ℕ, ◌^◌, ◌≤◌, ◌<◌}
+use Prim.Native.Nat.{ℕ, ◌^◌, ◌<◌}
 use native.Mathlib.Omega.{arith}
-use lib.Dec.{eqb, ltb, leb}
-use lib.ListN.{length}
+use lib.Dec.{eqb, ltb}
+use lib.ListN.{length, drop}
 use borrow.Author.Tests.{eq-eqb, ne_eqb, lt-ltb, le-ltb, le-leb, ltb-true}
-use Rattle.lists.specs.Tests.{◌and◌, any}
+use Rattle.lists.specs.Tests.{any}
 use Rattle.lists.proofs.Tests.{and_l, both, clash, no_first, or_l, or_r, or_no}
 use Rattle.words.specs.Words.{words}
 use Rattle.rules.specs.declared.settings.Settings.{Settings}
@@ -16,8 +16,9 @@ use Rattle.rules.specs.Numbers.{home_of}
 use Rattle.rules.specs.Chunks.{new_chunk, append, held, bytes_in}
 use Rattle.rules.specs.State.{State}
 use Rattle.rules.specs.Derived.{up_member}
-use Rattle.rules.specs.Question.{AllYes}
+use Rattle.rules.specs.Question.{first_no, AllYes}
 use Rattle.rules.specs.Writes.{target, nothing_to_copy, copy_asks, copy_effect}
+use Rattle.rules.proofs.Questions.{first_yes, first_stop, none_asked}
 use Rattle.chunk_log.specs.Answers.{FoundAt}
 use Rattle.layout.specs.Contents.{Brick, blank_brick}
 use Rattle.layout.specs.Store.{brick_in, decode, render}
@@ -48,15 +49,34 @@ module _ (c : Settings) (s : State) (key : ℕ) where
   pub none_up : {A : Type 0} (id : ℕ) → brick_in s id ≡ blank_brick → up_member s id ≡ true → A
   none_up id e y = clash (ap (λ (b : Brick). b.status.up) e) (and_l _ _ y)
 
--- ---- the questions
-pub no_home : (key : ℕ) → home_of key ≡ 0 → (ltb 0 (home_of key) and leb (home_of key) max_id) ≡ false
-no_home key e = no_first (ltb 0 (home_of key)) _ (le-ltb 0 (home_of key) (omega arith))
+-- ---- the questions, one after the other, as the code has read the home id
+module _ (s : State) (key home : ℕ) (e : home ≡ home_of key) where
+  abbrev asked : ℕ
+  asked = first_no (copy_asks s key)
 
-pub is_home : (key : ℕ) → key < 2 ^ 64 → (home_of key ≡ 0 → ⊥) → (ltb 0 (home_of key) and leb (home_of key) max_id) ≡ true
-is_home key h n = both _ _ (lt-ltb 0 (home_of key) (omega arith)) (le-leb (home_of key) max_id (small key h))
-  where
-    small : (key : ℕ) → key < 2 ^ 64 → home_of key ≤ max_id
-    small key h = omega arith
+  pub no_home : home ≡ 0 → 3 ≡ asked
+  no_home z = sym (first_stop 3 _ (no_first (ltb 0 (home_of key)) _ (le-ltb 0 (home_of key) (omega arith))))
+
+  module _ (small : key < 2 ^ 64) (some : home ≡ 0 → ⊥) where
+    past_home : asked ≡ first_no (drop 1 (copy_asks s key))
+    past_home = first_yes 3 _ (both _ _ (lt-ltb 0 (home_of key) (omega arith)) (le-leb (home_of key) max_id (omega arith)))
+
+    pub home_down : up_member s home ≡ false → 6 ≡ asked
+    home_down n = sym (past_home ∙ first_stop 6 _ (rw e at n))
+
+    module _ (up : up_member s home ≡ true) where
+      past_member : asked ≡ first_no (drop 2 (copy_asks s key))
+      past_member = past_home ∙ first_yes 6 _ (rw e at up)
+
+      pub no_room : has_room s key ≡ false → 10 ≡ asked
+      no_room n = sym (past_member ∙ first_stop 10 _ n)
+
+      module _ (room : has_room s key ≡ true) where
+        pub home_has : held (s.bricks.log home) key ≡ true → 0 ≡ asked
+        home_has y = sym (past_member ∙ first_yes 10 _ room ∙ first_yes 11 _ (rw e at y) ∙ none_asked)
+
+        pub home_lacks : held (s.bricks.log home) key ≡ false → 11 ≡ asked
+        home_lacks n = sym (past_member ∙ first_yes 10 _ room ∙ first_stop 11 _ (rw e at n))
 
 module _ (c : Settings) (bs : List ℕ) (so : StoreOf c bs) (key : ℕ) where
   abbrev s : State

@@ -6,6 +6,7 @@ ghost use Rattle.std.specs.Prelude.{◌≡◌};
 ghost use Rattle.words.specs.Words.{words};
 ghost use Rattle.rules.specs.Chunks.{held};
 ghost use Rattle.rules.specs.Event.{Event};
+ghost use Rattle.rules.specs.Refusals.{code_of};
 ghost use Rattle.rules.specs.Question.{first_no, AllYes};
 ghost use Rattle.rules.specs.Writes.{copy_asks, copy_effect};
 ghost use Rattle.layout.specs.Store.{decode, render};
@@ -15,6 +16,7 @@ ghost use Rattle.chunk_copy.specs.Copies.{CopiedTo, has_room};
 
 use lent::{Answer, brick, place};
 use rules::numbers::ChunkKey;
+use rules::refusal::Refusal;
 use rules::settings::Settings;
 
 // ---- questions
@@ -57,24 +59,25 @@ fn is_held(store: &[u8], settings: Settings, id: u64, key: ChunkKey) -> bool
     }
 }
 
-fn asks(store: &[u8], settings: Settings, key: ChunkKey) -> u64
+fn asks(store: &[u8], settings: Settings, key: ChunkKey) -> Result<(), Refusal>
     requires { StoreOf settings store.now }
-    ensures { result ≡ first_no (copy_asks (decode (words store.now)) key.0) }
+    ensures { code_of result ≡ first_no (copy_asks (decode (words store.now)) key.0) }
 {
     let home = key.home();
     if home == 0 {
-        return 3;
+        return Err(Refusal::BadInput);
     }
     if !brick::up_member(store, settings, home) {
-        return 6;
+        return Err(Refusal::NoMember);
     }
     if !has_room(store, settings, key) {
-        return 10;
+        return Err(Refusal::NoRoom);
     }
     if is_held(store, settings, home, key) {
-        return 0;
+        Ok(())
+    } else {
+        Err(Refusal::NoChunk)
     }
-    11
 }
 
 // ---- the effect
@@ -100,10 +103,7 @@ pub fn copy(store: &mut [u8], settings: Settings, key: u64) -> Answer
     requires { StoreOf settings store.old }
     ensures { Performs (Event.copy key) (words store.old) result (words store.new) }
 {
-    let no = asks(store, settings, ChunkKey(key));
-    if no != 0 {
-        return Answer::No(no);
-    }
+    asks(store, settings, ChunkKey(key))?;
     effect(store, settings, ChunkKey(key));
-    Answer::Yes(0)
+    Ok(0)
 }

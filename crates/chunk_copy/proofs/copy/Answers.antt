@@ -1,8 +1,8 @@
-use mathlib.Core.Path.{◌≡◌, refl, sym, ◌∙◌}
+use mathlib.Core.Path.{refl, sym}
+use Rattle.std.proofs.lemmas.Result.{err_from_is_err_and}
 use Rattle.lists.specs.Tests.{◌and◌}
 use Rattle.words.specs.Words.{words}
 use Rattle.rules.specs.Event.{Event}
-use Rattle.rules.specs.Question.{first_no}
 use Rattle.rules.specs.Writes.{copy_asks}
 use Rattle.rules.specs.Step.{rule}
 use Rattle.rules.proofs.Questions.{all_yes}
@@ -10,19 +10,16 @@ use Rattle.layout.specs.Store.{decode}
 use Rattle.lent.proofs.Performs.{refused, accepted}
 use Rattle.chunk_copy.proofs.copy.Goals as goal
 
-pub returns-then-no-ne0 : goal.returns-then-no-ne0
+pub returns-in_err-asks : goal.returns-in_err-asks
 unfolding rule
-returns-then-no-ne0 c =
-    refused (Event.copy c.args.key) (words c.args.store.now) c.requires.sound _ c.asks-no.ensures c.if-no-ne0.true
+returns-in_err-asks c =
+    let p = err_from_is_err_and c.from_residual.result c.from_residual.ensures.1 in
+    rw (p.1, p.2) (refused (Event.copy c.args.key) (words c.args.store.now) c.requires.sound _ c.in_err-asks.ensures)
 
 pub effect-requires : goal.effect-requires
 unfolding ◌and◌
-effect-requires c =
-    let asked : first_no (copy_asks (decode (words c.args.store.now)) c.args.key) ≡ 0 = sym c.asks-no.ensures ∙ c.if-no-ne0.false in
-    (c.requires, all_yes (copy_asks (decode (words c.args.store.now)) c.args.key) refl (asked))
+effect-requires c = (c.requires, all_yes (copy_asks (decode (words c.args.store.now)) c.args.key) refl (sym c.in_ok-asks.ensures))
 
 pub returns : goal.returns
 unfolding rule
-returns c =
-    let asked : first_no (copy_asks (decode (words c.args.store.now)) c.args.key) ≡ 0 = sym c.asks-no.ensures ∙ c.if-no-ne0.false in
-    accepted (Event.copy c.args.key) (words c.args.store.now) _ (asked) c.effect.ensures
+returns c = accepted (Event.copy c.args.key) (words c.args.store.now) _ (sym c.in_ok-asks.ensures) c.effect.ensures
