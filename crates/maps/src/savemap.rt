@@ -10,6 +10,7 @@ ghost use Rattle.lent.specs.Stores.{StoreOf};
 ghost use Rattle.maps.specs.Saved.{saved};
 
 use layout::sizes;
+use lent::place::Span;
 use lent::{Answer, copies, place};
 use rules::settings::Settings;
 
@@ -25,13 +26,8 @@ pub fn savemap(store: &mut [u8], settings: Settings, place: u64) -> Answer
     requires { StoreOf settings store.old }
     ensures { Performs (Event.savemap place) (words store.old) result (words store.new) }
 {
-    let no = place::asks(store, settings, place);
-    if no != 0 {
-        return Answer::No(no);
-    }
-    let span = place::span_of(settings, place as usize);
-    let from = span.from;
-    let to = span.to;
+    place::asks(store, settings, place)?;
+    let Span { from, to } = place::span_of(settings, place as usize);
     save_place(&mut store[from..to], settings);
-    Answer::Yes(0)
+    Ok(0)
 }

@@ -1,4 +1,5 @@
-use mathlib.Core.Path.{sym, ◌∙◌}
+use Rattle.std.proofs.lemmas.Result.{err_from_is_err_and}
+use mathlib.Core.Path.{sym}
 use Rattle.words.specs.Words.{words}
 use Rattle.rules.specs.Event.{Event}
 use Rattle.rules.specs.Maps.{savemap_effect}
@@ -9,39 +10,38 @@ use Rattle.lent.proofs.Performs.{refused, accepted}
 use Rattle.lent.proofs.Places.{UpPlace, place_yes}
 use Rattle.maps.proofs.Saving.{saved_place}
 use Rattle.maps.proofs.savemap.savemap.Goals as goal
+use Rattle.maps.proofs.savemap.savemap.Goals.{After-span_of-from}
 
 -- the place is there, and its bytes are known
-up : (c : goal.Else-no-ne0) → UpPlace c.args.settings (decode (words c.args.store.now)) c.args.place
-up c =
-    place_yes c.args.settings c.args.store.now c.requires c.args.place (sym c.asks-no.ensures ∙ c.if-no-ne0.false)
+stands : (c : After-span_of-from) → UpPlace c.args.settings (decode (words c.args.store.now)) c.args.place
+stands c = place_yes c.args.settings c.args.store.now c.requires c.args.place (sym c.in_ok-asks.ensures)
 
-lent : (c : goal.After-span_of-span)
-    → LentPlace c.args.store.now c.args.settings c.args.place c.span_of-span.result.from c.span_of-span.result.to
-lent c = lent_place c.requires c.span_of-span.ensures (up c.before).inside
+lent : (c : After-span_of-from) → LentPlace c.args.store.now c.args.settings c.args.place c.span_of-from.result.from c.span_of-from.result.to
+lent c = lent_place c.requires c.span_of-from.ensures (stands c).inside
 
-pub returns-then-no-ne0 : goal.returns-then-no-ne0
+pub returns-in_err-asks : goal.returns-in_err-asks
 unfolding rule
-returns-then-no-ne0 c =
-    refused (Event.savemap c.args.place) (words c.args.store.now) c.requires.sound _ c.asks-no.ensures c.if-no-ne0.true
+returns-in_err-asks c =
+    let p = err_from_is_err_and c.from_residual.result c.from_residual.ensures.1 in
+    rw (p.1, p.2) (refused (Event.savemap c.args.place) (words c.args.store.now) c.requires.sound _ c.in_err-asks.ensures)
 
-pub span_of-span-requires : goal.span_of-span-requires
-span_of-span-requires c = (c.requires.limits, (up c).inside)
+pub span_of-from-requires : goal.span_of-from-requires
+span_of-from-requires c =
+    (c.requires.limits, (place_yes c.args.settings c.args.store.now c.requires c.args.place (sym c.in_ok-asks.ensures)).inside)
 
 pub slice_bounds-save_place-end : goal.slice_bounds-save_place-end
-slice_bounds-save_place-end c = part_inside (lent c)
+slice_bounds-save_place-end c = part_inside (lent (goal.at.slice_bounds-save_place-end c).After-span_of-from)
 
 pub save_place-requires : goal.save_place-requires
 save_place-requires c =
-    let up : UpPlace c.args.settings (decode (words c.args.store.now)) c.args.place = place_yes c.args.settings c.args.store.now c.requires c.args.place (sym c.asks-no.ensures ∙ c.if-no-ne0.false) in
-    let lent : LentPlace c.args.store.now c.args.settings c.args.place c.span_of-span.result.from c.span_of-span.result.to = lent_place c.requires c.span_of-span.ensures (up).inside in
-    part_brick (lent) (up).filled
+    let at = (goal.at.save_place-requires c).After-span_of-from in
+    part_brick (lent at) (stands at).filled
 
 pub returns : goal.returns
 unfolding rule savemap_effect
 returns c =
-    let up : UpPlace c.args.settings (decode (words c.args.store.now)) c.args.place = place_yes c.args.settings c.args.store.now c.requires c.args.place (sym c.asks-no.ensures ∙ c.if-no-ne0.false) in
-    let lent : LentPlace c.args.store.now c.args.settings c.args.place c.span_of-span.result.from c.span_of-span.result.to = lent_place c.requires c.span_of-span.ensures (up).inside in
-    let l = lent in
+    let at = (goal.at.returns c).After-span_of-from in
+    let place = lent at in
     let save = c.save_place in
-    accepted (Event.savemap c.args.place) (words c.args.store.now) _ (sym c.asks-no.ensures ∙ c.if-no-ne0.false)
-    (part_changed l save.new.part (saved_place _ c.args.place (part_filled l (up).filled)) save.auto.part save.ensures)
+    accepted (Event.savemap c.args.place) (words c.args.store.now) _ (sym c.in_ok-asks.ensures)
+    (part_changed place save.new.part (saved_place _ c.args.place (part_filled place (stands at).filled)) save.auto.part save.ensures)
