@@ -7,6 +7,7 @@ ghost use Rattle.words.specs.Words.{words};
 ghost use Rattle.rules.specs.Limits.{proxies};
 ghost use Rattle.rules.specs.Event.{Event};
 ghost use Rattle.rules.specs.Maps.{abandon_asks, learn_effect, reset_effect};
+ghost use Rattle.rules.specs.Refusals.{code_of};
 ghost use Rattle.rules.specs.Question.{first_no};
 ghost use Rattle.layout.specs.Store.{decode, render};
 ghost use Rattle.lent.specs.Performs.{Performs};
@@ -16,6 +17,7 @@ use layout::sizes;
 use lent::{Answer, proxy, store};
 use rules::constants;
 use rules::numbers::{BlockNumber, ViewNumber};
+use rules::refusal::Refusal;
 use rules::settings::Settings;
 
 // ---- learn
@@ -38,10 +40,10 @@ pub fn learn(store: &mut [u8], settings: Settings, proxy: u64) -> Answer
     ensures { Performs (Event.learn proxy) (words store.old) result (words store.new) }
 {
     if constants::PROXIES as u64 <= proxy {
-        return Answer::No(3);
+        return Err(Refusal::BadInput);
     }
     take_view(store, settings, proxy as usize);
-    Answer::Yes(0)
+    Ok(0)
 }
 
 // ---- reset
@@ -60,37 +62,32 @@ pub fn reset(store: &mut [u8], settings: Settings, proxy: u64) -> Answer
     ensures { Performs (Event.reset proxy) (words store.old) result (words store.new) }
 {
     if constants::PROXIES as u64 <= proxy {
-        return Answer::No(3);
+        return Err(Refusal::BadInput);
     }
     clear_proxy(store, settings, proxy as usize);
-    Answer::Yes(0)
+    Ok(0)
 }
 
 // ---- abandon
 
-// The number of the first question that is answered no, or 0.
-fn asks(store: &[u8], settings: Settings, proxy: u64, block: u64) -> u64
+// Refuses with the first question that is answered no.
+fn asks(store: &[u8], settings: Settings, proxy: u64, block: u64) -> Result<(), Refusal>
     requires { StoreOf settings store.now }
-    ensures { result ≡ first_no (abandon_asks (decode (words store.now)) proxy block) }
+    ensures { code_of result ≡ first_no (abandon_asks (decode (words store.now)) proxy block) }
 {
-    let no = proxy::block_asks(proxy, block);
-    if no != 0 {
-        return no;
-    }
+    proxy::block_asks(proxy, block)?;
     if proxy::has_item(store, settings, proxy as usize, BlockNumber(block)) {
-        return 0;
+        Ok(())
+    } else {
+        Err(Refusal::WrongItem)
     }
-    9
 }
 
 pub fn abandon(store: &mut [u8], settings: Settings, proxy: u64, block: u64) -> Answer
     requires { StoreOf settings store.old }
     ensures { Performs (Event.abandon proxy block) (words store.old) result (words store.new) }
 {
-    let no = asks(store, settings, proxy, block);
-    if no != 0 {
-        return Answer::No(no);
-    }
+    asks(store, settings, proxy, block)?;
     proxy::remove_item(store, settings, proxy as usize, BlockNumber(block));
-    Answer::Yes(0)
+    Ok(0)
 }

@@ -1,4 +1,4 @@
-use mathlib.Core.Path.{◌∙◌}
+use mathlib.Core.Path.{sym, ◌∙◌}
 use native.Mathlib.Omega.{arith}
 use borrow.Author.Tests.{lt-ltb, le-ltb}
 use Rattle.words.specs.Words.{words}
@@ -6,13 +6,13 @@ use Rattle.rules.specs.Event.{Event}
 use Rattle.rules.specs.Limits.{proxies}
 use Rattle.rules.specs.Step.{rule}
 use Rattle.rules.proofs.Questions.{first_yes, first_stop, none_asked}
-use Rattle.lent.proofs.Performs.{refuses, accepted}
+use Rattle.lent.proofs.Performs.{refused, accepted}
 use Rattle.proxies.proofs.reset.Goals as goal
 
 pub returns-then-proxy : goal.returns-then-proxy
 unfolding rule
 returns-then-proxy c =
-    refuses (Event.reset c.args.proxy) (words c.args.store.now) c.requires.sound 2 (first_stop 3 _ (le-ltb c.args.proxy proxies c.if-proxy.true))
+    refused (Event.reset c.args.proxy) (words c.args.store.now) c.requires.sound _ (sym (first_stop 3 _ (le-ltb c.args.proxy proxies c.if-proxy.true)))
 
 pub clear_proxy-requires : goal.clear_proxy-requires
 clear_proxy-requires c = (c.requires, omega arith)
