@@ -12,7 +12,11 @@ use Rattle.lists.specs.Columns.{upd}
 use Rattle.lists.proofs.Tests.{no_first, yes_first}
 use Rattle.lists.proofs.Columns.{upd_same, upd_again}
 use Rattle.words.specs.Words.{words}
+use Rattle.std.specs.Prelude.{Ok, Err}
 use Rattle.rules.specs.declared.settings.Settings.{Settings}
+use Rattle.rules.specs.declared.refusal.Refusal.{Refusal}
+use Rattle.rules.specs.declared.refusal.Refusal.TheVariants.{BadInput}
+use Rattle.rules.specs.Refusals.{number}
 use Rattle.rules.specs.Limits.{buckets}
 use Rattle.rules.specs.Entries.{Entry, insert, takes}
 use Rattle.rules.specs.Event.{Event}
@@ -28,7 +32,6 @@ use Rattle.layout.specs.Layout.{bag_codec, agreed_at, taken_at}
 use Rattle.layout.specs.Store.{brick_in, agreed_in, decode, render}
 use Rattle.layout.proofs.Foci.{taken_in}
 use Rattle.layout.proofs.Sound.{SoundWords}
-use Rattle.lent.specs.declared.Answer.TheVariants.{Yes, No}
 use Rattle.lent.specs.Performs.{Performs}
 use Rattle.lent.specs.Stores.{StoreOf}
 use Rattle.lent.proofs.Performs.{refused, accepted}
@@ -200,17 +203,17 @@ module _ (ws : List ℕ) (i : ℕ) where
   abbrev store : State
   store = decode ws
 
-  pub deliver_none : SoundWords ws → length store.bag ≤ i → Performs (Event.deliver i) ws (No 3) ws
+  pub deliver_none : SoundWords ws → length store.bag ≤ i → Performs (Event.deliver i) ws (Err BadInput) ws
   unfolding rule
-  deliver_none sd h = refused (Event.deliver i) ws sd 3 (sym (first_stop 3 _ (le-ltb i (length store.bag) h))) (λ z. omega arith)
+  deliver_none sd h = refused (Event.deliver i) ws sd _ (sym (first_stop 3 _ (le-ltb i (length store.bag) h)))
 
   module _ (r : Relay) (f : FoundAt store i r) where
     pub deliver_aside : takes_relay store r ≡ false → (after : List ℕ) → after ≡ render (drop_effect store i) ws
-        → Performs (Event.deliver i) ws (Yes 0) after
+        → Performs (Event.deliver i) ws (Ok 0) after
     unfolding rule
     deliver_aside n after e =
         let d = decided store i r f n in
-        subst (λ (key : ℕ). Performs (Event.deliver i) ws (Yes key) after) (ap (λ (t : Bool). cond t 1 0) d)
+        subst (λ (key : ℕ). Performs (Event.deliver i) ws (Ok key) after) (ap (λ (t : Bool). cond t 1 0) d)
         (accepted (Event.deliver i) ws after (first_yes 3 _ (lt-ltb i (length store.bag) f.inside) ∙ asked_aside (is_taken store i) _ _ d)
         (e ∙ ap (λ (t : State). render t ws) (set_aside store i r f n)))
 
@@ -219,14 +222,14 @@ module _ (ws : List ℕ) (i : ℕ) where
         first_yes 3 _ (lt-ltb i (length store.bag) f.inside) ∙ asked_taken (is_taken store i) _ _ (decided store i r f y)
         ∙ ap (λ (j : Relay). first_no (take_asks store j)) (sym f.same)
 
-    pub deliver_no : SoundWords ws → takes_relay store r ≡ true → (n : ℕ) → n ≡ first_no (take_asks store r) → (n ≡ 0 → ⊥)
-        → Performs (Event.deliver i) ws (No n) ws
+    pub deliver_no : SoundWords ws → takes_relay store r ≡ true → (n : Refusal) → number n ≡ first_no (take_asks store r)
+        → Performs (Event.deliver i) ws (Err n) ws
     unfolding rule
-    deliver_no sd y n e z = refused (Event.deliver i) ws sd n (e ∙ sym (asked y)) z
+    deliver_no sd y n e = refused (Event.deliver i) ws sd n (e ∙ sym (asked y))
 
   pub deliver_yes : (r : Relay) → Takeable store i r → (after : List ℕ) → after ≡ render (deliver_effect store i) ws
-      → Performs (Event.deliver i) ws (Yes 1) after
+      → Performs (Event.deliver i) ws (Ok 1) after
   unfolding rule
   deliver_yes r k after e =
-      subst (λ (key : ℕ). Performs (Event.deliver i) ws (Yes key) after) (ap (λ (t : Bool). cond t 1 0) (decided store i r k.found k.taken))
+      subst (λ (key : ℕ). Performs (Event.deliver i) ws (Ok key) after) (ap (λ (t : Bool). cond t 1 0) (decided store i r k.found k.taken))
       (accepted (Event.deliver i) ws after (asked r k.found k.taken ∙ k.asked) e)

@@ -3,6 +3,7 @@ ghost use Rattle.std.specs.Prelude.{◌≡◌};
 ghost use Rattle.words.specs.Words.{words};
 ghost use Rattle.rules.specs.Event.{Event};
 ghost use Rattle.rules.specs.Maps.{deliver_effect};
+ghost use Rattle.rules.specs.Refusals.{code_of};
 ghost use Rattle.rules.specs.Question.{first_no};
 ghost use Rattle.layout.specs.Store.{decode, render};
 ghost use Rattle.lent.specs.Performs.{Performs};
@@ -15,6 +16,7 @@ use crate::relay::Relay;
 use layout::sizes;
 use lent::{Answer, brick, bucket};
 use mappings::{block, copy};
+use rules::refusal::Refusal;
 use rules::settings::Settings;
 
 // Is it of the present view, and its number higher than the highest taken?
@@ -28,20 +30,21 @@ fn is_taken(store: &[u8], settings: Settings, relay: Relay) -> bool
     false
 }
 
-// Is the backup an up member, and may its copy take the block? The number of the first no, or 0.
-fn asks(store: &[u8], settings: Settings, relay: Relay) -> u64
+// Is the backup an up member, and may its copy take the block?
+fn asks(store: &[u8], settings: Settings, relay: Relay) -> Result<(), Refusal>
     requires { StoreOf settings store.now }
-    ensures { result ≡ first_no (take_asks (decode (words store.now)) (relay_of (decode (words store.now)) relay)) }
+    ensures { code_of result ≡ first_no (take_asks (decode (words store.now)) (relay_of (decode (words store.now)) relay)) }
 {
     let bucket = bucket::number(settings, relay.block);
     let agreed = bucket::agreed(store, settings, bucket);
     if !brick::up_member(store, settings, agreed.backup) {
-        return 6;
+        return Err(Refusal::NoMember);
     }
     if copy::takes(store, settings, bucket, agreed.backup, relay.block) {
-        return 0;
+        Ok(())
+    } else {
+        Err(Refusal::BackupFull)
     }
-    14
 }
 
 // The backup's memory takes it, its number is the highest taken, and it leaves the bag.
@@ -71,17 +74,14 @@ pub fn deliver(store: &mut [u8], settings: Settings, index: u64) -> Answer
     ensures { Performs (Event.deliver index) (words store.old) result (words store.new) }
 {
     if lent::store::relay_count(store, settings) <= index {
-        return Answer::No(3);
+        return Err(Refusal::BadInput);
     }
     let found = relay::read(store, settings, index as usize);
     if is_taken(store, settings, found) {
-        let no = asks(store, settings, found);
-        if no != 0 {
-            return Answer::No(no);
-        }
+        asks(store, settings, found)?;
         take(store, settings, index as usize, found);
-        return Answer::Yes(1);
+        return Ok(1);
     }
     relay::remove(store, settings, index as usize);
-    Answer::Yes(0)
+    Ok(0)
 }

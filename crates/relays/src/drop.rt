@@ -7,6 +7,7 @@ ghost use Rattle.lent.specs.Stores.{StoreOf};
 
 use crate::relay;
 use lent::Answer;
+use rules::refusal::Refusal;
 use rules::settings::Settings;
 
 pub fn drop(store: &mut [u8], settings: Settings, index: u64) -> Answer
@@ -14,8 +15,8 @@ pub fn drop(store: &mut [u8], settings: Settings, index: u64) -> Answer
     ensures { Performs (Event.drop index) (words store.old) result (words store.new) }
 {
     if lent::store::relay_count(store, settings) <= index {
-        return Answer::No(3);
+        return Err(Refusal::BadInput);
     }
     relay::remove(store, settings, index as usize);
-    Answer::Yes(0)
+    Ok(0)
 }

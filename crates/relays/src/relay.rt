@@ -28,9 +28,7 @@ pub fn bag_part<'a>(store: &'a [u8], settings: Settings) -> &'a [u8]
     requires { StoreOf settings store.now }
     ensures { BagPart (decode (words store.now)).bag result.now }
 {
-    let span = bag_span(settings);
-    let from = span.from;
-    let to = span.to;
+    let Span { from, to } = bag_span(settings);
     &store[from..to]
 }
 
@@ -62,8 +60,6 @@ pub fn remove(store: &mut [u8], settings: Settings, index: usize)
     requires { StoreOf settings store.old × (index < length (decode (words store.old)).bag) }
     ensures { words store.new ≡ render (drop_effect (decode (words store.old)) index) (words store.old) }
 {
-    let span = bag_span(settings);
-    let from = span.from;
-    let to = span.to;
+    let Span { from, to } = bag_span(settings);
     bag::remove(&mut store[from..to], index);
 }

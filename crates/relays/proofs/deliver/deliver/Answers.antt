@@ -1,80 +1,49 @@
-use mathlib.Core.Path.{◌≡◌, sym, ◌∙◌}
-use mathlib.Core.Bool.{Bool}
-use Prim.Native.Nat.{◌<◌}
+use Rattle.std.proofs.lemmas.Result.{err_from_is_err_and}
+use mathlib.Core.Path.{sym, ◌∙◌}
 use native.Mathlib.Omega.{arith}
-use lib.ListN.{length}
 use Rattle.words.specs.Words.{words}
 use Rattle.layout.specs.Store.{decode}
-use Rattle.relays.specs.Relays.{relay_of, takes_relay, FoundAt, Takeable}
+use Rattle.relays.specs.Relays.{relay_of, FoundAt, Takeable}
 use Rattle.relays.proofs.Delivering.{deliver_none, deliver_aside, deliver_no, deliver_yes}
 use Rattle.relays.proofs.deliver.deliver.Goals as goal
+use Rattle.relays.proofs.deliver.deliver.Goals.{After-read-found, In_ok-asks}
+
+found : (c : After-read-found) → let s = decode (words c.args.store.now) in FoundAt s c.args.index (relay_of s c.read-found.result)
+found c = record { inside = omega (arith, c.relay_count.ensures, c.if-relay_count-index.false); same = c.read-found.ensures }
+
+takeable : (c : In_ok-asks) → let s = decode (words c.args.store.now) in Takeable s c.args.index (relay_of s c.read-found.result)
+takeable c = record {
+  found = record { inside = omega (arith, c.relay_count.ensures, c.if-relay_count-index.false); same = c.read-found.ensures };
+  taken = sym c.is_taken.ensures ∙ c.if-is_taken.true;
+  asked = sym c.in_ok-asks.ensures;
+}
 
 pub returns-then-relay_count-index : goal.returns-then-relay_count-index
 returns-then-relay_count-index c =
     deliver_none (words c.args.store.now) c.args.index c.requires.sound (omega (arith, c.relay_count.ensures, c.if-relay_count-index.true))
 
 pub read-found-requires : goal.read-found-requires
-read-found-requires c =
-    let inside : c.args.index < length (decode (words c.args.store.now)).bag = omega (arith, c.relay_count.ensures, c.if-relay_count-index.false) in
-    (c.requires, inside)
+read-found-requires c = (c.requires, omega (arith, c.relay_count.ensures, c.if-relay_count-index.false))
 
-pub returns-then-no-ne0 : goal.returns-then-no-ne0
-returns-then-no-ne0 c =
-    let inside : c.args.index < length (decode (words c.args.store.now)).bag = omega (arith, c.relay_count.ensures, c.if-relay_count-index.false) in
-    let found : let s = decode (words c.args.store.now) in
-    FoundAt s c.args.index (relay_of s c.read-found.result) = record { inside = inside; same = c.read-found.ensures } in
-    let decided : (x : Bool) → c.is_taken.result ≡ x
-    → let s = decode (words c.args.store.now) in
-    takes_relay s (relay_of s c.read-found.result) ≡ x = λ x y. sym c.is_taken.ensures ∙ y in
-    deliver_no (words c.args.store.now) c.args.index _ (found) c.requires.sound
-    (decided _ c.if-is_taken.true) _ c.asks-no.ensures c.if-no-ne0.true
+pub returns-in_err-asks : goal.returns-in_err-asks
+returns-in_err-asks c =
+    let p = err_from_is_err_and c.from_residual.result c.from_residual.ensures.1 in
+    rw (p.1, p.2) (deliver_no (words c.args.store.now) c.args.index _ (found (goal.at.returns-in_err-asks c).After-read-found) c.requires.sound
+    (sym c.is_taken.ensures ∙ c.if-is_taken.true) _ c.in_err-asks.ensures)
 
 pub take-requires : goal.take-requires
-take-requires c =
-    let inside : c.args.index < length (decode (words c.args.store.now)).bag = omega (arith, c.relay_count.ensures, c.if-relay_count-index.false) in
-    let found : let s = decode (words c.args.store.now) in
-    FoundAt s c.args.index (relay_of s c.read-found.result) = record { inside = inside; same = c.read-found.ensures } in
-    let decided : (x : Bool) → c.is_taken.result ≡ x
-    → let s = decode (words c.args.store.now) in
-    takes_relay s (relay_of s c.read-found.result) ≡ x = λ x y. sym c.is_taken.ensures ∙ y in
-    let takeable : let s = decode (words c.args.store.now) in
-    Takeable s c.args.index (relay_of s c.read-found.result) = record {
-      found = found;
-      taken = decided _ c.if-is_taken.true;
-      asked = sym c.asks-no.ensures ∙ c.if-no-ne0.false;
-    } in
-    (c.requires, takeable)
+take-requires c = (c.requires, takeable (goal.at.take-requires c).In_ok-asks)
 
 pub returns-then-is_taken : goal.returns-then-is_taken
 returns-then-is_taken c =
-    let inside : c.args.index < length (decode (words c.args.store.now)).bag = omega (arith, c.relay_count.ensures, c.if-relay_count-index.false) in
-    let found : let s = decode (words c.args.store.now) in
-    FoundAt s c.args.index (relay_of s c.read-found.result) = record { inside = inside; same = c.read-found.ensures } in
-    let decided : (x : Bool) → c.is_taken.result ≡ x
-    → let s = decode (words c.args.store.now) in
-    takes_relay s (relay_of s c.read-found.result) ≡ x = λ x y. sym c.is_taken.ensures ∙ y in
-    let takeable : let s = decode (words c.args.store.now) in
-    Takeable s c.args.index (relay_of s c.read-found.result) = record {
-      found = found;
-      taken = decided _ c.if-is_taken.true;
-      asked = sym c.asks-no.ensures ∙ c.if-no-ne0.false;
-    } in
     let done = c.take in
-    deliver_yes (words c.args.store.now) c.args.index _ (takeable) (words done.new.store) done.ensures
+    deliver_yes (words c.args.store.now) c.args.index _ (takeable (goal.at.returns-then-is_taken c).In_ok-asks) (words done.new.store) done.ensures
 
 pub remove-requires : goal.remove-requires
-remove-requires c =
-    let inside : c.args.index < length (decode (words c.args.store.now)).bag = omega (arith, c.relay_count.ensures, c.if-relay_count-index.false) in
-    (c.requires, inside)
+remove-requires c = (c.requires, omega (arith, c.relay_count.ensures, c.if-relay_count-index.false))
 
 pub returns : goal.returns
 returns c =
-    let inside : c.args.index < length (decode (words c.args.store.now)).bag = omega (arith, c.relay_count.ensures, c.if-relay_count-index.false) in
-    let found : let s = decode (words c.args.store.now) in
-    FoundAt s c.args.index (relay_of s c.read-found.result) = record { inside = inside; same = c.read-found.ensures } in
-    let decided : (x : Bool) → c.is_taken.result ≡ x
-    → let s = decode (words c.args.store.now) in
-    takes_relay s (relay_of s c.read-found.result) ≡ x = λ x y. sym c.is_taken.ensures ∙ y in
     let done = c.remove in
-    deliver_aside (words c.args.store.now) c.args.index _ (found) (decided _ c.if-is_taken.false)
+    deliver_aside (words c.args.store.now) c.args.index _ (found (goal.at.returns c).After-read-found) (sym c.is_taken.ensures ∙ c.if-is_taken.false)
     (words done.new.store) done.ensures

@@ -16,8 +16,8 @@ pub returns-then-relay_count-index : goal.returns-then-relay_count-index
 unfolding rule
 returns-then-relay_count-index c =
     let s = decode (words c.args.store.now) in
-    refused (Event.drop c.args.index) (words c.args.store.now) c.requires.sound 3
-    (sym (first_stop 3 [] (le-ltb c.args.index (length s.bag) (omega (arith, c.relay_count.ensures, c.if-relay_count-index.true))))) (λ z. omega arith)
+    refused (Event.drop c.args.index) (words c.args.store.now) c.requires.sound _
+    (sym (first_stop 3 [] (le-ltb c.args.index (length s.bag) (omega (arith, c.relay_count.ensures, c.if-relay_count-index.true)))))
 
 pub remove-requires : goal.remove-requires
 remove-requires c =
