@@ -2,6 +2,7 @@
 ghost use Rattle.std.specs.Prelude.{◌≡◌, length};
 ghost use Rattle.words.specs.Words.{words};
 ghost use Rattle.rules.specs.Event.{Event};
+ghost use Rattle.rules.specs.Refusals.{code_of};
 ghost use Rattle.rules.specs.Question.{first_no};
 ghost use Rattle.rules.specs.Membership.{crash_asks};
 ghost use Rattle.codec.specs.Codec.{change};
@@ -16,20 +17,22 @@ use layout::sizes;
 use lent::place::Span;
 use lent::{Answer, copies, place};
 use records::status::Status;
+use rules::refusal::Refusal;
 use rules::settings::Settings;
 
-// Is there such a place, and is its brick up? The number of the first no, or 0.
-fn asks(store: &[u8], settings: Settings, place: u64) -> u64
+// Is there such a place, and is its brick up?
+fn asks(store: &[u8], settings: Settings, place: u64) -> Result<(), Refusal>
     requires { StoreOf settings store.now }
-    ensures { result ≡ first_no (crash_asks (decode (words store.now)) place) }
+    ensures { code_of result ≡ first_no (crash_asks (decode (words store.now)) place) }
 {
     if settings.places as u64 <= place {
-        return 3;
+        return Err(Refusal::BadInput);
     }
     if place::is_up(store, settings, place as usize) {
-        return 0;
+        Ok(())
+    } else {
+        Err(Refusal::WrongState)
     }
-    13
 }
 
 // The place's part: the status, then the buffer, the copies and the log.
@@ -60,11 +63,8 @@ pub fn crash(store: &mut [u8], settings: Settings, place: u64) -> Answer
     requires { StoreOf settings store.old }
     ensures { Performs (Event.crash place) (words store.old) result (words store.new) }
 {
-    let no = asks(store, settings, place);
-    if no != 0 {
-        return Answer::No(no);
-    }
+    asks(store, settings, place)?;
     let Span { from, to } = place::span_of(settings, place as usize);
     crash_place(&mut store[from..to], settings);
-    Answer::Yes(0)
+    Ok(0)
 }

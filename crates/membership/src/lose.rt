@@ -2,6 +2,7 @@
 ghost use Rattle.std.specs.Prelude.{◌≡◌};
 ghost use Rattle.words.specs.Words.{words};
 ghost use Rattle.rules.specs.Event.{Event};
+ghost use Rattle.rules.specs.Refusals.{code_of};
 ghost use Rattle.rules.specs.Question.{first_no};
 ghost use Rattle.rules.specs.Membership.{lose_asks};
 ghost use Rattle.layout.specs.Store.{decode};
@@ -10,31 +11,30 @@ ghost use Rattle.lent.specs.Stores.{StoreOf};
 
 use lent::place::Span;
 use lent::{Answer, place};
+use rules::refusal::Refusal;
 use rules::settings::Settings;
 
-// Is there such a place, and a brick at it? The number of the first no, or 0.
-fn asks(store: &[u8], settings: Settings, place: u64) -> u64
+// Is there such a place, and a brick at it?
+fn asks(store: &[u8], settings: Settings, place: u64) -> Result<(), Refusal>
     requires { StoreOf settings store.now }
-    ensures { result ≡ first_no (lose_asks (decode (words store.now)) place) }
+    ensures { code_of result ≡ first_no (lose_asks (decode (words store.now)) place) }
 {
     if settings.places as u64 <= place {
-        return 3;
+        return Err(Refusal::BadInput);
     }
     if place::id(store, settings, place as usize) == 0 {
-        return 13;
+        Err(Refusal::WrongState)
+    } else {
+        Ok(())
     }
-    0
 }
 
 pub fn lose(store: &mut [u8], settings: Settings, place: u64) -> Answer
     requires { StoreOf settings store.old }
     ensures { Performs (Event.lose place) (words store.old) result (words store.new) }
 {
-    let no = asks(store, settings, place);
-    if no != 0 {
-        return Answer::No(no);
-    }
+    asks(store, settings, place)?;
     let Span { from, to } = place::span_of(settings, place as usize);
     records::place::set_id(&mut store[from..to], settings, 0);
-    Answer::Yes(0)
+    Ok(0)
 }

@@ -2,6 +2,7 @@
 ghost use Rattle.std.specs.Prelude.{◌≡◌, length};
 ghost use Rattle.words.specs.Words.{words};
 ghost use Rattle.rules.specs.Event.{Event};
+ghost use Rattle.rules.specs.Refusals.{code_of};
 ghost use Rattle.rules.specs.Question.{first_no};
 ghost use Rattle.rules.specs.Membership.{rise_asks};
 ghost use Rattle.codec.specs.Codec.{change};
@@ -15,23 +16,25 @@ ghost use Rattle.membership.specs.Places.{risen};
 use lent::place::Span;
 use lent::{Answer, place};
 use records::status::Status;
+use rules::refusal::Refusal;
 use rules::settings::Settings;
 
-// Is there such a place, and a brick at it that is down? The number of the first no, or 0.
-fn asks(store: &[u8], settings: Settings, place: u64) -> u64
+// Is there such a place, and a brick at it that is down?
+fn asks(store: &[u8], settings: Settings, place: u64) -> Result<(), Refusal>
     requires { StoreOf settings store.now }
-    ensures { result ≡ first_no (rise_asks (decode (words store.now)) place) }
+    ensures { code_of result ≡ first_no (rise_asks (decode (words store.now)) place) }
 {
     if settings.places as u64 <= place {
-        return 3;
+        return Err(Refusal::BadInput);
     }
     if place::id(store, settings, place as usize) == 0 {
-        return 13;
+        return Err(Refusal::WrongState);
     }
     if place::is_up(store, settings, place as usize) {
-        return 13;
+        Err(Refusal::WrongState)
+    } else {
+        Ok(())
     }
-    0
 }
 
 fn rise_place(part: &mut [u8], settings: Settings)
@@ -47,11 +50,8 @@ pub fn rise(store: &mut [u8], settings: Settings, place: u64) -> Answer
     requires { StoreOf settings store.old }
     ensures { Performs (Event.rise place) (words store.old) result (words store.new) }
 {
-    let no = asks(store, settings, place);
-    if no != 0 {
-        return Answer::No(no);
-    }
+    asks(store, settings, place)?;
     let Span { from, to } = place::span_of(settings, place as usize);
     rise_place(&mut store[from..to], settings);
-    Answer::Yes(0)
+    Ok(0)
 }

@@ -1,26 +1,26 @@
 use mathlib.Core.Path.{◌≡◌, sym, ◌∙◌}
 use mathlib.Core.Bool.{true}
-use native.Mathlib.Omega.{arith}
 use Rattle.words.specs.Words.{words}
 use Rattle.rules.specs.Question.{is_place}
 use Rattle.rules.proofs.Questions.{first_yes, first_stop, none_asked}
 use Rattle.layout.specs.Store.{decode}
 use Rattle.lent.proofs.Places.{no_place, is_place_yes}
 use Rattle.membership.proofs.crash.asks.Goals as goal
+use Rattle.membership.proofs.crash.asks.Goals.{Else-settings-place}
+
+-- there is such a place
+there : (c : Else-settings-place) → is_place (decode (words c.args.store.now)) c.args.place ≡ true
+there c = is_place_yes c.args.settings c.args.store.now c.requires c.args.place c.if-settings-place.false
 
 pub returns-then-settings-place : goal.returns-then-settings-place
 returns-then-settings-place c = sym (first_stop 3 _ (no_place c.args.settings c.args.store.now c.requires c.args.place c.if-settings-place.true))
 
-pub is_up-requires : goal.is_up-requires
-is_up-requires c =
-    (c.requires, omega arith)
-
 pub returns-then-is_up : goal.returns-then-is_up
 returns-then-is_up c =
-    let is-there : is_place (decode (words c.args.store.now)) c.args.place ≡ true = is_place_yes c.args.settings c.args.store.now c.requires c.args.place (omega arith) in
-    sym (first_yes 3 _ (is-there) ∙ first_yes 13 _ (sym c.is_up.ensures ∙ c.if-is_up.true) ∙ none_asked)
+    let here = there (goal.at.returns-then-is_up c).Else-settings-place in
+    sym (first_yes 3 _ here ∙ first_yes 13 _ (sym c.is_up.ensures ∙ c.if-is_up.true) ∙ none_asked)
 
-pub returns : goal.returns
-returns c =
-    let is-there : is_place (decode (words c.args.store.now)) c.args.place ≡ true = is_place_yes c.args.settings c.args.store.now c.requires c.args.place (omega arith) in
-    sym (first_yes 3 _ (is-there) ∙ first_stop 13 _ (sym c.is_up.ensures ∙ c.if-is_up.false))
+pub returns-else-is_up : goal.returns-else-is_up
+returns-else-is_up c =
+    let here = there (goal.at.returns-else-is_up c).Else-settings-place in
+    sym (first_yes 3 _ here ∙ first_stop 13 _ (sym c.is_up.ensures ∙ c.if-is_up.false))

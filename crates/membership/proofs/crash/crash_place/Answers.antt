@@ -1,4 +1,3 @@
-use Rattle.rules.specs.declared.settings.Settings.{Settings}
 use mathlib.Core.Path.{◌≡◌, refl, ap, ◌∙◌}
 use mathlib.Core.List.{List, ◌++◌}
 use mathlib.Core.Bool.{false}
@@ -6,6 +5,7 @@ use Prim.Native.Nat.{ℕ, ◌*◌, ◌-◌}
 use native.Mathlib.Omega.{arith}
 use lib.ListN.{length, take, drop}
 use Rattle.words.specs.Words.{words}
+use Rattle.rules.specs.declared.settings.Settings.{Settings}
 use Rattle.rules.specs.Chunks.{only_saved}
 use Rattle.layout.specs.Contents.{Status, Place}
 use Rattle.layout.specs.Layout.{place_codec, all_copies_at}
@@ -14,97 +14,66 @@ use Rattle.records.specs.Records.{with_status}
 use Rattle.lent.specs.Parts.{all_matched}
 use Rattle.lent.proofs.PlaceSteps.{all_copies_of, copies_fit, log_fits, step_changed}
 use Rattle.membership.specs.Places.{fallen, restored, crashed}
-use Rattle.membership.proofs.CrashSteps.{down, unbuffered, buffer_step}
+use Rattle.membership.proofs.CrashSteps.{unbuffered, buffer_step}
 use Rattle.membership.proofs.crash.crash_place.Goals as goal
+use Rattle.membership.proofs.crash.crash_place.Goals.{After-match_all, After-write}
 
 -- bytes v are the part with its place changed by f
 record Now (settings : Settings) (part : List ℕ) (f : Place → Place) (v : List ℕ) : Type 0 where
   same : words v ≡ (place_codec settings).enc (f ((place_codec settings).dec (words part))) (words part)
   long : length v ≡ length part
 
+-- the status and the buffer were written
+emptied : (c : After-write) → Now c.args.settings c.args.part.now unbuffered c.write.new.s
+emptied c =
+    let w = words c.args.part.now in
+    let codec = place_codec c.args.settings in record {
+      same = c.write.ensures ∙ buffer_step c.args.settings c.args.part.now c.requires _
+          (c.write_status.ensures ∙ ap (λ (s : Status). codec.enc (with_status (fallen s) (codec.dec w)) w) c.read_status-old.ensures);
+      long = omega arith;
+    }
+
+-- and the copies
+abbrev restored_bytes : After-match_all → List ℕ
+restored_bytes c =
+    let v = c.write.new.s in
+    let from = 8 * all_copies_at in
+    take from v ++ (c.match_all.new.copies ++ drop (8 * c.log_at-log.result - from) (drop from v))
+
+matched : (c : After-match_all) → Now c.args.settings c.args.part.now unbuffered c.write.new.s
+    → let old = (place_codec c.args.settings).dec (words c.args.part.now) in
+    words (restored_bytes c) ≡ (place_codec c.args.settings).enc (restored old) (words c.args.part.now)
+matched c before =
+    let t = c.args.settings in
+    let old = (place_codec t).dec (words c.args.part.now) in
+    let done = c.match_all in
+    step_changed t c.args.part.now c.requires (unbuffered old) _ before.same before.long (8 * all_copies_at) (8 * c.log_at-log.result)
+    (all_copies_of t) ((refl, c.requires.filled), ((refl, refl), refl)) refl refl (omega (arith, c.log_at-log.ensures)) (restored old)
+    ((refl, c.requires.filled), ((refl, refl), refl)) (all_matched false) refl done.new.copies done.auto.copies done.ensures
+
 pub match_all-requires : goal.match_all-requires
 match_all-requires c =
-    let log_from : ℕ = 8 * c.log_at-log.result in
-    let one : Now c.args.settings c.args.part.now down c.write_status.new.part = let w = words c.args.part.now in
-    let codec = place_codec c.args.settings in
-    record {
-      same = c.write_status.ensures
-          ∙ ap (λ (s : Status). codec.enc (with_status (fallen s) (codec.dec w)) w) c.read_status-old.ensures;
-      long = omega (arith, c.part-1.given);
-    } in
-    let two : Now c.args.settings c.args.part.now unbuffered c.write.new.s = record {
-      same = c.write.ensures ∙ buffer_step c.args.settings c.args.part.now c.requires _ (one).same;
-      long = omega (arith, c.part-2-1.given, (one).long);
-    } in
-    let before = two in
-    copies_fit c.args.settings c.args.part.now c.requires _ _ before.same before.long (8 * all_copies_at) (log_from) c.requires.filled refl refl
-    (omega (arith, c.log_at-log.ensures))
+    let before = emptied (goal.at.match_all-requires c).After-write in
+    copies_fit c.args.settings c.args.part.now c.requires _ _ before.same before.long (8 * all_copies_at) (8 * c.log_at-log.result) c.requires.filled
+    refl refl (omega (arith, c.log_at-log.ensures))
 
 pub keep_saved-requires : goal.keep_saved-requires
 keep_saved-requires c =
-    let log_from : ℕ = 8 * c.log_at-log.result in
-    let one : Now c.args.settings c.args.part.now down c.write_status.new.part = let w = words c.args.part.now in
-    let codec = place_codec c.args.settings in
-    record {
-      same = c.write_status.ensures
-          ∙ ap (λ (s : Status). codec.enc (with_status (fallen s) (codec.dec w)) w) c.read_status-old.ensures;
-      long = omega (arith, c.part-1.given);
-    } in
-    let two : Now c.args.settings c.args.part.now unbuffered c.write.new.s = record {
-      same = c.write.ensures ∙ buffer_step c.args.settings c.args.part.now c.requires _ (one).same;
-      long = omega (arith, c.part-2-1.given, (one).long);
-    } in
-    let restored-bytes : List ℕ = let from = 8 * all_copies_at in
-    let v = c.write.new.s in
-    take from v ++ (c.match_all.new.copies ++ drop (log_from - from) (drop from v)) in
-    let three : Now c.args.settings c.args.part.now restored (restored-bytes) = let t = c.args.settings in
-    let old = (place_codec t).dec (words c.args.part.now) in
-    let before = two in
-    let done = c.match_all in
-    record {
-      same = step_changed t c.args.part.now c.requires (unbuffered old) _ before.same before.long (8 * all_copies_at) (log_from) (all_copies_of t)
-          ((refl, c.requires.filled), ((refl, refl), refl)) refl refl (omega (arith, c.log_at-log.ensures)) (restored old)
-          ((refl, c.requires.filled), ((refl, refl), refl)) (all_matched false) refl done.new.copies done.auto.copies done.ensures;
-      long = omega (arith, c.part-3-1.given, before.long);
-    } in
-    let before = three in
+    let at = goal.at.keep_saved-requires c in
+    let before = emptied at.After-write in
     let s = c.args.part.now in
-    log_fits c.args.settings s c.requires _ _ before.same before.long (log_from) (length s) c.requires.filled refl
+    log_fits c.args.settings s c.requires _ _ (matched at.After-match_all before) (omega (arith, before.long)) (8 * c.log_at-log.result) (length s) c.requires.filled refl
     (omega (arith, c.log_at-log.ensures)) refl
 
 pub returns : goal.returns
 returns c =
-    let log_from : ℕ = 8 * c.log_at-log.result in
-    let one : Now c.args.settings c.args.part.now down c.write_status.new.part = let w = words c.args.part.now in
-    let codec = place_codec c.args.settings in
-    record {
-      same = c.write_status.ensures
-          ∙ ap (λ (s : Status). codec.enc (with_status (fallen s) (codec.dec w)) w) c.read_status-old.ensures;
-      long = omega (arith, c.part-1.given);
-    } in
-    let two : Now c.args.settings c.args.part.now unbuffered c.write.new.s = record {
-      same = c.write.ensures ∙ buffer_step c.args.settings c.args.part.now c.requires _ (one).same;
-      long = omega (arith, c.part-2-1.given, (one).long);
-    } in
-    let restored-bytes : List ℕ = let from = 8 * all_copies_at in
-    let v = c.write.new.s in
-    take from v ++ (c.match_all.new.copies ++ drop (log_from - from) (drop from v)) in
-    let three : Now c.args.settings c.args.part.now restored (restored-bytes) = let t = c.args.settings in
-    let old = (place_codec t).dec (words c.args.part.now) in
-    let before = two in
-    let done = c.match_all in
-    record {
-      same = step_changed t c.args.part.now c.requires (unbuffered old) _ before.same before.long (8 * all_copies_at) (log_from) (all_copies_of t)
-          ((refl, c.requires.filled), ((refl, refl), refl)) refl refl (omega (arith, c.log_at-log.ensures)) (restored old)
-          ((refl, c.requires.filled), ((refl, refl), refl)) (all_matched false) refl done.new.copies done.auto.copies done.ensures;
-      long = omega (arith, c.part-3-1.given, before.long);
-    } in
-    let before = three in
+    let at = goal.at.returns c in
+    let before = emptied at.After-write in
     let t = c.args.settings in
     let s = c.args.part.now in
     let log_at = c.log_at-log.ensures in
     let old = (place_codec t).dec (words s) in
     let done = c.keep_saved in
-    step_changed t s c.requires (restored old) _ before.same before.long (log_from) (length s) (log_of t)
+    step_changed t s c.requires (restored old) _ (matched at.After-match_all before) (omega (arith, before.long)) (8 * c.log_at-log.result) (length s) (log_of t)
     ((refl, c.requires.filled), ((refl, refl), refl)) refl (omega (arith, log_at)) (omega (arith, c.requires.size, log_at)) (crashed old)
     ((refl, c.requires.filled), ((refl, refl), refl)) only_saved refl done.new.log done.auto.log done.ensures

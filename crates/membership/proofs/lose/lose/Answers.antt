@@ -1,53 +1,43 @@
-use mathlib.Core.Path.{◌≡◌, sym, ◌∙◌}
+use mathlib.Core.Path.{sym}
+use Prim.Native.Nat.{◌<◌}
+use Rattle.std.proofs.lemmas.Result.{err_from_is_err_and}
 use Rattle.words.specs.Words.{words}
 use Rattle.rules.specs.Event.{Event}
-use Rattle.rules.specs.Question.{first_no}
-use Rattle.rules.specs.Membership.{lose_asks}
 use Rattle.rules.specs.Step.{rule}
 use Rattle.layout.specs.Store.{decode}
-use Rattle.lent.specs.Places.{Stands}
 use Rattle.lent.proofs.Performs.{refused, accepted}
-use Rattle.lent.proofs.LentPlace.{LentPlace, lent_place, part_inside, part_filled, part_brick, part_changed}
+use Rattle.lent.proofs.LentPlace.{LentPlace, lent_place, part_filled, part_brick, part_changed}
 use Rattle.membership.proofs.Asked.{lose_yes}
 use Rattle.membership.proofs.Places.{lose_changes}
 use Rattle.membership.proofs.lose.lose.Goals as goal
+use Rattle.membership.proofs.lose.lose.Goals.{After-span_of-from}
 
-pub returns-then-no-ne0 : goal.returns-then-no-ne0
+-- the place holds a brick, and its bytes are lent
+lends : (c : After-span_of-from) → LentPlace c.args.store.now c.args.settings c.args.place c.span_of-from.result.from c.span_of-from.result.to
+    × (0 < (decode (words c.args.store.now)).ids c.args.place)
+lends c =
+    let y = lose_yes c.args.settings c.args.store.now c.requires c.args.place (sym c.in_ok-asks.ensures) in
+    (lent_place c.requires c.span_of-from.ensures y.inside, y.some)
+
+pub returns-in_err-asks : goal.returns-in_err-asks
 unfolding rule
-returns-then-no-ne0 c =
-    refused (Event.lose c.args.place) (words c.args.store.now) c.requires.sound _ c.asks-no.ensures c.if-no-ne0.true
+returns-in_err-asks c =
+    let p = err_from_is_err_and c.from_residual.result c.from_residual.ensures.1 in
+    rw (p.1, p.2) (refused (Event.lose c.args.place) (words c.args.store.now) c.requires.sound _ c.in_err-asks.ensures)
 
 pub span_of-from-requires : goal.span_of-from-requires
-span_of-from-requires c =
-    let asked : first_no (lose_asks (decode (words c.args.store.now)) c.args.place) ≡ 0 = sym c.asks-no.ensures ∙ c.if-no-ne0.false in
-    let stands : let s = decode (words c.args.store.now) in
-    Stands c.args.settings s (s.ids c.args.place) c.args.place = lose_yes c.args.settings c.args.store.now c.requires c.args.place (asked) in
-    (c.requires.limits, (stands).inside)
-
-pub slice_bounds-set_id-end : goal.slice_bounds-set_id-end
-slice_bounds-set_id-end c =
-    let asked : first_no (lose_asks (decode (words c.args.store.now)) c.args.place) ≡ 0 = sym c.asks-no.ensures ∙ c.if-no-ne0.false in
-    let stands : let s = decode (words c.args.store.now) in
-    Stands c.args.settings s (s.ids c.args.place) c.args.place = lose_yes c.args.settings c.args.store.now c.requires c.args.place (asked) in
-    let place : LentPlace c.args.store.now c.args.settings c.args.place c.span_of-from.result.from c.span_of-from.result.to = lent_place c.requires c.span_of-from.ensures (stands).inside in
-    part_inside (place)
+span_of-from-requires c = (c.requires.limits, (lose_yes c.args.settings c.args.store.now c.requires c.args.place (sym c.in_ok-asks.ensures)).inside)
 
 pub set_id-requires : goal.set_id-requires
 set_id-requires c =
-    let asked : first_no (lose_asks (decode (words c.args.store.now)) c.args.place) ≡ 0 = sym c.asks-no.ensures ∙ c.if-no-ne0.false in
-    let stands : let s = decode (words c.args.store.now) in
-    Stands c.args.settings s (s.ids c.args.place) c.args.place = lose_yes c.args.settings c.args.store.now c.requires c.args.place (asked) in
-    let place : LentPlace c.args.store.now c.args.settings c.args.place c.span_of-from.result.from c.span_of-from.result.to = lent_place c.requires c.span_of-from.ensures (stands).inside in
-    let brick = part_brick (place) (stands).some in (brick.size, brick.filled, brick.clean)
+    let place = lends (goal.at.set_id-requires c).After-span_of-from in
+    let brick = part_brick place.0 place.1 in (brick.size, brick.filled, brick.clean)
 
 pub returns : goal.returns
 unfolding rule
 returns c =
-    let asked : first_no (lose_asks (decode (words c.args.store.now)) c.args.place) ≡ 0 = sym c.asks-no.ensures ∙ c.if-no-ne0.false in
-    let stands : let s = decode (words c.args.store.now) in
-    Stands c.args.settings s (s.ids c.args.place) c.args.place = lose_yes c.args.settings c.args.store.now c.requires c.args.place (asked) in
-    let place : LentPlace c.args.store.now c.args.settings c.args.place c.span_of-from.result.from c.span_of-from.result.to = lent_place c.requires c.span_of-from.ensures (stands).inside in
-    let changed = lose_changes (decode (words c.args.store.now)) c.args.place (part_filled (place) (stands).some) in
+    let place = lends (goal.at.returns c).After-span_of-from in
+    let changed = lose_changes (decode (words c.args.store.now)) c.args.place (part_filled place.0 place.1) in
     let done = c.set_id in
-    accepted (Event.lose c.args.place) (words c.args.store.now) _ (asked)
-    (part_changed (place) done.new.part changed done.auto.part done.ensures)
+    accepted (Event.lose c.args.place) (words c.args.store.now) _ (sym c.in_ok-asks.ensures)
+    (part_changed place.0 done.new.part changed done.auto.part done.ensures)
