@@ -2,6 +2,7 @@
 ghost use Rattle.std.specs.Prelude.{◌≡◌};
 ghost use Rattle.words.specs.Words.{words};
 ghost use Rattle.rules.specs.Event.{Event};
+ghost use Rattle.rules.specs.Refusals.{code_of};
 ghost use Rattle.rules.specs.Question.{first_no};
 ghost use Rattle.rules.specs.Views.{view_asks};
 ghost use Rattle.layout.specs.Store.{decode};
@@ -11,34 +12,33 @@ ghost use Rattle.lent.specs.Stores.{StoreOf};
 use crate::{begin, members};
 use lent::Answer;
 use rules::constants;
+use rules::refusal::Refusal;
 use rules::settings::Settings;
 
-// Its questions: the number of the first no, or 0.
-fn asks(store: &[u8], settings: Settings) -> u64
+// Its questions.
+fn asks(store: &[u8], settings: Settings) -> Result<(), Refusal>
     requires { StoreOf settings store.now }
-    ensures { result ≡ first_no (view_asks (decode (words store.now))) }
+    ensures { code_of result ≡ first_no (view_asks (decode (words store.now))) }
 {
     if constants::MAX_VIEW_OR_ORDER <= lent::store::view(store, settings) {
-        return 12;
+        return Err(Refusal::NoNumber);
     }
     if members::count_up(store, settings) <= 1 {
-        return 13;
+        return Err(Refusal::WrongState);
     }
     let stayed = members::count_stayed(store, settings);
     if 2 * stayed as u64 <= lent::store::started(store, settings) {
-        return 13;
+        Err(Refusal::WrongState)
+    } else {
+        Ok(())
     }
-    0
 }
 
 pub fn view(store: &mut [u8], settings: Settings) -> Answer
     requires { StoreOf settings store.old }
     ensures { Performs Event.view (words store.old) result (words store.new) }
 {
-    let no = asks(store, settings);
-    if no != 0 {
-        return Answer::No(no);
-    }
+    asks(store, settings)?;
     begin::begin(store, settings);
-    Answer::Yes(0)
+    Ok(0)
 }
