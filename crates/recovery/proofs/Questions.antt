@@ -14,7 +14,7 @@ use Rattle.rules.specs.State.{State}
 use Rattle.rules.specs.Derived.{up_member}
 use Rattle.rules.specs.Question.{Question, first_no, is_bucket}
 use Rattle.rules.specs.Views.{source, fetch_asks, ready_asks}
-use Rattle.rules.proofs.Questions.{all_yes, first_more, first_enough}
+use Rattle.rules.proofs.Questions.{all_yes, first_more}
 use Rattle.layout.specs.Store.{decode}
 use Rattle.lent.specs.Stores.{StoreOf}
 use Rattle.lent.proofs.Stores.{settings_are}
@@ -39,10 +39,6 @@ module _ (c : Settings) (bs : List ℕ) (v : StoreOf c bs) (g : ℕ) where
   pub bucket_yes : first_no (bucket_asks s g) ≡ 0 → UpBucket c s g
   unfolding ◌and◌
   bucket_yes e = let y = all_yes (bucket_asks s g) refl e in up_bucket y.0 y.1.0
-
-  -- a no among them is the answer, whatever comes after them
-  pub bucket_first : (n : ℕ) → n ≡ first_no (bucket_asks s g) → (n ≡ 0 → ⊥) → (rs : List Question) → n ≡ first_no (bucket_asks s g ++ rs)
-  bucket_first n e k rs = e ∙ sym (first_enough (bucket_asks s g) rs (λ z. k (e ∙ z)))
 
   -- the questions that come after them
   pub bucket_more : first_no (bucket_asks s g) ≡ 0 → (rs : List Question) → first_no (bucket_asks s g ++ rs) ≡ first_no rs

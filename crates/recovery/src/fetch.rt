@@ -2,6 +2,7 @@
 ghost use Rattle.std.specs.Prelude.{◌≡◌, ◌<◌};
 ghost use Rattle.words.specs.Words.{words};
 ghost use Rattle.rules.specs.Event.{Event};
+ghost use Rattle.rules.specs.Refusals.{code_of};
 ghost use Rattle.rules.specs.Question.{first_no};
 ghost use Rattle.rules.specs.Views.{source, fetch_asks, fetch_effect};
 ghost use Rattle.layout.specs.Store.{decode, render};
@@ -14,25 +15,24 @@ ghost use Rattle.recovery.specs.Asks.{UpBucket};
 use crate::{asks, copies, member};
 use lent::Answer;
 use records::agreed::Agreed;
+use rules::refusal::Refusal;
 use rules::settings::Settings;
 
-// Its questions: the number of the first no, or 0.
-fn asks(store: &[u8], settings: Settings, bucket: u64) -> u64
+// Its questions.
+fn asks(store: &[u8], settings: Settings, bucket: u64) -> Result<(), Refusal>
     requires { StoreOf settings store.now }
-    ensures { result ≡ first_no (fetch_asks (decode (words store.now)) bucket) }
+    ensures { code_of result ≡ first_no (fetch_asks (decode (words store.now)) bucket) }
 {
-    let no = asks::bucket_asks(store, settings, bucket);
-    if no != 0 {
-        return no;
-    }
+    asks::bucket_asks(store, settings, bucket)?;
     let agreed = lent::bucket::agreed(store, settings, bucket as usize);
     if agreed.ready {
-        return 13;
+        return Err(Refusal::WrongState);
     }
     if member::find_source(store, settings, bucket as usize) == 0 {
-        return 13;
+        Err(Refusal::WrongState)
+    } else {
+        Ok(())
     }
-    0
 }
 
 // A bucket's record, once fetched.
@@ -62,10 +62,7 @@ pub fn fetch(store: &mut [u8], settings: Settings, bucket: u64) -> Answer
     requires { StoreOf settings store.old }
     ensures { Performs (Event.fetch bucket) (words store.old) result (words store.new) }
 {
-    let no = asks(store, settings, bucket);
-    if no != 0 {
-        return Answer::No(no);
-    }
+    asks(store, settings, bucket)?;
     replace(store, settings, bucket as usize);
-    Answer::Yes(0)
+    Ok(0)
 }

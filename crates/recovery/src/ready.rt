@@ -3,6 +3,7 @@ ghost use Rattle.std.specs.Prelude.{◌≡◌, true};
 ghost use Rattle.words.specs.Words.{words};
 ghost use Rattle.rules.specs.Event.{Event};
 ghost use Rattle.rules.specs.Derived.{up_member};
+ghost use Rattle.rules.specs.Refusals.{code_of};
 ghost use Rattle.rules.specs.Question.{first_no};
 ghost use Rattle.rules.specs.Views.{ready_asks, ready_effect};
 ghost use Rattle.layout.specs.Store.{decode, render};
@@ -16,35 +17,32 @@ use crate::{asks, copies, member, others, waiting};
 use layout::sizes;
 use lent::{Answer, brick};
 use records::agreed::Agreed;
+use rules::refusal::Refusal;
 use rules::settings::Settings;
 
-// Is the bucket fetched in this view, and not yet ready? The number of the first no, or 0.
-fn fetched_asks(agreed: Agreed) -> u64
-    ensures { result ≡ first_no (fetched_asks (agreed_of agreed)) }
+// Is the bucket fetched in this view, and not yet ready?
+fn fetched_asks(agreed: Agreed) -> Result<(), Refusal>
+    ensures { code_of result ≡ first_no (fetched_asks (agreed_of agreed)) }
 {
-    if agreed.fetched {
-        if agreed.ready {
-            return 13;
-        }
-        return 0;
+    if agreed.fetched && !agreed.ready {
+        Ok(())
+    } else {
+        Err(Refusal::WrongState)
     }
-    13
 }
 
-// Its questions: the number of the first no, or 0.
-fn asks(store: &[u8], settings: Settings, bucket: u64) -> u64
+// Its questions.
+fn asks(store: &[u8], settings: Settings, bucket: u64) -> Result<(), Refusal>
     requires { StoreOf settings store.now }
-    ensures { result ≡ first_no (ready_asks (decode (words store.now)) bucket) }
+    ensures { code_of result ≡ first_no (ready_asks (decode (words store.now)) bucket) }
 {
-    let no = asks::bucket_asks(store, settings, bucket);
-    if no != 0 {
-        return no;
-    }
+    asks::bucket_asks(store, settings, bucket)?;
     let agreed = lent::bucket::agreed(store, settings, bucket as usize);
     if brick::up_member(store, settings, agreed.backup) {
-        return fetched_asks(agreed);
+        fetched_asks(agreed)
+    } else {
+        Err(Refusal::NoMember)
     }
-    6
 }
 
 // A bucket's record, once ready: its pair is the last ready pair.
@@ -86,10 +84,7 @@ pub fn ready(store: &mut [u8], settings: Settings, bucket: u64) -> Answer
     requires { StoreOf settings store.old }
     ensures { Performs (Event.ready bucket) (words store.old) result (words store.new) }
 {
-    let no = asks(store, settings, bucket);
-    if no != 0 {
-        return Answer::No(no);
-    }
+    asks(store, settings, bucket)?;
     make_ready(store, settings, bucket as usize);
-    Answer::Yes(0)
+    Ok(0)
 }

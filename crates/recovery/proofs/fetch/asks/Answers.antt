@@ -1,66 +1,52 @@
 use mathlib.Core.Path.{◌≡◌, sym, ap, ◌∙◌}
 use mathlib.Core.Bool.{not}
-use native.Mathlib.Omega.{arith}
-use Rattle.words.specs.Words.{words}
-use Rattle.rules.proofs.Questions.{first_yes, first_stop, none_asked}
-use Rattle.layout.specs.Contents.{Agreed}
-use Rattle.rules.specs.State.{State}
-use Rattle.layout.specs.Store.{decode}
-use Rattle.recovery.specs.Asks.{bucket_asks}
-use Rattle.recovery.proofs.Questions.{bucket_yes, bucket_first, bucket_more}
-use borrow.Author.Tests.{lt-ltb, le-ltb}
-use lib.Dec.{ltb}
 use mathlib.Core.List.{[], ◌∷◌}
+use native.Mathlib.Omega.{arith}
+use lib.Dec.{ltb}
+use borrow.Author.Tests.{lt-ltb, le-ltb}
+use Rattle.std.proofs.lemmas.Result.{err_from_is_err_and}
+use Rattle.words.specs.Words.{words}
 use Rattle.rules.specs.Question.{◌asks◌, first_no}
 use Rattle.rules.specs.Views.{source, fetch_asks}
+use Rattle.rules.proofs.Questions.{first_yes, first_stop, none_asked}
+use Rattle.rules.proofs.Refusals.{refuses_there}
+use Rattle.layout.specs.Contents.{Agreed}
+use Rattle.layout.specs.Store.{decode}
+use Rattle.recovery.specs.Asks.{bucket_asks}
+use Rattle.recovery.proofs.Questions.{bucket_yes, bucket_more}
 use Rattle.recovery.proofs.fetch.asks.Goals as goal
+use Rattle.recovery.proofs.fetch.asks.Goals.{After-agreed-agreed}
 
-abbrev state : goal.Else-no-ne0 → State
-state c = decode (words c.args.store.now)
+-- the questions after those of the bucket
+later : (c : After-agreed-agreed) → let s = decode (words c.args.store.now) in first_no (fetch_asks s c.args.bucket)
+    ≡ first_no ((13 asks not c.agreed-agreed.result.ready) ∷ (13 asks ltb 0 (source s c.args.bucket)) ∷ [])
+later c =
+    bucket_more c.args.settings c.args.store.now c.requires c.args.bucket (sym c.in_ok-bucket_asks.ensures) _
+    ∙ ap (λ (k : Agreed). first_no ((13 asks not k.ready) ∷ (13 asks ltb 0 (source (decode (words c.args.store.now)) c.args.bucket)) ∷ []))
+    (sym c.agreed-agreed.ensures)
 
-pub returns-then-no-ne0 : goal.returns-then-no-ne0
-returns-then-no-ne0 c =
-    bucket_first c.args.settings c.args.store.now c.requires c.args.bucket _ c.bucket_asks-no.ensures c.if-no-ne0.true _
+pub returns-in_err-bucket_asks : goal.returns-in_err-bucket_asks
+returns-in_err-bucket_asks c =
+    let p = err_from_is_err_and c.from_residual.result c.from_residual.ensures.1 in
+    rw (p.1, p.2) (refuses_there (bucket_asks (decode (words c.args.store.now)) c.args.bucket) _ _ c.in_err-bucket_asks.ensures)
 
 pub agreed-agreed-requires : goal.agreed-agreed-requires
 agreed-agreed-requires c =
-    let none : first_no (bucket_asks (state c) c.args.bucket) ≡ 0 = sym c.bucket_asks-no.ensures ∙ c.if-no-ne0.false in
-    (c.requires, (bucket_yes c.args.settings c.args.store.now c.requires c.args.bucket (none)).inside)
+    (c.requires, (bucket_yes c.args.settings c.args.store.now c.requires c.args.bucket (sym c.in_ok-bucket_asks.ensures)).inside)
 
 pub returns-then-agreed : goal.returns-then-agreed
-returns-then-agreed c =
-    let state : State = decode (words c.args.store.now) in
-    let none : first_no (bucket_asks (state) c.args.bucket) ≡ 0 = sym c.bucket_asks-no.ensures ∙ c.if-no-ne0.false in
-    let later : first_no (fetch_asks (state) c.args.bucket)
-    ≡ first_no ((13 asks not ((state).bucket c.args.bucket).ready) ∷ (13 asks ltb 0 (source (state) c.args.bucket)) ∷ []) = bucket_more c.args.settings c.args.store.now c.requires c.args.bucket (none) _ in
-    sym (later ∙ first_stop 13 _ (sym (ap (λ (k : Agreed). not k.ready) c.agreed-agreed.ensures) ∙ ap not c.if-agreed.true))
+returns-then-agreed c = sym (later (goal.at.returns-then-agreed c).After-agreed-agreed ∙ first_stop 13 _ (ap not c.if-agreed.true))
 
 pub find_source-requires : goal.find_source-requires
 find_source-requires c =
-    let state : State = decode (words c.args.store.now) in
-    let none : first_no (bucket_asks (state) c.args.bucket) ≡ 0 = sym c.bucket_asks-no.ensures ∙ c.if-no-ne0.false in
-    (c.requires, (bucket_yes c.args.settings c.args.store.now c.requires c.args.bucket (none)).inside)
+    (c.requires, (bucket_yes c.args.settings c.args.store.now c.requires c.args.bucket (sym c.in_ok-bucket_asks.ensures)).inside)
 
 pub returns-then-find_source-eq0 : goal.returns-then-find_source-eq0
 returns-then-find_source-eq0 c =
-    let state : State = decode (words c.args.store.now) in
-    let none : first_no (bucket_asks (state) c.args.bucket) ≡ 0 = sym c.bucket_asks-no.ensures ∙ c.if-no-ne0.false in
-    let later : first_no (fetch_asks (state) c.args.bucket)
-    ≡ first_no ((13 asks not ((state).bucket c.args.bucket).ready) ∷ (13 asks ltb 0 (source (state) c.args.bucket)) ∷ []) = bucket_more c.args.settings c.args.store.now c.requires c.args.bucket (none) _ in
-    let last : first_no (fetch_asks (state) c.args.bucket)
-    ≡ first_no ((13 asks ltb 0 (source (state) c.args.bucket)) ∷ []) = later
-    ∙ first_yes 13 _ (sym (ap (λ (k : Agreed). not k.ready) c.agreed-agreed.ensures) ∙ ap not c.if-agreed.false) in
-    sym (last
-    ∙ first_stop 13 _ (le-ltb 0 (source (state) c.args.bucket) (omega (arith, c.find_source.ensures, c.if-find_source-eq0.true))))
+    let few = le-ltb 0 (source (decode (words c.args.store.now)) c.args.bucket) (omega (arith, c.find_source.ensures, c.if-find_source-eq0.true)) in
+    sym (later (goal.at.returns-then-find_source-eq0 c).After-agreed-agreed ∙ first_yes 13 _ (ap not c.if-agreed.false) ∙ first_stop 13 _ few)
 
-pub returns : goal.returns
-returns c =
-    let state : State = decode (words c.args.store.now) in
-    let none : first_no (bucket_asks (state) c.args.bucket) ≡ 0 = sym c.bucket_asks-no.ensures ∙ c.if-no-ne0.false in
-    let later : first_no (fetch_asks (state) c.args.bucket)
-    ≡ first_no ((13 asks not ((state).bucket c.args.bucket).ready) ∷ (13 asks ltb 0 (source (state) c.args.bucket)) ∷ []) = bucket_more c.args.settings c.args.store.now c.requires c.args.bucket (none) _ in
-    let last : first_no (fetch_asks (state) c.args.bucket)
-    ≡ first_no ((13 asks ltb 0 (source (state) c.args.bucket)) ∷ []) = later
-    ∙ first_yes 13 _ (sym (ap (λ (k : Agreed). not k.ready) c.agreed-agreed.ensures) ∙ ap not c.if-agreed.false) in
-    sym (last
-    ∙ first_yes 13 _ (lt-ltb 0 (source (state) c.args.bucket) (omega (arith, c.find_source.ensures, c.if-find_source-eq0.false))) ∙ none_asked)
+pub returns-else-find_source-eq0 : goal.returns-else-find_source-eq0
+returns-else-find_source-eq0 c =
+    let some = lt-ltb 0 (source (decode (words c.args.store.now)) c.args.bucket) (omega (arith, c.find_source.ensures, c.if-find_source-eq0.false)) in
+    sym (later (goal.at.returns-else-find_source-eq0 c).After-agreed-agreed ∙ first_yes 13 _ (ap not c.if-agreed.false) ∙ first_yes 13 _ some ∙ none_asked)

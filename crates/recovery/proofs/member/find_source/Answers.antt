@@ -1,32 +1,34 @@
 use mathlib.Core.Path.{◌≡◌, sym, ap, ◌∙◌}
+use mathlib.Core.Bool.{false}
 use Rattle.words.specs.Words.{words}
 use Rattle.layout.specs.Contents.{Agreed}
-use Rattle.rules.specs.State.{State}
 use Rattle.layout.specs.Store.{decode}
 use Rattle.rules.specs.Derived.{up_member}
 use Rattle.recovery.proofs.Questions.{source_first, source_second, source_none}
 use Rattle.recovery.proofs.member.find_source.Goals as goal
+use Rattle.recovery.proofs.member.find_source.Goals.{Else-up_member}
+
+-- the last ready primary is no up member
+not_first : (c : Else-up_member) → let s = decode (words c.args.store.now) in up_member s (s.bucket c.args.bucket).last_primary ≡ false
+not_first c =
+    ap (λ (k : Agreed). up_member (decode (words c.args.store.now)) k.last_primary) (sym c.agreed-agreed.ensures) ∙ sym c.up_member.ensures
+    ∙ c.if-up_member.false
 
 pub returns-then-up_member : goal.returns-then-up_member
 returns-then-up_member c =
-    let state : State = decode (words c.args.store.now) in
-    let first : c.up_member.result ≡ up_member (state) ((state).bucket c.args.bucket).last_primary = c.up_member.ensures ∙ ap (λ (k : Agreed). up_member (state) k.last_primary) c.agreed-agreed.ensures in
-    ap (λ (k : Agreed). k.last_primary) c.agreed-agreed.ensures
-    ∙ source_first (state) c.args.bucket (sym (first) ∙ c.if-up_member.true)
+    let s = decode (words c.args.store.now) in
+    let first = ap (λ (k : Agreed). up_member s k.last_primary) (sym c.agreed-agreed.ensures) ∙ sym c.up_member.ensures ∙ c.if-up_member.true in
+    ap (λ (k : Agreed). k.last_primary) c.agreed-agreed.ensures ∙ source_first s c.args.bucket first
 
 pub returns-then-up_member-2 : goal.returns-then-up_member-2
 returns-then-up_member-2 c =
-    let state : State = decode (words c.args.store.now) in
-    let first : c.up_member.result ≡ up_member (state) ((state).bucket c.args.bucket).last_primary = c.up_member.ensures ∙ ap (λ (k : Agreed). up_member (state) k.last_primary) c.agreed-agreed.ensures in
-    let second : c.up_member-2.result
-    ≡ up_member (state) ((state).bucket c.args.bucket).last_backup = c.up_member-2.ensures ∙ ap (λ (k : Agreed). up_member (state) k.last_backup) c.agreed-agreed.ensures in
+    let s = decode (words c.args.store.now) in
+    let second = ap (λ (k : Agreed). up_member s k.last_backup) (sym c.agreed-agreed.ensures) ∙ sym c.up_member-2.ensures ∙ c.if-up_member-2.true in
     ap (λ (k : Agreed). k.last_backup) c.agreed-agreed.ensures
-    ∙ source_second (state) c.args.bucket (sym (first) ∙ c.if-up_member.false) (sym (second) ∙ c.if-up_member-2.true)
+    ∙ source_second s c.args.bucket (not_first (goal.at.returns-then-up_member-2 c).Else-up_member) second
 
 pub returns : goal.returns
 returns c =
-    let state : State = decode (words c.args.store.now) in
-    let first : c.up_member.result ≡ up_member (state) ((state).bucket c.args.bucket).last_primary = c.up_member.ensures ∙ ap (λ (k : Agreed). up_member (state) k.last_primary) c.agreed-agreed.ensures in
-    let second : c.up_member-2.result
-    ≡ up_member (state) ((state).bucket c.args.bucket).last_backup = c.up_member-2.ensures ∙ ap (λ (k : Agreed). up_member (state) k.last_backup) c.agreed-agreed.ensures in
-    source_none (state) c.args.bucket (sym (first) ∙ c.if-up_member.false) (sym (second) ∙ c.if-up_member-2.false)
+    let s = decode (words c.args.store.now) in
+    let second = ap (λ (k : Agreed). up_member s k.last_backup) (sym c.agreed-agreed.ensures) ∙ sym c.up_member-2.ensures ∙ c.if-up_member-2.false in
+    source_none s c.args.bucket (not_first (goal.at.returns c).Else-up_member) second

@@ -1,13 +1,14 @@
-use mathlib.Core.Path.{sym, ap, ◌∙◌}
-use mathlib.Core.Bool.{not}
+use mathlib.Core.Path.{sym, ◌∙◌}
 use Rattle.rules.proofs.Questions.{first_yes, first_stop, none_asked}
 use Rattle.recovery.proofs.ready.fetched_asks.Goals as goal
+use Rattle.recovery.proofs.ready.fetched_asks.Goals.{else-agreed-via-then-agreed+else-not-agreed, else-agreed-via-else-agreed}
 
-pub returns-then-agreed-2 : goal.returns-then-agreed-2
-returns-then-agreed-2 c = sym (first_yes 13 _ c.if-agreed.true ∙ first_stop 13 _ (ap not c.if-agreed-2.true))
+pub returns-then-not-agreed : goal.returns-then-not-agreed
+returns-then-not-agreed c = sym (first_yes 13 _ c.if-agreed.true ∙ first_yes 13 _ c.if-not-agreed.true ∙ none_asked)
 
-pub returns-then-agreed : goal.returns-then-agreed
-returns-then-agreed c = sym (first_yes 13 _ c.if-agreed.true ∙ first_yes 13 _ (ap not c.if-agreed-2.false) ∙ none_asked)
-
-pub returns : goal.returns
-returns c = sym (first_stop 13 _ c.if-agreed.false)
+pub returns-else-agreed : goal.returns-else-agreed
+returns-else-agreed c =
+    elim c.else-agreed.branch [
+      | else-agreed-via-then-agreed+else-not-agreed w ↦ sym (first_yes 13 _ w.if-agreed.true ∙ first_stop 13 _ w.if-not-agreed.false)
+      | else-agreed-via-else-agreed w ↦ sym (first_stop 13 _ w.if-agreed.false)
+    ]

@@ -14,23 +14,9 @@ use Rattle.words.proofs.Laws.{length_words, lent_run}
 use Rattle.codec.specs.Codec.{change}
 use Rattle.layout.specs.Layout.{buffer_codec}
 use Rattle.layout.proofs.Lent.{lent}
-use Rattle.layout.proofs.Bounds.{store_small}
 use Rattle.buffers.specs.Steps.{drained_words}
 use Rattle.recovery.proofs.Moved.{still_few}
 use Rattle.recovery.proofs.waiting.drain.Goals as goal
-
-pub overflow_add-buffer : goal.overflow_add-buffer
-overflow_add-buffer c =
-    omega (arith, c.place_at-buffer.ensures.1, store_small c.args.settings c.requires.limits)
-
-pub drain-requires : goal.drain-requires
-drain-requires c =
-    rw (c.place_at-buffer.ensures.0, c.memory_at-copy.ensures.0) (record {
-      apart = omega arith;
-      room = omega (arith, c.requires.size, c.memory_at-copy.ensures.0, c.memory_at-copy.ensures.1);
-      few = c.requires.few;
-      sorted = c.requires.sorted;
-    })
 
 pub drop_bucket-requires : goal.drop_bucket-requires
 drop_bucket-requires c =
