@@ -1,4 +1,6 @@
 -- Is a chunk saved at two members?
+use Rattle.std.proofs.Common.{Option, Some, None}
+use Rattle.std.specs.Option.{is_some}
 use mathlib.Core.Path.{◌≡◌, sym, ap, ◌∙◌}
 use mathlib.Core.List.{List, Memᴰ}
 use mathlib.Core.Bool.{true, false}
@@ -14,7 +16,7 @@ use Rattle.rules.proofs.Derived.{in_ids, ids_in, in_saved_at, saved_elsewhere}
 use Rattle.layout.specs.Store.{decode}
 use Rattle.lent.specs.Stores.{StoreOf}
 use Rattle.lent.proofs.Stores.{settings_are, facts}
-use Rattle.holders.specs.Members.{member_saved, NextSavedAt}
+use Rattle.holders.specs.Members.{member_saved, NextSavedAt, NextSaved}
 
 module _ (c : Settings) (bs : List ℕ) (v : StoreOf c bs) where
   -- a place that has a member is not empty
@@ -55,9 +57,13 @@ module _ (c : Settings) (bs : List ℕ) (v : StoreOf c bs) where
 
     -- ---- what two searches find, the second from some place on
     module _ (p from : ℕ) (f : NextSavedAt c (decode (words bs)) k 0 p) where
-      pub found_twice : (q : ℕ) → NextSavedAt c (decode (words bs)) k from q → p < from → saved_twice (decode (words bs)) k ≡ true
+      found_twice : (q : ℕ) → NextSavedAt c (decode (words bs)) k from q → p < from → saved_twice (decode (words bs)) k ≡ true
       found_twice q g l = at_two_places p q (omega (arith, g.low)) f.saved g.saved
 
-      pub found_once : ((q : ℕ) → q < c.places → from ≤ q → member_saved (decode (words bs)) k q ≡ false) → from ≤ suc p
+      found_once : ((q : ℕ) → q < c.places → from ≤ q → member_saved (decode (words bs)) k q ≡ false) → from ≤ suc p
           → saved_twice (decode (words bs)) k ≡ false
       found_once none l = nowhere_else p (λ q n apart. by_lt q p (λ _ less. f.before q less (omega arith)) (λ _ least. none q n (omega (arith, least, apart))))
+
+      pub second_found : p < from → from ≤ suc p → (r : Option ℕ) → NextSaved c (decode (words bs)) k from r → saved_twice (decode (words bs)) k ≡ is_some r
+      second_found l m None none = found_once none m
+      second_found l m (Some q) g = found_twice q g l

@@ -9,7 +9,6 @@ use Rattle.rules.specs.Derived.{members}
 use Rattle.lent.specs.Places.{Stands}
 use Rattle.chunk_log.specs.Answers.{FoundAt}
 use Rattle.holders.specs.declared.Location.{Location}
-use Rattle.holders.specs.declared.Location.TheVariants as lies
 
 -- ids are below this
 abbrev pub ids : ℕ
@@ -46,9 +45,9 @@ pub record LiesAt (settings : Settings) (s : State) (id key place row : ℕ) : T
   pub stands : Stands settings s id place
   pub found : FoundAt (s.bricks.log id) key row
 
-abbrev pub LiesWith : Settings → State → ℕ → ℕ → Location → Type 0
-LiesWith settings s id key (lies.At place row) = LiesAt settings s id key place row
-LiesWith settings s id key (lies.Nowhere) = id ≡ 0
+abbrev pub LiesWith : Settings → State → ℕ → ℕ → Option Location → Type 0
+LiesWith settings s id key (Some at) = LiesAt settings s id key at.place at.row
+LiesWith settings s id key (None) = id ≡ 0
 
 -- the place has a member that has the chunk saved
 abbrev pub member_saved : State → ℕ → ℕ → Bool

@@ -41,28 +41,23 @@ pub fn next_member(store: &[u8], settings: Settings, from: u64, to: u64) -> Opti
     ensures { NextIn settings (decode (words store.now)) from to result }
 {
     let mut least = to;
-    let mut at = settings.places;
-    let mut place = 0;
-    while place < settings.places {
+    let mut first = None;
+    for place in 0..settings.places {
         if member_within(store, settings, from, least, place) {
             least = place::id(store, settings, place);
-            at = place;
+            first = Some(place);
         }
-        place += 1;
     }
-    if at < settings.places {
-        return Some(at);
-    }
-    None
+    first
 }
 
 // ---- chunks
 
 // Where a chunk lies: the place of a brick that holds it, and the row of its log.
 #[derive(Clone, Copy)]
-pub enum Location {
-    At(usize, usize),
-    Nowhere,
+pub struct Location {
+    pub place: usize,
+    pub row: usize,
 }
 
 // The chunk in the log of the brick at the place.
@@ -115,34 +110,38 @@ pub fn chunk<'a>(store: &'a [u8], settings: Settings, place: usize, row: usize) 
 }
 
 // Where the chunk lies with the first member between two ids that holds it.
-fn first_holder(store: &[u8], settings: Settings, key: ChunkKey, from: u64, to: u64) -> Location
+fn first_holder(
+    store: &[u8],
+    settings: Settings,
+    key: ChunkKey,
+    from: u64,
+    to: u64,
+) -> Option<Location>
     requires { StoreOf settings store.now }
     ensures { LiesWith settings (decode (words store.now))
         (first_holder (decode (words store.now)).bricks key.0 (between (decode (words store.now)) from to)) key.0 result }
 {
     let mut low = from;
+    // stays: a while, for it goes from member to member, by steps of any size.
     while low < to {
-        let Some(place) = next_member(store, settings, low, to) else {
-            return Location::Nowhere;
-        };
+        let place = next_member(store, settings, low, to)?;
         if let Some(row) = find_at(store, settings, place, key) {
-            return Location::At(place, row);
+            return Some(Location { place, row });
         }
         low = place::id(store, settings, place) + 1;
     }
-    Location::Nowhere
+    None
 }
 
 // Where the chunk is found: sought from the home id upward, circularly, among members.
-pub fn holder(store: &[u8], settings: Settings, key: ChunkKey) -> Location
+pub fn holder(store: &[u8], settings: Settings, key: ChunkKey) -> Option<Location>
     requires { StoreOf settings store.now }
     ensures { LiesWith settings (decode (words store.now)) (holder (decode (words store.now)) key.0) key.0 result }
 {
     let home = key.home();
-    match first_holder(store, settings, key, home, IDS) {
-        Location::At(place, row) => Location::At(place, row),
-        Location::Nowhere => first_holder(store, settings, key, 0, home),
-    }
+    first_holder(store, settings, key, home, IDS).or_else(|| first_holder(
+        store, settings, key, 0, home,
+    ))
 }
 
 // Is there a member at the place that has the chunk saved?
@@ -150,10 +149,7 @@ fn member_saved(store: &[u8], settings: Settings, place: usize, key: ChunkKey) -
     requires { StoreOf settings store.now × (place < settings.places) }
     ensures { result ≡ member_saved (decode (words store.now)) key.0 place }
 {
-    if place::is_member(store, settings, place) {
-        return saved_at(store, settings, place, key);
-    }
-    false
+    place::is_member(store, settings, place) && saved_at(store, settings, place, key)
 }
 
 // The first place from one on whose member has the chunk saved.
@@ -161,14 +157,7 @@ fn next_saved(store: &[u8], settings: Settings, key: ChunkKey, from: usize) -> O
     requires { StoreOf settings store.now }
     ensures { NextSaved settings (decode (words store.now)) key.0 from result }
 {
-    let mut place = from;
-    while place < settings.places {
-        if member_saved(store, settings, place, key) {
-            return Some(place);
-        }
-        place += 1;
-    }
-    None
+    (from..settings.places).find(|&place| member_saved(store, settings, place, key))
 }
 
 // Is the chunk saved at two members?
@@ -176,13 +165,10 @@ pub fn saved_twice(store: &[u8], settings: Settings, key: ChunkKey) -> bool
     requires { StoreOf settings store.now }
     ensures { result ≡ saved_twice (decode (words store.now)) key.0 }
 {
-    match next_saved(store, settings, key, 0) {
-        Some(first) => match next_saved(store, settings, key, first + 1) {
-            Some(_) => true,
-            None => false,
-        },
-        None => false,
-    }
+    let Some(first) = next_saved(store, settings, key, 0) else {
+        return false;
+    };
+    next_saved(store, settings, key, first + 1).is_some()
 }
 
 // ---- the members from the home id upward, circularly
@@ -193,10 +179,7 @@ pub fn target(store: &[u8], settings: Settings, key: ChunkKey) -> Option<usize>
     ensures { Chosen settings (decode (words store.now)) (target (decode (words store.now)) key.0) result }
 {
     let home = key.home();
-    match next_member(store, settings, home + 1, IDS) {
-        Some(place) => Some(place),
-        None => next_member(store, settings, 0, home),
-    }
+    next_member(store, settings, home + 1, IDS).or_else(|| next_member(store, settings, 0, home))
 }
 
 // Is a brick the first of the members between two ids?
@@ -204,10 +187,8 @@ fn is_first(store: &[u8], settings: Settings, id: u64, from: u64, to: u64) -> bo
     requires { StoreOf settings store.now }
     ensures { result ≡ begins_with id (between (decode (words store.now)) from to) }
 {
-    match next_member(store, settings, from, to) {
-        Some(place) => place::id(store, settings, place) == id,
-        None => false,
-    }
+    next_member(store, settings, from, to).is_some_and(|place| place::id(store, settings, place)
+        == id)
 }
 
 // Is it the first from an id on, or where there is none, from the lowest id to the home id?
@@ -226,16 +207,11 @@ fn of_two(store: &[u8], settings: Settings, id: u64, from: u64, to: u64) -> bool
     requires { StoreOf settings store.now }
     ensures { result ≡ of_first_two id (between (decode (words store.now)) from to) }
 {
-    match next_member(store, settings, from, to) {
-        Some(place) => {
-            let first = place::id(store, settings, place);
-            if first == id {
-                return true;
-            }
-            is_first(store, settings, id, first + 1, to)
-        }
-        None => false,
-    }
+    let Some(place) = next_member(store, settings, from, to) else {
+        return false;
+    };
+    let first = place::id(store, settings, place);
+    first == id || is_first(store, settings, id, first + 1, to)
 }
 
 // Is a brick one of the first two members from the key's home id upward, circularly?
@@ -247,10 +223,7 @@ pub fn of_first_two(store: &[u8], settings: Settings, id: u64, key: ChunkKey) ->
     match next_member(store, settings, home, IDS) {
         Some(place) => {
             let first = place::id(store, settings, place);
-            if first == id {
-                return true;
-            }
-            is_first_round(store, settings, id, first + 1, home)
+            first == id || is_first_round(store, settings, id, first + 1, home)
         }
         None => of_two(store, settings, id, 0, home),
     }

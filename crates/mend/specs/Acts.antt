@@ -18,4 +18,4 @@ pub record Lacking (c : Settings) (s : State) (id key place row : ℕ) : Type 0 
 abbrev pub ActOf : Settings → State → ℕ → ℕ → Act → Type 0
 ActOf c s id key (Nothing) = wants s id key ≡ false
 ActOf c s id key (Save) = (wants s id key ≡ true) × (held (s.bricks.log id) key ≡ true)
-ActOf c s id key (Bring place row) = Lacking c s id key place row
+ActOf c s id key (Bring at) = Lacking c s id key at.place at.row

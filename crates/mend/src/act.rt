@@ -15,8 +15,8 @@ pub enum Act {
     Nothing,
     // its own chunk becomes saved
     Save,
-    // the chunk comes from this place, where it lies in this row
-    Bring(usize, usize),
+    // the chunk comes from where it lies
+    Bring(Location),
 }
 
 pub fn for_key(store: &[u8], settings: Settings, place: usize, key: ChunkKey) -> Act
@@ -30,8 +30,5 @@ pub fn for_key(store: &[u8], settings: Settings, place: usize, key: ChunkKey) ->
     if holders::holds_at(store, settings, place, key) {
         return Act::Save;
     }
-    match holders::holder(store, settings, key) {
-        Location::At(from, row) => Act::Bring(from, row),
-        Location::Nowhere => Act::Nothing,
-    }
+    holders::holder(store, settings, key).map_or(Act::Nothing, Act::Bring)
 }

@@ -10,6 +10,7 @@ ghost use Rattle.mend.specs.Acts.{Lacking};
 
 use crate::act::Act;
 use crate::{act, chunk};
+use holders::Location;
 use layout::sizes;
 use lent::place;
 use lent::place::Span;
@@ -28,22 +29,24 @@ fn save_at(store: &mut [u8], settings: Settings, place: usize, key: ChunkKey)
     chunk::save_chunk(&mut store[from..to], settings, key);
 }
 
-// The chunk that it lacks comes from the place and row where it lies.
+// The chunk that it lacks comes from where it lies.
 fn bring(
     store: &mut [u8],
     settings: Settings,
     place: usize,
     key: ChunkKey,
-    source: usize,
-    row: usize,
+    source: Location,
     area: &mut [u8],
 )
     requires mends { Mends settings store.old place key.0 × (length area.old ≡ settings.size) }
-    requires lacking { Lacking settings (decode (words store.old)) ((decode (words store.old)).ids place) key.0 source row }
+    requires lacking { Lacking settings (decode (words store.old)) ((decode (words store.old)).ids place) key.0 source.place source.row }
     ensures { words store.new
         ≡ with_log_at settings place (key_mended place key.0 (words store.old)) (words store.old) }
 {
-    moves::copy_bytes(area, holders::chunk(store, settings, source, row));
+    moves::copy_bytes(
+        area,
+        holders::chunk(store, settings, source.place, source.row),
+    );
     let Span { from, to } = place::span_of(settings, place);
     chunk::append_saved(&mut store[from..to], settings, key, area);
 }
@@ -57,7 +60,7 @@ fn mend_key(store: &mut [u8], settings: Settings, place: usize, key: ChunkKey, a
     match act::for_key(store, settings, place, key) {
         Act::Nothing => {}
         Act::Save => save_at(store, settings, place, key),
-        Act::Bring(from, row) => bring(store, settings, place, key, from, row, area),
+        Act::Bring(from) => bring(store, settings, place, key, from, area),
     }
 }
 

@@ -95,7 +95,7 @@ fn count_key(
             inside: 0,
             beyond: 0,
         },
-        Act::Bring(from, row) => count_row(flags, base, row, from),
+        Act::Bring(from) => count_row(flags, base, from.row, from.place),
     }
 }
 

@@ -11,7 +11,6 @@ ghost use Rattle.layout.specs.Store.{decode};
 ghost use Rattle.lent.specs.Stores.{StoreOf};
 ghost use Rattle.reads.specs.Get.{LooksUp, Gets, Fills, GetsInto};
 
-use holders::Location;
 use layout::sizes;
 use lent::Answer;
 use mappings::{asks, block};
@@ -43,8 +42,8 @@ fn look_up(store: &[u8], settings: Settings, proxy: u64, block: u64) -> Lookup
         return Lookup::Unmapped;
     }
     match holders::holder(store, settings, key) {
-        Location::At(place, row) => Lookup::Chunk(key, place, row),
-        Location::Nowhere => Lookup::Refused(11),
+        Some(at) => Lookup::Chunk(key, at.place, at.row),
+        None => Lookup::Refused(11),
     }
 }
 

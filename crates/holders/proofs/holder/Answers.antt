@@ -1,25 +1,18 @@
-use mathlib.Core.Path.{◌≡◌, subst}
-use Prim.Native.Nat.{ℕ}
+use Rattle.std.proofs.Common.{ℕ, sym, subst, rules, tests}
 use Rattle.words.specs.Words.{words}
-use Rattle.rules.specs.Derived.{first_holder}
+use Rattle.rules.specs.Derived.{holder, first_holder}
 use Rattle.layout.specs.Store.{decode}
-use Rattle.holders.specs.Members.{ids, between, LiesAt, LiesWith}
+use Rattle.holders.specs.Members.{ids, between, LiesWith}
 use Rattle.holders.proofs.Sought.{holder_above, holder_below}
+use Rattle.holders.proofs.Cases.{by_location}
 use Rattle.holders.proofs.holder.Goals as goal
 
-pub returns-in-At : goal.returns-in-At
-returns-in-At c =
-    let state = decode (words c.args.store.now) in
+pub returns : goal.returns
+returns c =
+    let s = decode (words c.args.store.now) in
+    let k = c.args.key.0 in
     let home = c.home-home.result in
-    let h : LiesAt c.args.settings state (first_holder state.bricks c.args.key.0 (between state home ids)) c.args.key.0 c.in-At.place c.in-At.row =
-    rw c.in-At.is at c.first_holder.ensures in
-    holder_above _ c.args.store.now c.requires c.args.key.0 home c.home-home.ensures _ _ h
-
-pub returns-in-Nowhere : goal.returns-in-Nowhere
-returns-in-Nowhere c =
-    let state = decode (words c.args.store.now) in
-    let home = c.home-home.result in
-    let z : first_holder state.bricks c.args.key.0 (between state home ids) ≡ 0 =
-    rw c.in-Nowhere.is at c.first_holder.ensures in
-    subst (λ (i : ℕ). LiesWith c.args.settings state i c.args.key.0 c.first_holder-in-Nowhere.result)
-    (holder_below _ c.args.store.now c.requires c.args.key.0 home c.home-home.ensures z) c.first_holder-in-Nowhere.ensures
+    by_location c.args.settings s (first_holder s.bricks k (between s home ids)) k c.first_holder.result _ _ c.first_holder.ensures c.or_else.ensures
+    (λ at h e. subst (LiesWith c.args.settings s (holder s k) k) (sym e) (holder_above _ c.args.store.now c.requires k home c.home-home.ensures _ _ h))
+    (λ z q. let n : LiesWith c.args.settings s (first_holder s.bricks k (between s 0 home)) k c.or_else.result = search (rules, tests) in
+    subst (λ (i : ℕ). LiesWith c.args.settings s i k c.or_else.result) (holder_below _ c.args.store.now c.requires k home c.home-home.ensures z) n)

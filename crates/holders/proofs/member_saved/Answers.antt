@@ -11,5 +11,5 @@ pub returns-then-is_member : goal.returns-then-is_member
 returns-then-is_member c =
     c.saved_at.ensures ∙ sym (yes_first _ _ (sym c.is_member.ensures ∙ c.if-is_member.true))
 
-pub returns : goal.returns
-returns c = sym (no_first _ _ (sym c.is_member.ensures ∙ c.if-is_member.false))
+pub returns-else-is_member : goal.returns-else-is_member
+returns-else-is_member c = c.if-is_member.false ∙ sym (no_first _ _ (sym c.is_member.ensures ∙ c.if-is_member.false))

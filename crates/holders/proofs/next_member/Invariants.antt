@@ -1,11 +1,7 @@
-use Prim.Native.Nat.{◌-◌}
 use Rattle.words.specs.Words.{words}
 use Rattle.layout.specs.Store.{decode}
 use Rattle.holders.proofs.Scan.{Scanned}
 use Rattle.holders.proofs.next_member.Given as goal
 
 abbrev pub invariant-loop-place : goal.invariant-loop-place
-invariant-loop-place l = Scanned l.settings (decode (words l.store)) l.from l.to l.place l.least l.at
-
-abbrev pub decreases-loop-place : goal.decreases-loop-place
-decreases-loop-place l = l.settings.places - l.place
+invariant-loop-place l = Scanned l.settings (decode (words l.store)) l.from l.to l.place l.least l.first

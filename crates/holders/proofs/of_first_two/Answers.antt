@@ -1,20 +1,13 @@
 use mathlib.Core.Path.{◌≡◌, sym, ap, ◌∙◌}
 use mathlib.Core.List.{[]}
 use Prim.Native.Nat.{ℕ}
-use native.Mathlib.Omega.{arith}
+use borrow.Author.Tests.{eq-eqb}
 use Rattle.words.specs.Words.{words}
 use Rattle.rules.specs.Upkeep.{of_first_two}
 use Rattle.layout.specs.Store.{decode}
 use Rattle.holders.specs.Members.{ids, between, NextAt, round, begins_with}
 use Rattle.holders.proofs.MembersFrom.{two_hit, two_miss, round_at, round_none, after_first, all_members_from}
 use Rattle.holders.proofs.of_first_two.Goals as goal
-
-pub id-first-requires : goal.id-first-requires
-id-first-requires c =
-    let state = decode (words c.args.store.now) in
-    let n : NextAt c.args.settings state c.home-home.result ids c.in-Some.place =
-    rw c.in-Some.is at c.next_member.ensures in
-    (c.requires, n.inside)
 
 pub returns-then-first-id : goal.returns-then-first-id
 returns-then-first-id c =
@@ -23,15 +16,7 @@ returns-then-first-id c =
     let n : NextAt c.args.settings state home.result ids c.in-Some.place =
     rw c.in-Some.is at c.next_member.ensures in
     let all = all_members_from _ c.args.store.now c.requires home.result c.args.key.0 home.ensures in
-    sym (two_hit _ _ _ _ c.args.id (all ∙ round_at c.args.settings state home.result home.result _ n) c.id-first.ensures c.if-first-id.true)
-
-pub overflow_add-first : goal.overflow_add-first
-overflow_add-first c =
-    let state = decode (words c.args.store.now) in
-    let home = c.home-home in
-    let n : NextAt c.args.settings state home.result ids c.in-Some.place =
-    rw c.in-Some.is at c.next_member.ensures in
-    omega (arith, n.high, c.id-first.ensures)
+    eq-eqb _ _ c.if-first-id.true ∙ sym (two_hit _ _ _ _ c.args.id (all ∙ round_at c.args.settings state home.result home.result _ n) c.id-first.ensures c.if-first-id.true)
 
 pub returns-else-first-id : goal.returns-else-first-id
 returns-else-first-id c =

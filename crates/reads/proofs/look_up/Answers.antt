@@ -18,18 +18,18 @@ returns-then-key-eq0 c =
     no_mapping c.args.settings (decode (words c.args.store.now)) c.args.proxy c.args.block c.served_asks-no.ensures c.if-no-ne0.false
     c.mapped-key.ensures c.if-key-eq0.true
 
-pub returns-in-At : goal.returns-in-At
-returns-in-At c =
+pub returns-in-Some : goal.returns-in-Some
+returns-in-Some c =
     let s = decode (words c.args.store.now) in
     let k = c.mapped-key.result.0 in
-    let at : LiesAt c.args.settings s (holder s k) k c.in-At.place c.in-At.row =
-    rw c.in-At.is at c.holder.ensures in
+    let at : LiesAt c.args.settings s (holder s k) k c.in-Some.at.place c.in-Some.at.row =
+    rw c.in-Some.is at c.holder.ensures in
     located c.args.settings s c.args.proxy c.args.block c.served_asks-no.ensures c.if-no-ne0.false
     c.mapped-key.ensures c.if-key-eq0.false _ _ at
 
-pub returns-in-Nowhere : goal.returns-in-Nowhere
-returns-in-Nowhere c =
+pub returns-in-None : goal.returns-in-None
+returns-in-None c =
     let s = decode (words c.args.store.now) in
-    let none : holder s c.mapped-key.result.0 ≡ 0 = rw c.in-Nowhere.is at c.holder.ensures in
+    let none : holder s c.mapped-key.result.0 ≡ 0 = rw c.in-None.is at c.holder.ensures in
     lost c.args.settings s c.args.proxy c.args.block c.served_asks-no.ensures c.if-no-ne0.false
     c.mapped-key.ensures c.if-key-eq0.false none

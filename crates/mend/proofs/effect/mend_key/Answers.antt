@@ -14,7 +14,7 @@ pub bring-requires : goal.bring-requires
 bring-requires c =
     let lacking : let a = c.args in
     let t = decode (words a.store.now) in
-    Lacking a.settings t (t.ids a.place) a.key.0 c.in-Bring.from c.in-Bring.row = rw c.in-Bring.is at c.for_key.ensures in record { mends = c.requires; lacking = lacking }
+    Lacking a.settings t (t.ids a.place) a.key.0 c.in-Bring.from.place c.in-Bring.from.row = rw c.in-Bring.is at c.for_key.ensures in record { mends = c.requires; lacking = lacking }
 
 pub returns-in-Nothing : goal.returns-in-Nothing
 returns-in-Nothing c =

@@ -14,7 +14,7 @@ pub count_row-requires : goal.count_row-requires
 count_row-requires c =
     let lacking : let a = c.args in
     let t = decode (words a.store.now) in
-    Lacking a.settings t (t.ids a.place) a.key.0 c.in-Bring.from c.in-Bring.row = rw c.in-Bring.is at c.for_key.ensures in
+    Lacking a.settings t (t.ids a.place) a.key.0 c.in-Bring.from.place c.in-Bring.from.row = rw c.in-Bring.is at c.for_key.ensures in
     (c.requires.1, place_flagged c.args.settings c.args.store.now c.requires.0.store _ c.args.base _ _ _ (lacking))
 
 pub returns-in-Nothing : goal.returns-in-Nothing
@@ -36,7 +36,7 @@ pub returns-in-Bring : goal.returns-in-Bring
 returns-in-Bring c =
     let lacking : let a = c.args in
     let t = decode (words a.store.now) in
-    Lacking a.settings t (t.ids a.place) a.key.0 c.in-Bring.from c.in-Bring.row = rw c.in-Bring.is at c.for_key.ensures in
+    Lacking a.settings t (t.ids a.place) a.key.0 c.in-Bring.from.place c.in-Bring.from.row = rw c.in-Bring.is at c.for_key.ensures in
     let a = c.args in
     meets_it a.settings a.store.now c.requires.0.store _ a.base a.key.0 _ _ (lacking) a.flags.now _ _ _
     c.count_row.ensures (below_of 256 a.flags.now (λ i. (c.slice_known-1.given i).fits))
