@@ -2,7 +2,7 @@
 use mathlib.Core.Path.{◌≡◌, refl, sym, ap, ◌∙◌}
 use mathlib.Core.List.{List, [], ◌∷◌}
 use mathlib.Core.Bool.{true}
-use mathlib.Core.Option.{Option, some, none}
+use Rattle.std.specs.Prelude.{Option, Some, None}
 use Prim.Native.Nat.{ℕ, ◌≤◌}
 use native.Mathlib.Omega.{arith}
 use lib.ListN.{length, get_or, take}
@@ -14,8 +14,7 @@ use Rattle.text.specs.Lines.{read_fields, read_event}
 use Rattle.text.proofs.Laws.{form_ok}
 use Rattle.text.proofs.RoundTrip.{WellFormed, well_formed, fields_well_formed}
 use Rattle.parse.specs.Answers.{has_data, with_room, parsed, answer_to, bytes_read}
-use Rattle.parse.specs.declared.Parsed.{Parsed}
-use Rattle.parse.specs.declared.Parsed.TheVariants.{Is, Refused}
+use Rattle.text.specs.declared.Event.{Event}
 use Rattle.parse.proofs.Laws.{room_right, room_unasked, filled}
 
 -- ---- at most three numbers, each by its index, are the list of them
@@ -43,34 +42,34 @@ fields_again S p w bytes same =
 roomy : (S : ℕ) (o : Option EventFields) → with_room S S o ≡ o
 roomy S o = by (has_data o) (λ y. room_right S S o y refl) (λ n. room_unasked S S o n)
 
-module _ (S : ℕ) (line block after : List ℕ) (r : Parsed) (room : length block ≡ S) (answers : r ≡ answer_to (parsed S (length block) line))
+module _ (S : ℕ) (line block after : List ℕ) (r : Option Event) (room : length block ≡ S) (answers : r ≡ answer_to (parsed S (length block) line))
     (left : after ≡ onto 0 (bytes_read (parsed S (length block) line)) block) where
   is_read : parsed S (length block) line ≡ read_fields S line
   unfolding parsed
   is_read = rw room (roomy S (read_fields S line))
 
-  of_event_fields : (k a b c : ℕ) → r ≡ Is k a b c → (o : Option EventFields) → read_fields S line ≡ o → and_then o (λ p. some (event_of p)) ≡ some (event_from k a b c after)
+  of_event_fields : (e : Event) → r ≡ Some e → (o : Option EventFields) → read_fields S line ≡ o → and_then o (λ p. Some (event_of p)) ≡ Some (event_from e.kind e.a e.b e.c after)
   unfolding answer_to bytes_read and_then
-  of_event_fields k a b c e none q = let t : r ≡ Refused = answers ∙ ap answer_to (is_read ∙ q) in let z : ◌≡◌ {A = ℕ} 0 1 = cc in absurd (omega arith)
-  of_event_fields k a b c e (some p) q =
-      let t : r ≡ Is p.kind (get_or p.numbers 0 0) (get_or p.numbers 1 0) (get_or p.numbers 2 0) = answers ∙ ap answer_to (is_read ∙ q) in
+  of_event_fields e s None q = let t : r ≡ None = answers ∙ ap answer_to (is_read ∙ q) in let z : ◌≡◌ {A = ℕ} 0 1 = cc in absurd (omega arith)
+  of_event_fields e s (Some p) q =
+      let t : r ≡ Some (record { kind = p.kind; a = get_or p.numbers 0 0; b = get_or p.numbers 1 0; c = get_or p.numbers 2 0 }) = answers ∙ ap answer_to (is_read ∙ q) in
       let l : after ≡ onto 0 p.bytes block = left ∙ ap (λ (x : Option EventFields). onto 0 (bytes_read x) block) (is_read ∙ q) in
       let w = well_formed S p (fields_well_formed S line p q) in
-      let numbers : fields_brought k a b c after ≡ again p after = cc in
+      let numbers : fields_brought e.kind e.a e.b e.c after ≡ again p after = cc in
       let whole = fields_again S p w after (λ y. let n : length p.bytes ≡ S = rw y at w.size in l ∙ sym (filled p.bytes block (n ∙ sym room))) in
-      ap (λ (x : EventFields). some (event_of x)) (sym (numbers ∙ whole))
+      ap (λ (x : EventFields). Some (event_of x)) (sym (numbers ∙ whole))
 
-  pub parsed_event : (k a b c : ℕ) → r ≡ Is k a b c → read_event S line ≡ some (event_from k a b c after)
+  pub parsed_event : (e : Event) → r ≡ Some e → read_event S line ≡ Some (event_from e.kind e.a e.b e.c after)
   unfolding read_event
-  parsed_event k a b c e = of_event_fields k a b c e (read_fields S line) refl
+  parsed_event e s = of_event_fields e s (read_fields S line) refl
 
-  no_fields : r ≡ Refused → (o : Option EventFields) → read_fields S line ≡ o → and_then o (λ p. some (event_of p)) ≡ none
+  no_fields : r ≡ None → (o : Option EventFields) → read_fields S line ≡ o → and_then o (λ p. Some (event_of p)) ≡ None
   unfolding answer_to and_then
-  no_fields e none q = refl
-  no_fields e (some p) q =
-      let t : r ≡ Is p.kind (get_or p.numbers 0 0) (get_or p.numbers 1 0) (get_or p.numbers 2 0) = answers ∙ ap answer_to (is_read ∙ q) in
+  no_fields e None q = refl
+  no_fields e (Some p) q =
+      let t : r ≡ Some (record { kind = p.kind; a = get_or p.numbers 0 0; b = get_or p.numbers 1 0; c = get_or p.numbers 2 0 }) = answers ∙ ap answer_to (is_read ∙ q) in
       let z : ◌≡◌ {A = ℕ} 0 1 = cc in absurd (omega arith)
 
-  pub parsed_none : r ≡ Refused → read_event S line ≡ none
+  pub parsed_none : r ≡ None → read_event S line ≡ None
   unfolding read_event
   parsed_none e = no_fields e (read_fields S line) refl
