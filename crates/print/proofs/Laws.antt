@@ -25,7 +25,7 @@ use Rattle.text.proofs.Fields.{parted_append}
 use Rattle.text.proofs.RoundTrip.{WellFormed, well_formed, formed_well}
 use Rattle.print.specs.Answers.{can_print, printed, line_after}
 use Rattle.print.specs.Steps.{number_texts, length_of_line}
-use Rattle.print.specs.declared.Printed.TheVariants.{Length, Refused}
+use Rattle.std.specs.Prelude.{Option, Some, None}
 
 -- ---- the numbers
 
@@ -114,6 +114,13 @@ module _ (k a b c : ℕ) (bs : List ℕ) where
     pub after : next ≡ at + length (number_texts (kind_at k).numbers a b c)
     pub same : length m2 ≡ length l
 
+  pub fronted : (l m1 m2 : List ℕ) (at next : ℕ) (r : Shape) → r ≡ shape_of (kind_at k) → length (line_of (fields_brought k a b c bs)) ≤ length l
+      → at ≡ length (kind_at k).word → m1 ≡ onto 0 (kind_at k).word l → next ≡ at + length (number_texts r.numbers a b c)
+      → m2 ≡ onto at (number_texts r.numbers a b c) m1 → length m2 ≡ length l → Fronted l m1 m2 at next
+  fronted l m1 m2 at next r e fits place first after second same =
+      let n = row_numbers (kind_at k) r e in
+      record { fits = fits; first = first; second = rw n at second; place = place; after = rw n at after; same = same }
+
   module _ (l m1 m2 : List ℕ) (at next : ℕ) (f : Fronted l m1 m2 at next) where
     front : m2 ≡ onto 0 ((kind_at k).word ++ number_texts (kind_at k).numbers a b c) l
     front = onto_then 0 at (kind_at k).word (number_texts (kind_at k).numbers a b c) l m1 m2 (omega (arith, line_length)) (omega arith) f.first f.second
@@ -154,7 +161,7 @@ below_take zero h = each_none
 below_take (suc k) each_none = each_none
 below_take (suc k) (each_more h r) = each_more h (below_take k r)
 
-pub unformed : (S : ℕ) (e : EventFields) → (WellFormed S e → ⊥) → length_of_line S e ≡ 0
+pub unformed : (S : ℕ) (e : EventFields) → (WellFormed S e → ⊥) → length_of_line S e ≡ None
 unfolding length_of_line
 unformed S e h = by (is_well_formed S e) (λ t. absurd (h (well_formed S e t))) (λ f. rw f)
 
@@ -182,7 +189,7 @@ module _ (S k a b c : ℕ) (bs : List ℕ) where
       }
 
   pub formed : 1 ≤ k → k ≤ kind_count → a < 2 ^ 64 → b < 2 ^ 64 → c < 2 ^ 64 → Below 256 bs → ((kind_at k).payload ≡ true → length bs ≡ S)
-      → length (line_of (fields_brought k a b c bs)) ≤ longest → length_of_line S (fields_brought k a b c bs) ≡ length (line_of (fields_brought k a b c bs))
+      → length (line_of (fields_brought k a b c bs)) ≤ longest → length_of_line S (fields_brought k a b c bs) ≡ Some (length (line_of (fields_brought k a b c bs)))
   unfolding length_of_line
   formed h g ha hb hc hbs hs hl = rw (formed_well S (fields_brought k a b c bs) (well h g ha hb hc hbs hs hl))
 
@@ -218,30 +225,26 @@ few_numbers k r h g e =
 
 -- ---- what is answered and left
 
-some_line : (e : EventFields) → 1 ≤ length (line_of e)
-unfolding line_of
-some_line e = rw (length-append, length-append) (omega arith)
-
 module _ (S : ℕ) (e : EventFields) (l : List ℕ) where
-  pub not_printed : can_print S e (length l) ≡ false → (Refused ≡ printed S e (length l)) × (l ≡ line_after S e l)
+  pub not_printed : can_print S e (length l) ≡ false → (None ≡ printed S e (length l)) × (l ≡ line_after S e l)
   unfolding printed line_after
   not_printed f = (rw f, rw f)
 
   pub is_printed : (n : ℕ) (m : List ℕ) → can_print S e (length l) ≡ true → n ≡ length (line_of e) → m ≡ onto 0 (line_of e) l
-      → (Length n ≡ printed S e (length l)) × (m ≡ line_after S e l)
+      → (Some n ≡ printed S e (length l)) × (m ≡ line_after S e l)
   unfolding printed line_after
   is_printed n m t en em = (rw (t, en), rw t em)
 
-  pub not_formed : (n : ℕ) → n ≡ length_of_line S e → n ≡ 0 → can_print S e (length l) ≡ false
+  pub not_formed : None ≡ length_of_line S e → can_print S e (length l) ≡ false
   unfolding length_of_line can_print ◌and◌
-  not_formed n d z =
-      by (is_well_formed S e)
-      (λ t. let p : 1 ≤ length (line_of e) = some_line e in absurd (omega (arith, rw t at d)))
-      (λ f. rw f)
+  not_formed d = by (is_well_formed S e) (λ t. let z : ◌≡◌ {A = Option ℕ} None (Some (length (line_of e))) = rw t at d in cc) (λ f. rw f)
 
-  pub is_formed : (n : ℕ) → n ≡ length_of_line S e → (n ≡ 0 → ⊥) → (is_well_formed S e ≡ true) × (n ≡ length (line_of e))
+  pub is_formed : (n : ℕ) → Some n ≡ length_of_line S e → (is_well_formed S e ≡ true) × (n ≡ length (line_of e))
   unfolding length_of_line
-  is_formed n d z = by (is_well_formed S e) (λ t. (t, rw t at d)) (λ f. absurd (z (rw f at d)))
+  is_formed n d =
+      by (is_well_formed S e)
+      (λ t. let z : ◌≡◌ {A = Option ℕ} (Some n) (Some (length (line_of e))) = rw t at d in (t, cc))
+      (λ f. let z : ◌≡◌ {A = Option ℕ} (Some n) None = rw f at d in cc)
 
   pub no_room : is_well_formed S e ≡ true → length l < length (line_of e) → can_print S e (length l) ≡ false
   unfolding can_print ◌and◌

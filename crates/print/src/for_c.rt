@@ -3,13 +3,25 @@ ghost use Rattle.std.specs.Prelude.{◌≡◌, length};
 ghost use Rattle.rules.specs.Event.{fields_brought};
 ghost use Rattle.print.specs.Answers.{printed, line_after, line_answer};
 
-use crate::Printed;
+use text::Event;
 
 #[repr(C)]
 #[derive(Clone, Copy)]
 pub struct LineAnswer {
     pub code: u64,
     pub length: usize,
+}
+
+impl From<Option<usize>> for LineAnswer {
+    ghost from_gives = { λ answer given. given ≡ line_answer answer };
+
+    #[tactic(auto, unfolding(crate::specs::Answers::line_answer))]
+    fn from(answer: Option<usize>) -> LineAnswer {
+        match answer {
+            Some(length) => LineAnswer { code: 0, length },
+            None => LineAnswer { code: 3, length: 0 },
+        }
+    }
 }
 
 // The line of an event, as `print::print` gives it.
@@ -25,9 +37,5 @@ pub fn print(
     ensures { (result ≡ line_answer (printed size (fields_brought kind a b c «data».now) (length line.old)))
         × (line.new ≡ line_after size (fields_brought kind a b c «data».now) line.old) }
 {
-    let answer = crate::print(kind, a, b, c, data, size, line);
-    match answer {
-        Printed::Length(n) => LineAnswer { code: 0, length: n },
-        Printed::Refused => LineAnswer { code: 3, length: 0 },
-    }
+    LineAnswer::from(crate::print(Event { kind, a, b, c }, data, size, line))
 }

@@ -14,61 +14,57 @@ ghost use Rattle.print.specs.Steps.{number_texts, length_of_line};
 
 pub mod for_c;
 
-// The length of the line, or a no to question 3.
-#[derive(Clone, Copy)]
-pub enum Printed {
-    Length(usize),
-    Refused,
-}
+use text::Event;
 
-// How long the first n of three numbers are, a comma before each.
-fn numbers_length(a: u64, b: u64, c: u64, n: u8) -> usize
+// How long the first n of an event's numbers are, a comma before each.
+#[tactic(auto, using(crate::proofs::Laws::length_0, crate::proofs::Laws::length_1, crate::proofs::Laws::length_2, crate::proofs::Laws::length_3))]
+fn numbers_length(event: Event, n: u8) -> usize
     requires { n ≤ 3 }
-    ensures { (result ≡ length (number_texts n a b c)) × (result ≤ 63) }
+    ensures { (result ≡ length (number_texts n event.a event.b event.c)) × (result ≤ 63) }
 {
     if n == 0 {
         return 0;
     }
-    let first = 1 + decimal::width(a);
+    let first = 1 + decimal::width(event.a);
     if n == 1 {
         return first;
     }
-    let second = first + 1 + decimal::width(b);
+    let second = first + 1 + decimal::width(event.b);
     if n == 2 {
         return second;
     }
-    second + 1 + decimal::width(c)
+    second + 1 + decimal::width(event.c)
 }
 
-// The length of the line, or 0 where the event is not well formed.
-fn line_length(kind: u64, a: u64, b: u64, c: u64, data: &[u8], size: usize) -> usize
-    ensures { result ≡ length_of_line size (fields_brought kind a b c «data».now) }
+// The length of the line; none where the event is not well formed.
+#[tactic(auto, using(crate::proofs::Laws::unformed, crate::proofs::Laws::kind_of, crate::proofs::Laws::known, crate::proofs::Laws::few_numbers))]
+fn line_length(event: Event, data: &[u8], size: usize) -> Option<usize>
+    ensures { result ≡ length_of_line size (fields_brought event.kind event.a event.b event.c «data».now) }
 {
+    let kind = event.kind;
     if kind == 0 {
-        return 0;
+        return None;
     }
     if (text::KINDS as u64) < kind {
-        return 0;
+        return None;
     }
     let shape = text::shape_of(kind as usize);
     let word = shape.len as usize;
-    let count = shape.numbers;
-    let payload = shape.payload;
-    let plain = word + numbers_length(a, b, c, count) + 1;
-    if payload {
+    let plain = word + numbers_length(event, shape.numbers) + 1;
+    if shape.payload {
         if data.len() != size {
-            return 0;
+            return None;
         }
         if text::LONGEST / 2 <= size {
-            return 0;
+            return None;
         }
         let loaded = plain + 1 + 2 * size;
         if text::LONGEST < loaded {
-            return 0;
+            return None;
         }
-        return loaded;
+        return Some(loaded);
     }
-    plain
+    Some(plain)
 }
 
 // A comma and a number, from a place on; the place after them.
@@ -80,23 +76,25 @@ pub fn put_number(number: u64, line: &mut [u8], at: usize) -> usize
     decimal::write(number, line, at + 1)
 }
 
-// The first n of three numbers, from a place on; the place after them.
-pub fn put_numbers(a: u64, b: u64, c: u64, n: u8, line: &mut [u8], at: usize) -> usize
-    requires { (n ≤ 3) × (at + length (number_texts n a b c) ≤ length line.old) }
-    ensures { (result ≡ at + length (number_texts n a b c)) × (line.new ≡ onto at (number_texts n a b c) line.old) }
+// The first n of an event's numbers, from a place on; the place after them.
+#[tactic(auto, using(crate::proofs::Laws::room_1, crate::proofs::Laws::room_2, crate::proofs::Laws::length_3))]
+pub fn put_numbers(event: Event, n: u8, line: &mut [u8], at: usize) -> usize
+    requires { (n ≤ 3) × (at + length (number_texts n event.a event.b event.c) ≤ length line.old) }
+    ensures { (result ≡ at + length (number_texts n event.a event.b event.c))
+        × (line.new ≡ onto at (number_texts n event.a event.b event.c) line.old) }
 {
     if n == 0 {
         return at;
     }
-    let second = put_number(a, line, at);
+    let second = put_number(event.a, line, at);
     if n == 1 {
         return second;
     }
-    let third = put_number(b, line, second);
+    let third = put_number(event.b, line, second);
     if n == 2 {
         return third;
     }
-    put_number(c, line, third)
+    put_number(event.c, line, third)
 }
 
 // A comma and data, from a place on; the place after them.
@@ -111,16 +109,17 @@ fn put_data(data: &[u8], line: &mut [u8], at: usize) -> usize
 }
 
 // The whole line, at the front of an area that holds it.
-fn write_line(kind: usize, a: u64, b: u64, c: u64, data: &[u8], line: &mut [u8])
-    requires { (1 ≤ kind) × (kind ≤ kind_count) × (length (line_of (fields_brought kind a b c «data».now)) ≤ length line.old) }
-    ensures { line.new ≡ onto 0 (line_of (fields_brought kind a b c «data».now)) line.old }
+#[tactic(auto, using(crate::proofs::Laws::line_length, crate::proofs::Laws::loaded_length, crate::proofs::Laws::plain_length, crate::proofs::Laws::few_numbers, text::proofs::Laws::row_numbers, text::proofs::Laws::row_payload))]
+fn write_line(event: Event, data: &[u8], line: &mut [u8])
+    requires { (1 ≤ event.kind) × (event.kind ≤ kind_count)
+        × (length (line_of (fields_brought event.kind event.a event.b event.c «data».now)) ≤ length line.old) }
+    ensures { line.new ≡ onto 0 (line_of (fields_brought event.kind event.a event.b event.c «data».now)) line.old }
 {
+    let kind = event.kind as usize;
     let at = text::put_word(kind, line);
     let shape = text::shape_of(kind);
-    let count = shape.numbers;
-    let payload = shape.payload;
-    let next = put_numbers(a, b, c, count, line, at);
-    if payload {
+    let next = put_numbers(event, shape.numbers, line, at);
+    if shape.payload {
         let end = put_data(data, line, next);
         area::put(line, end, b'\n');
         return;
@@ -128,26 +127,15 @@ fn write_line(kind: usize, a: u64, b: u64, c: u64, data: &[u8], line: &mut [u8])
     area::put(line, next, b'\n');
 }
 
-// The line of an event whose data has size bytes, at the front of the lent area; the bytes past it stay.
-pub fn print(
-    kind: u64,
-    a: u64,
-    b: u64,
-    c: u64,
-    data: &[u8],
-    size: usize,
-    line: &mut [u8],
-) -> Printed
-    ensures { (result ≡ printed size (fields_brought kind a b c «data».now) (length line.old))
-        × (line.new ≡ line_after size (fields_brought kind a b c «data».now) line.old) }
+// The line of an event whose data has size bytes, at the front of the lent area; the bytes past it stay. None is a no to question 3.
+pub fn print(event: Event, data: &[u8], size: usize, line: &mut [u8]) -> Option<usize>
+    ensures { (result ≡ printed size (fields_brought event.kind event.a event.b event.c «data».now) (length line.old))
+        × (line.new ≡ line_after size (fields_brought event.kind event.a event.b event.c «data».now) line.old) }
 {
-    let n = line_length(kind, a, b, c, data, size);
-    if n == 0 {
-        return Printed::Refused;
-    }
+    let n = line_length(event, data, size)?;
     if line.len() < n {
-        return Printed::Refused;
+        return None;
     }
-    write_line(kind as usize, a, b, c, data, line);
-    Printed::Length(n)
+    write_line(event, data, line);
+    Some(n)
 }
