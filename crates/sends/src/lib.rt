@@ -8,6 +8,7 @@ ghost use Rattle.rules.specs.Event.{Event};
 ghost use Rattle.rules.specs.Limits.{max_relays, max_view_or_order};
 ghost use Rattle.rules.specs.Maps.{send_asks, send_effect};
 ghost use Rattle.rules.specs.Derived.{bucket_at};
+ghost use Rattle.rules.specs.Refusals.{code_of};
 ghost use Rattle.rules.specs.Question.{first_no};
 ghost use Rattle.layout.specs.Store.{decode, render};
 ghost use Rattle.lent.specs.Performs.{Performs};
@@ -15,51 +16,52 @@ ghost use Rattle.lent.specs.Stores.{StoreOf};
 ghost use Rattle.sends.specs.Asks.{primary_asks};
 
 use layout::sizes;
+use lent::place::Span;
 use lent::{Answer, bucket};
 use mappings::{block, copy};
 use relays::relay;
 use rules::constants;
 use rules::numbers::{BlockNumber, ViewNumber};
+use rules::refusal::Refusal;
 use rules::settings::Settings;
 
-// Is there such a block, is the primary an up member, and is the bucket ready? The number of the first no, or 0.
-fn primary_asks(store: &[u8], settings: Settings, block: BlockNumber) -> u64
+// Is there such a block, is the primary an up member, and is the bucket ready?
+fn primary_asks(store: &[u8], settings: Settings, block: BlockNumber) -> Result<(), Refusal>
     requires { StoreOf settings store.now }
-    ensures { result ≡ first_no (primary_asks (decode (words store.now)) block.0) }
+    ensures { code_of result ≡ first_no (primary_asks (decode (words store.now)) block.0) }
 {
     if constants::BLOCKS <= block.0 {
-        return 3;
+        return Err(Refusal::BadInput);
     }
     if !block::primary_up(store, settings, block) {
-        return 6;
+        return Err(Refusal::NoMember);
     }
     if block::is_ready(store, settings, block) {
-        return 0;
+        Ok(())
+    } else {
+        Err(Refusal::NotReady)
     }
-    7
 }
 
-// The number of the first question that is answered no, or 0.
-fn asks(store: &[u8], settings: Settings, block: BlockNumber) -> u64
+// Refuses with the first question that is answered no.
+fn asks(store: &[u8], settings: Settings, block: BlockNumber) -> Result<(), Refusal>
     requires { StoreOf settings store.now }
-    ensures { result ≡ first_no (send_asks (decode (words store.now)) block.0) }
+    ensures { code_of result ≡ first_no (send_asks (decode (words store.now)) block.0) }
 {
-    let no = primary_asks(store, settings, block);
-    if no != 0 {
-        return no;
-    }
+    primary_asks(store, settings, block)?;
     if constants::MAX_RELAYS as u64 <= lent::store::relay_count(store, settings) {
-        return 10;
+        return Err(Refusal::NoRoom);
     }
     let bucket = bucket::number(settings, block);
     let agreed = bucket::agreed(store, settings, bucket);
     if constants::MAX_VIEW_OR_ORDER <= agreed.last_sent {
-        return 12;
+        return Err(Refusal::NoNumber);
     }
     if copy::has(store, settings, bucket, agreed.primary, block) {
-        return 0;
+        Ok(())
+    } else {
+        Err(Refusal::WrongState)
     }
-    13
 }
 
 // The relay goes into the bag, and the bucket has sent one more.
@@ -72,9 +74,7 @@ fn relay(store: &mut [u8], settings: Settings, block: BlockNumber)
     let order = bucket::agreed(store, settings, bucket).last_sent + 1;
     let view = ViewNumber(lent::store::view(store, settings));
     let key = block::mapped(store, settings, block, 0);
-    let span = relay::bag_span(settings);
-    let from = span.from;
-    let to = span.to;
+    let Span { from, to } = relay::bag_span(settings);
     bag::append(&mut store[from..to], view, bucket as u64, order, block, key);
     words::write(
         store,
@@ -87,10 +87,7 @@ pub fn send(store: &mut [u8], settings: Settings, block: u64) -> Answer
     requires { StoreOf settings store.old }
     ensures { Performs (Event.send block) (words store.old) result (words store.new) }
 {
-    let no = asks(store, settings, BlockNumber(block));
-    if no != 0 {
-        return Answer::No(no);
-    }
+    asks(store, settings, BlockNumber(block))?;
     relay(store, settings, BlockNumber(block));
-    Answer::Yes(0)
+    Ok(0)
 }
