@@ -3,13 +3,14 @@ use mathlib.Core.Path.{◌≡◌, refl, sym, ap, ◌∙◌}
 use mathlib.Core.List.{List}
 use mathlib.Core.Bool.{true}
 use Prim.Native.Nat.{ℕ}
-use native.Mathlib.Omega.{arith}
 use lib.Dec.{ltb, eqb}
 use lib.ListN.{length, length-replicate}
 use borrow.Author.Tests.{eq-eqb, ne_eqb, lt-ltb, ltb-true}
 use Rattle.lists.specs.Tests.{◌and◌, ◌or◌}
 use Rattle.lists.proofs.Tests.{by_eq, or_l, or_r, or_no, or_second}
+use Rattle.std.specs.Prelude.{None, Ok, Err}
 use Rattle.words.specs.Words.{words}
+use Rattle.rules.specs.declared.refusal.Refusal.TheVariants.{NoChunk}
 use Rattle.rules.specs.declared.settings.Settings.{Settings}
 use Rattle.rules.specs.Chunks.{bytes_in}
 use Rattle.rules.specs.State.{State}
@@ -24,17 +25,16 @@ use Rattle.lent.proofs.Stores.{settings_are}
 use Rattle.mappings.specs.Asks.{served_asks}
 use Rattle.holders.specs.Members.{LiesAt}
 use Rattle.holders.proofs.Contents.{bytes_at_holder, holder_size}
-use Rattle.reads.specs.declared.Lookup.TheVariants.{Refused, Unmapped}
 use Rattle.reads.specs.Get.{Located, LooksUp}
 
 -- ---- question 11, after the others are answered yes: no mapping, or an up member holds the chunk
-module _ (c : Settings) (s : State) (p b : ℕ) {n : ℕ} (e : n ≡ first_no (served_asks s p b)) (y : n ≡ 0) where
+module _ (c : Settings) (s : State) (p b : ℕ) (e : 0 ≡ first_no (served_asks s p b)) where
   all_asked : (eqb (mapped s b) 0 or ltb 0 (holder s (mapped s b))) ≡ true → first_no (get_asks s p b) ≡ 0
   unfolding ◌and◌
-  all_asked found = sym (goes_on (served_asks s p b) _ refl e y (sym (first_yes 11 _ found ∙ none_asked)))
+  all_asked found = sym (goes_on (served_asks s p b) _ refl e refl (sym (first_yes 11 _ found ∙ none_asked)))
 
   module _ {k : ℕ} (m : k ≡ mapped s b) where
-    pub no_mapping : k ≡ 0 → LooksUp c s p b Unmapped
+    pub no_mapping : k ≡ 0 → LooksUp c s p b (Ok None)
     no_mapping z = (all_asked (or_l _ _ (eq-eqb (mapped s b) 0 (sym m ∙ z))), sym m ∙ z)
 
     module _ (some : k ≡ 0 → ⊥) where
@@ -46,13 +46,11 @@ module _ (c : Settings) (s : State) (p b : ℕ) {n : ℕ} (e : n ≡ first_no (s
         lies = at;
       }
 
-      pub lost : holder s k ≡ 0 → LooksUp c s p b (Refused 11)
+      pub lost : holder s k ≡ 0 → LooksUp c s p b (Err NoChunk)
       unfolding ◌and◌
-      lost none = (
-        goes_on (served_asks s p b) _ refl e y
-            (sym (first_stop 11 _ (or_no _ _ (ne_eqb (mapped s b) 0 (λ z. some (m ∙ z))) ∙ ap (λ (i : ℕ). ltb 0 i) (ap (holder s) (sym m) ∙ none)))),
-        λ z. omega arith,
-      )
+      lost none =
+          goes_on (served_asks s p b) _ refl e refl
+          (sym (first_stop 11 _ (or_no _ _ (ne_eqb (mapped s b) 0 (λ z. some (m ∙ z))) ∙ ap (λ (i : ℕ). ltb 0 i) (ap (holder s) (sym m) ∙ none))))
 
 -- ---- the block's bytes
 mapped_bytes : (s : State) (b : ℕ) → (mapped s b ≡ 0 → ⊥) → bytes_in (s.bricks.log (holder s (mapped s b))) (mapped s b) ≡ get_bytes s b

@@ -7,77 +7,83 @@ ghost use Rattle.words.specs.Words.{words};
 ghost use Rattle.rules.specs.Call.{is_zero_block};
 ghost use Rattle.rules.specs.Event.{Event};
 ghost use Rattle.rules.specs.Reads.{zeros};
+ghost use Rattle.rules.specs.Refusals.{code_of};
 ghost use Rattle.layout.specs.Store.{decode};
 ghost use Rattle.lent.specs.Stores.{StoreOf};
-ghost use Rattle.reads.specs.Get.{LooksUp, Gets, Fills, GetsInto};
+ghost use Rattle.reads.specs.Get.{LooksUp, found_key, found_bytes, Gets, Fills, GetsInto};
 
 use layout::sizes;
 use lent::Answer;
 use mappings::{asks, block};
 use rules::numbers::{BlockNumber, ChunkKey};
+use rules::refusal::Refusal;
 use rules::settings::Settings;
 
 // ---- the look-up
 
-// What get finds: the number of the question that is answered no; no mapping; or the mapped key, with the place and the row of a log where its chunk lies.
+// Where the chunk of a mapped key lies: the place of a brick that holds it, and the row of its log.
 #[derive(Clone, Copy)]
-enum Lookup {
-    Refused(u64),
-    Unmapped,
-    Chunk(ChunkKey, usize, usize),
+struct Chunk {
+    key: ChunkKey,
+    place: usize,
+    row: usize,
 }
 
-// get's questions in their order; the last one, 11, is answered by the search for the holder.
-fn look_up(store: &[u8], settings: Settings, proxy: u64, block: u64) -> Lookup
+// get's questions in their order, the last of them by the search for the holder; none where the block has no mapping.
+fn look_up(
+    store: &[u8],
+    settings: Settings,
+    proxy: u64,
+    block: u64,
+) -> Result<Option<Chunk>, Refusal>
     requires { StoreOf settings store.now }
     ensures { LooksUp settings (decode (words store.now)) proxy block result }
 {
     let guess = block::index_of(store, settings, BlockNumber(block));
-    let no = asks::served_asks(store, settings, proxy, block, guess);
-    if no != 0 {
-        return Lookup::Refused(no);
-    }
+    asks::served_asks(store, settings, proxy, block, guess)?;
     let key = block::mapped(store, settings, BlockNumber(block), guess);
     if key.0 == 0 {
-        return Lookup::Unmapped;
+        return Ok(None);
     }
     match holders::holder(store, settings, key) {
-        Some(at) => Lookup::Chunk(key, at.place, at.row),
-        None => Lookup::Refused(11),
+        Some(at) => Ok(Some(Chunk {
+            key,
+            place: at.place,
+            row: at.row,
+        })),
+        None => Err(Refusal::NoChunk),
     }
 }
 
 // ---- get
 
-// The bytes that get answers with: none where it is refused. Its number and its key come out beside them.
+// What an accepted get answers: a key, 0 where the block has no mapping, and the bytes.
+#[derive(Clone, Copy)]
+pub struct Found<'a> {
+    pub key: u64,
+    pub bytes: &'a [u8],
+}
+
+// The bytes are a part of the store, or the lent block of zeros.
 pub fn get<'a>(
     store: &'a [u8],
     blank: &'a [u8],
     settings: Settings,
     proxy: u64,
     block: u64,
-    number: &mut u64,
-    key: &mut u64,
-) -> &'a [u8]
+) -> Result<Found<'a>, Refusal>
     requires { StoreOf settings store.now × (blank.now ≡ zeros settings.size) }
-    ensures { Gets (decode (words store.now)) proxy block number.new key.new result.now }
+    ensures { Gets (decode (words store.now)) proxy block (code_of result) (found_key result) (found_bytes result) }
 {
-    match look_up(store, settings, proxy, block) {
-        Lookup::Refused(no) => {
-            *number = no;
-            *key = 0;
-            return &blank[0..0];
-        }
-        Lookup::Unmapped => {
-            *number = 0;
-            *key = 0;
-            return blank;
-        }
-        Lookup::Chunk(found, place, row) => {
-            *number = 0;
-            *key = found.0;
-            return holders::chunk(store, settings, place, row);
-        }
+    match look_up(store, settings, proxy, block)? {
+        Some(chunk) => Ok(Found {
+            key: chunk.key.0,
+            bytes: holders::chunk(store, settings, chunk.place, chunk.row),
+        }),
+        None => Ok(Found {
+            key: 0,
+            bytes: blank,
+        }),
     }
 }
 
@@ -103,17 +109,17 @@ pub fn fill_block(
     requires { StoreOf settings store.now × (length area.old ≡ settings.size) }
     ensures { Fills (decode (words store.now)) (Event.get proxy block) area.old result area.new }
 {
-    match look_up(store, settings, proxy, block) {
-        Lookup::Refused(no) => {
-            return Answer::No(no);
+    match look_up(store, settings, proxy, block)? {
+        Some(chunk) => {
+            moves::copy_bytes(
+                area,
+                holders::chunk(store, settings, chunk.place, chunk.row),
+            );
+            Ok(chunk.key.0)
         }
-        Lookup::Unmapped => {
+        None => {
             clear(area);
-            return Answer::Yes(0);
-        }
-        Lookup::Chunk(key, place, row) => {
-            moves::copy_bytes(area, holders::chunk(store, settings, place, row));
-            return Answer::Yes(key.0);
+            Ok(0)
         }
     }
 }
@@ -151,10 +157,10 @@ pub fn get_into(
     ensures { GetsInto (decode (words store.now)) blank.now area.old proxy block result area.new }
 {
     if !is_zero_block(blank, settings.size) {
-        return Answer::No(3);
+        return Err(Refusal::BadInput);
     }
     if area.len() != settings.size {
-        return Answer::No(3);
+        return Err(Refusal::BadInput);
     }
     fill_block(store, settings, proxy, block, area)
 }
