@@ -1,7 +1,8 @@
-// 64-bit words in a byte slice, the least byte first. A slice is seen as the list of its words.
+// 64-bit words in a byte slice, the least byte first. A slice is seen as the list of its words. And a binary search among numbers that a closure reads.
 #![tactic(auto)]
 
-ghost use Rattle.std.specs.Prelude.{◌≡◌, ◌+◌, ◌*◌, ◌^◌, ◌<◌, ◌≤◌, length, get_or, set};
+ghost use Rattle.std.specs.Prelude.{◌≡◌, ℕ, ◌+◌, ◌*◌, ◌^◌, ◌<◌, ◌≤◌, length, get_or, set};
+ghost use Rattle.lists.specs.Ascending.{FirstNotBelow};
 ghost use Rattle.words.specs.Words.{words};
 
 // The word at index i.
@@ -28,4 +29,25 @@ pub fn offset(i: usize, size: usize, n: usize) -> usize
     ensures { (result ≡ i * size) × (result + size ≤ n * size) }
 {
     i * size
+}
+
+// The first index whose number is not below x, among n that ascend: n where there is none. It is said of every f that the closure computes.
+// stays: no index is counted, two bounds close in on each other.
+pub fn lower_bound<F: Fn(usize) -> u64>(n: usize, x: u64, number: F) -> usize
+    requires { (i : ℕ) → i < n → F.pre number i }
+    ensures within { result ≤ n }
+    ensures first { (f : ℕ → ℕ) → ((i r : ℕ) → i < n → F.post number i r → r ≡ f i)
+        → ((i j : ℕ) → i < j → j < n → f i < f j) → FirstNotBelow f n x result }
+{
+    let mut low = 0;
+    let mut high = n;
+    while low < high {
+        let mid = low + (high - low) / 2;
+        if number(mid) < x {
+            low = mid + 1;
+        } else {
+            high = mid;
+        }
+    }
+    low
 }
