@@ -24,23 +24,12 @@ fn key_by(log: &[u8], chunks: usize, j: usize) -> u64
 }
 
 // The first index among the first n of the order whose key is not below k.
-// stays: no index is counted, two bounds close in; `partition_point` takes only a test of any position at all, so each look would be checked against the log's end.
 fn lower_bound(log: &[u8], chunks: usize, n: usize, k: u64) -> usize
     requires n_le_chunks { (n ≤ chunks) × (8 * (1 + 3 * chunks) ≤ length log.now) }
     requires ordered { Ordered chunks n (words log.now) }
     ensures { KeyBound chunks n (words log.now) k result }
 {
-    let mut lo = 0;
-    let mut hi = n;
-    while lo < hi {
-        let mid = lo + (hi - lo) / 2;
-        if key_by(log, chunks, mid) < k {
-            lo = mid + 1;
-        } else {
-            hi = mid;
-        }
-    }
-    lo
+    words::lower_bound(n, k, |j| key_by(log, chunks, j))
 }
 
 // The chunk that has a key, by its index in the log. Marks in the saved words do no harm.
