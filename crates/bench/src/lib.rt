@@ -11,6 +11,7 @@ use rules::numbers::BlockNumber;
 use rules::settings::Settings;
 
 // Moves words within the lent bytes: 0. Answers 1, with nothing changed, where a run of the two is not within them.
+// stays: C calls it, so its answer is a number.
 #[unsafe(no_mangle)]
 pub extern "C" fn bench_move(s: &mut [u8], from: usize, to: usize, n: usize) -> u64
     ensures { Moved from to n s.old result s.new }

@@ -17,6 +17,7 @@ pub const ENTRY_WORDS: usize = 2;
 pub const RELAY_WORDS: usize = 5;
 
 // the bytes "DISK0001" as a word: a store of another layout begins otherwise
+// stays: a constant's value may not call a function, so not `u64::from_le_bytes(*b"DISK0001")`
 pub const VERSION: u64 = 0x3130_3030_4b53_4944;
 
 // the header
