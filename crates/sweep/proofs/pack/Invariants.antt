@@ -6,6 +6,7 @@ use mathlib.Core.Path.{◌≡◌}
 use Rattle.sweep.proofs.pack.Given as goal
 
 abbrev pub invariant-loop-i : goal.invariant-loop-i
-invariant-loop-i l =
-    (l.o ≡ length (kept_first (read_log l.chunks l.width (words l.initial.log)) l.i))
-    × (words l.log ≡ packing l.chunks (read_log l.chunks l.width (words l.initial.log)) l.i (words l.initial.log))
+invariant-loop-i l = record {
+  next : l.o ≡ length (kept_first (read_log l.chunks l.width (words l.initial.log)) l.i);
+  written : words l.log ≡ packing l.chunks (read_log l.chunks l.width (words l.initial.log)) l.i (words l.initial.log);
+}

@@ -7,6 +7,8 @@ use Prim.Native.Nat.{◌≤◌}
 use Rattle.sweep.proofs.rank.Given as goal
 
 abbrev pub invariant-loop-i : goal.invariant-loop-i
-invariant-loop-i l =
-    (l.m ≡ rank (saved_of (read_log l.chunks l.width (words l.initial.log))) l.i) × (l.m ≤ l.i)
-    × (words l.log ≡ write_log l.chunks (tag (tag_of (read_log l.chunks l.width (words l.initial.log))) l.i (read_log l.chunks l.width (words l.initial.log))) (words l.initial.log))
+invariant-loop-i l = record {
+  ranked : l.m ≡ rank (saved_of (read_log l.chunks l.width (words l.initial.log))) l.i;
+  few : l.m ≤ l.i;
+  written : words l.log ≡ write_log l.chunks (tag (tag_of (read_log l.chunks l.width (words l.initial.log))) l.i (read_log l.chunks l.width (words l.initial.log))) (words l.initial.log);
+}
