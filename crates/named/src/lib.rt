@@ -41,10 +41,7 @@ pub fn all_named(store: &[u8], settings: Settings, tables: &mut [usize])
     requires { StoreOf settings store.now × (length tables.old ≡ buckets settings) }
     ensures { AllNamed settings store.now tables.new }
 {
-    let count = settings.buckets();
-    let mut bucket = 0;
-    while bucket < count {
+    for bucket in 0..settings.buckets() {
         tables[bucket] = named_at(store, settings, bucket);
-        bucket += 1;
     }
 }

@@ -1,16 +1,11 @@
-use Prim.Native.Nat.{ℕ, ◌-◌, ◌≤◌, ◌<◌}
+use Prim.Native.Nat.{ℕ, ◌<◌}
 use mathlib.Core.Path.{◌≡◌}
 use lib.ListN.{length, get_or}
 use Rattle.words.specs.Words.{words}
-use Rattle.rules.specs.Limits.{buckets}
 use Rattle.layout.specs.Store.{decode}
 use Rattle.named.specs.Tables.{EntriesAt, named}
 use Rattle.named.proofs.all_named.Given as goal
 
 abbrev pub invariant-loop-bucket : goal.invariant-loop-bucket
 invariant-loop-bucket l =
-    (l.bucket ≤ l.count) × (l.count ≡ buckets l.settings) × (length l.tables ≡ length l.initial.tables)
-    × ((g : ℕ) → g < l.bucket → EntriesAt l.settings (words l.store) g (named (decode (words l.store)) g) (get_or l.tables g 0))
-
-abbrev pub decreases-loop-bucket : goal.decreases-loop-bucket
-decreases-loop-bucket l = l.count - l.bucket
+    (length l.tables ≡ length l.initial.tables) × ((g : ℕ) → g < l.bucket → EntriesAt l.settings (words l.store) g (named (decode (words l.store)) g) (get_or l.tables g 0))
