@@ -16,7 +16,7 @@ ghost use Rattle.lent.specs.Stores.{StoreOf};
 ghost use Rattle.collect.specs.Collect.{Collects, idle_asks};
 
 use layout::sizes;
-use lent::{Answer, place};
+use lent::{Answer, place, proxy};
 use rules::constants;
 use rules::settings::Settings;
 
@@ -31,10 +31,7 @@ fn empty_or_up(store: &[u8], settings: Settings, place: usize) -> bool
     ensures { result ≡ (is_empty (decode (words store.now)) place
         or up_member (decode (words store.now)) ((decode (words store.now)).ids place)) }
 {
-    if place::id(store, settings, place) == 0 {
-        return true;
-    }
-    place::up_member(store, settings, place)
+    place::id(store, settings, place) == 0 || place::up_member(store, settings, place)
 }
 
 fn all_up(store: &[u8], settings: Settings) -> bool
@@ -42,29 +39,14 @@ fn all_up(store: &[u8], settings: Settings) -> bool
     ensures { result ≡ all_below settings.places (λ p. is_empty (decode (words store.now)) p
         or up_member (decode (words store.now)) ((decode (words store.now)).ids p)) }
 {
-    let mut place = 0;
-    while place < settings.places {
-        if !empty_or_up(store, settings, place) {
-            return false;
-        }
-        place += 1;
-    }
-    true
+    (0..settings.places).all(|place| empty_or_up(store, settings, place))
 }
 
 fn all_nothing_pending(store: &[u8], settings: Settings) -> bool
     requires { StoreOf settings store.now }
     ensures { result ≡ all_below (buckets settings) (λ g. nothing_pending ((decode (words store.now)).bucket g)) }
 {
-    let count = settings.buckets();
-    let mut bucket = 0;
-    while bucket < count {
-        if !pending::nothing_pending(store, settings, bucket) {
-            return false;
-        }
-        bucket += 1;
-    }
-    true
+    (0..settings.buckets()).all(|bucket| pending::nothing_pending(store, settings, bucket))
 }
 
 // Are there no items at any proxy?
@@ -72,15 +54,7 @@ fn no_items(store: &[u8], settings: Settings) -> bool
     requires { StoreOf settings store.now }
     ensures { result ≡ all_below proxies (λ p. eqb (length ((decode (words store.now)).items p)) 0) }
 {
-    let at = sizes::proxies_at(settings) + sizes::ITEMS_AT;
-    let mut proxy = 0;
-    while proxy < constants::PROXIES {
-        if words::read(store, at + proxy * sizes::PROXY_WORDS) != 0 {
-            return false;
-        }
-        proxy += 1;
-    }
-    true
+    (0..constants::PROXIES).all(|number| proxy::item_count(store, settings, number) == 0)
 }
 
 // All of them: 13 where one is answered no, else 0.

@@ -31,11 +31,9 @@ fn mark_table(store: &mut [u8], settings: Settings, at: usize, from: usize)
     ensures { words store.new ≡ marks settings at (names_in (words store.old) from) (words store.old) }
 {
     let n = words::read(store, from) as usize;
-    let mut i = 0;
-    while i < n {
+    for i in 0..n {
         let key = words::read(store, from + (2 + i * sizes::ENTRY_WORDS));
         mark_key(store, settings, at, key);
-        i += 1;
     }
 }
 
@@ -58,11 +56,8 @@ pub fn mark_tables(store: &mut [u8], settings: Settings, at: usize, tables: &[us
     ensures { words store.new
         ≡ marks settings at (named_first (words store.old) tables.now (buckets settings)) (words store.old) }
 {
-    let count = settings.buckets();
-    let mut bucket = 0;
-    while bucket < count {
-        mark_named(store, settings, at, tables[bucket]);
-        bucket += 1;
+    for from in tables {
+        mark_named(store, settings, at, *from);
     }
 }
 

@@ -1,25 +1,14 @@
-use mathlib.Core.Path.{sym, ◌∙◌}
-use native.Mathlib.Omega.{arith}
-use borrow.Author.Count.{below_more, below_none}
-use borrow.Author.Tests.{not-true, not-false}
-use Rattle.lists.proofs.Tests.{all_true, all_false}
-use borrow.Author.Rules.{rules}
+use Rattle.std.proofs.Common.{Bool, ℕ, refl, ◌∙◌, arith, rules, tests}
+use Rattle.std.proofs.lemmas.Iterator.{YieldsList-from_range}
+use Rattle.std.proofs.lemmas.Iterator.Search.{all_from_yields_List}
+use Rattle.words.specs.Words.{words}
+use Rattle.rules.specs.Derived.{nothing_pending}
+use Rattle.rules.specs.Limits.{buckets}
+use Rattle.layout.specs.Store.{decode}
+use Rattle.lent.proofs.Ranges.{all_range}
 use Rattle.collect.proofs.all_nothing_pending.Goals as goal
 
-pub loop-bucket-init : goal.loop-bucket-init
-loop-bucket-init c = (search rules, search rules, below_none _)
-
-pub returns-then-not-nothing_pending : goal.returns-then-not-nothing_pending
-returns-then-not-nothing_pending c =
-    sym (all_false _ _ c.loop-bucket.bucket (omega arith) (sym c.nothing_pending.ensures ∙ not-true _ c.if-not-nothing_pending.true-raw))
-
-pub loop-bucket-preserved : goal.loop-bucket-preserved
-loop-bucket-preserved c = (
-  search rules,
-  search rules,
-  below_more _ c.loop-bucket.bucket c.loop-bucket.invariant.2
-      (sym c.nothing_pending.ensures ∙ not-false _ c.if-not-nothing_pending.false-raw),
-)
-
 pub returns : goal.returns
-returns c = sym (all_true _ _ (λ k h. c.loop-bucket.invariant.2 k (omega arith)))
+returns c =
+    let test : ℕ → Bool = λ g. nothing_pending ((decode (words c.args.store.now)).bucket g) in
+    all_from_yields_List test _ _ _ c.all.ensures.ran (YieldsList-from_range 0 _ (buckets c.args.settings) refl (omega (arith, c.buckets.ensures))) (λ x b q k. search (rules, tests)) ∙ all_range test (buckets c.args.settings)

@@ -1,25 +1,14 @@
-use mathlib.Core.Path.{sym, ◌∙◌}
-use native.Mathlib.Omega.{arith}
-use borrow.Author.Count.{below_more, below_none}
-use borrow.Author.Tests.{not-true, not-false}
-use Rattle.lists.proofs.Tests.{all_true, all_false}
-use borrow.Author.Rules.{rules}
+use Rattle.std.proofs.Common.{Bool, ℕ, refl, ◌∙◌, arith, rules, tests}
+use Rattle.std.proofs.lemmas.Iterator.{YieldsList-from_range}
+use Rattle.std.proofs.lemmas.Iterator.Search.{all_from_yields_List}
+use Rattle.lists.specs.Tests.{◌or◌}
+use Rattle.words.specs.Words.{words}
+use Rattle.rules.specs.Derived.{is_empty, up_member}
+use Rattle.layout.specs.Store.{decode}
+use Rattle.lent.proofs.Ranges.{all_range}
 use Rattle.collect.proofs.all_up.Goals as goal
-
-pub loop-place-init : goal.loop-place-init
-loop-place-init c = (search rules, below_none _)
-
-pub returns-then-not-empty_or_up : goal.returns-then-not-empty_or_up
-returns-then-not-empty_or_up c =
-    sym (all_false _ _ c.loop-place.place (omega arith) (sym c.empty_or_up.ensures ∙ not-true _ c.if-not-empty_or_up.true-raw))
-
-pub loop-place-preserved : goal.loop-place-preserved
-loop-place-preserved c = (
-  search rules,
-  below_more _ c.loop-place.place c.loop-place.invariant.1
-      (sym c.empty_or_up.ensures ∙ not-false _ c.if-not-empty_or_up.false-raw),
-)
 
 pub returns : goal.returns
 returns c =
-    sym (all_true _ _ (λ k h. c.loop-place.invariant.1 k (omega arith)))
+    let test : ℕ → Bool = λ p. is_empty (decode (words c.args.store.now)) p or up_member (decode (words c.args.store.now)) ((decode (words c.args.store.now)).ids p) in
+    all_from_yields_List test _ _ _ c.all.ensures.ran (YieldsList-from_range 0 _ c.args.settings.places refl (omega arith)) (λ x b q k. search (rules, tests)) ∙ all_range test c.args.settings.places

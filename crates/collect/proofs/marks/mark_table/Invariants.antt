@@ -1,5 +1,4 @@
 use mathlib.Core.Path.{◌≡◌}
-use Prim.Native.Nat.{◌-◌, ◌≤◌}
 use lib.ListN.{length}
 use Rattle.words.specs.Words.{words}
 use Rattle.named.specs.Tables.{names_first}
@@ -8,7 +7,4 @@ use Rattle.collect.proofs.marks.mark_table.Given as goal
 
 abbrev pub invariant-loop-i : goal.invariant-loop-i
 invariant-loop-i l =
-    (l.i ≤ l.n) × (length l.store ≡ length l.initial.store) × (words l.store ≡ marks l.settings l.at (names_first (words l.initial.store) l.from l.i) (words l.initial.store))
-
-abbrev pub decreases-loop-i : goal.decreases-loop-i
-decreases-loop-i l = l.n - l.i
+    (length l.store ≡ length l.initial.store) × (words l.store ≡ marks l.settings l.at (names_first (words l.initial.store) l.from l.i) (words l.initial.store))

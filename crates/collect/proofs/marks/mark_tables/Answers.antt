@@ -10,11 +10,9 @@ use Rattle.collect.proofs.Marking.{marks_log, tables_start, table_still, tables_
 use borrow.Author.Rules.{rules}
 use Rattle.collect.proofs.marks.mark_tables.Goals as goal
 
-pub loop-bucket-init : goal.loop-bucket-init
-loop-bucket-init c =
+pub loop-from-init : goal.loop-from-init
+loop-from-init c =
     let a = c.args in (
-      search rules,
-      search rules,
       refl,
       tables_start a.settings a.at (words a.store.now) (length a.store.now) (room _ _ c.requires.log_in.inside) c.requires.log_in a.tables.now
           c.requires.tables_in,
@@ -25,25 +23,23 @@ mark_named-requires c =
     let a = c.args in
     let ws = words a.store.now in
     let h = room _ _ c.requires.log_in.inside in
-    rw (c.loop-bucket.invariant.2, c.loop-bucket.invariant.3) record {
+    rw (c.loop-from.invariant.0, c.loop-from.invariant.1) record {
       log_in = marks_log a.settings a.at ws (length a.store.now) h c.requires.log_in _;
-      table_in = table_still a.settings a.at ws (length a.store.now) h c.requires.log_in a.tables.now c.requires.tables_in c.loop-bucket.bucket c.loop-bucket.bucket
+      table_in = table_still a.settings a.at ws (length a.store.now) h c.requires.log_in a.tables.now c.requires.tables_in c.loop-from.from-index c.loop-from.from-index
           (omega arith);
     }
 
-pub loop-bucket-preserved : goal.loop-bucket-preserved
-loop-bucket-preserved c =
+pub loop-from-preserved : goal.loop-from-preserved
+loop-from-preserved c =
     let a = c.args in (
       search rules,
-      search rules,
-      search rules,
       tables_turn a.settings a.at (words a.store.now) (length a.store.now) (room _ _ c.requires.log_in.inside) c.requires.log_in a.tables.now c.requires.tables_in
-          c.loop-bucket.bucket _ _ (omega arith) c.loop-bucket.invariant.3 c.mark_named.ensures,
+          c.loop-from.from-index _ _ (omega arith) c.loop-from.invariant.1 c.mark_named.ensures,
     )
 
 pub returns : goal.returns
 returns c =
     let a = c.args in
     let ws = words a.store.now in
-    let e : c.loop-bucket.bucket ≡ buckets a.settings = omega arith in
-    c.loop-bucket.invariant.3 ∙ ap (λ (n : ℕ). marks a.settings a.at (named_first ws a.tables.now n) ws) e
+    let e : c.loop-from.from-index ≡ buckets a.settings = omega arith in
+    c.loop-from.invariant.1 ∙ ap (λ (n : ℕ). marks a.settings a.at (named_first ws a.tables.now n) ws) e
