@@ -37,20 +37,13 @@ fn answer_get(
     ensures { Replies number (step (decode_bytes store.now) (Event.get proxy block)) area.old result area.new
         store.now store.now }
 {
-    let size = settings.size;
     let blank = zero_block();
-    let mut code = 0;
-    let mut key = 0;
-    let bytes = reads::get(
-        store,
-        &blank[..size],
-        settings,
-        proxy,
-        block,
-        &mut code,
-        &mut key,
-    );
-    answers::write_answer(number, code, key, bytes, area)
+    match reads::get(store, &blank[..settings.size], settings, proxy, block) {
+        Ok(found) => answers::write_answer(number, 0, found.key, found.bytes, area),
+        Err(refusal) => {
+            answers::write_answer(number, u64::from(refusal), 0, &blank[0..0], area)
+        }
+    }
 }
 
 // The event of a kind is carried out, and its answer stands at the front of the area; the answer's length. Only a get looks at areas and shows bytes.

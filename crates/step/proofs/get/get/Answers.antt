@@ -34,8 +34,8 @@ returns-then-not-is_zero_block c =
     unlent_part c.args.store.now c.args.blank.now c.args.proxy c.args.block (checked) (below)
     (zero_block ∙ not-true _ c.if-not-is_zero_block.true-raw)
 
-pub get-bytes-requires : goal.get-bytes-requires
-get-bytes-requires c =
+pub get-requires : goal.get-requires
+get-requires c =
     (c.settings-settings.ensures, zeros_are _ _ (sym c.is_zero_block.ensures ∙ not-false _ c.if-not-is_zero_block.false-raw))
 
 pub returns : goal.returns
@@ -45,4 +45,4 @@ returns c =
     let below : Below 256 c.args.store.now = below_of 256 _ (λ i. omega (arith, c.type_inv.store i)) in
     let zero_block : is_zero_block (decode_bytes c.args.store.now).settings.size c.args.blank.now ≡ c.is_zero_block.result = ap (λ (n : ℕ). is_zero_block n c.args.blank.now) (sym (size_is _ c.args.store.now c.settings-settings.ensures)) ∙ sym c.is_zero_block.ensures in
     got_part c.args.store.now c.args.blank.now c.args.proxy c.args.block (checked) (below)
-    (zero_block ∙ not-false _ c.if-not-is_zero_block.false-raw) _ _ _ c.get-bytes.ensures
+    (zero_block ∙ not-false _ c.if-not-is_zero_block.false-raw) c.get.result c.get.ensures
