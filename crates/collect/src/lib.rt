@@ -8,6 +8,7 @@ ghost use Rattle.words.specs.Words.{words};
 ghost use Rattle.rules.specs.Limits.{buckets, proxies};
 ghost use Rattle.rules.specs.Event.{Event};
 ghost use Rattle.rules.specs.Derived.{is_empty, up_member, nothing_pending};
+ghost use Rattle.rules.specs.Refusals.{code_of};
 ghost use Rattle.rules.specs.Question.{first_no};
 ghost use Rattle.rules.specs.Upkeep.{collect_asks, collect_effect};
 ghost use Rattle.layout.specs.Store.{decode, render};
@@ -18,6 +19,7 @@ ghost use Rattle.collect.specs.Collect.{Collects, idle_asks};
 use layout::sizes;
 use lent::{Answer, place, proxy};
 use rules::constants;
+use rules::refusal::Refusal;
 use rules::settings::Settings;
 
 pub mod marks;
@@ -57,32 +59,30 @@ fn no_items(store: &[u8], settings: Settings) -> bool
     (0..constants::PROXIES).all(|number| proxy::item_count(store, settings, number) == 0)
 }
 
-// All of them: 13 where one is answered no, else 0.
-fn idle_asks(store: &[u8], settings: Settings) -> u64
+// All of them.
+fn idle_asks(store: &[u8], settings: Settings) -> Result<(), Refusal>
     requires { StoreOf settings store.now }
-    ensures { result ≡ first_no (idle_asks (decode (words store.now))) }
+    ensures { code_of result ≡ first_no (idle_asks (decode (words store.now))) }
 {
     if !all_up(store, settings) {
-        return 13;
+        return Err(Refusal::WrongState);
     }
     if !all_nothing_pending(store, settings) {
-        return 13;
+        return Err(Refusal::WrongState);
     }
     if no_items(store, settings) {
-        return 0;
+        Ok(())
+    } else {
+        Err(Refusal::WrongState)
     }
-    13
 }
 
-// The number of the first question that is answered no, or 0.
-fn asks(store: &[u8], settings: Settings, place: u64) -> u64
+// Refuses with the first question that is answered no.
+fn asks(store: &[u8], settings: Settings, place: u64) -> Result<(), Refusal>
     requires { StoreOf settings store.now }
-    ensures { result ≡ first_no (collect_asks (decode (words store.now)) place) }
+    ensures { code_of result ≡ first_no (collect_asks (decode (words store.now)) place) }
 {
-    let no = place::asks(store, settings, place);
-    if no != 0 {
-        return no;
-    }
+    place::asks(store, settings, place)?;
     idle_asks(store, settings)
 }
 
@@ -114,10 +114,7 @@ pub fn collect(store: &mut [u8], settings: Settings, place: u64) -> Answer
     requires { StoreOf settings store.old }
     ensures { Performs (Event.collect place) (words store.old) result (words store.new) }
 {
-    let no = asks(store, settings, place);
-    if no != 0 {
-        return Answer::No(no);
-    }
+    asks(store, settings, place)?;
     collect_log(store, settings, place as usize);
-    Answer::Yes(0)
+    Ok(0)
 }

@@ -1,4 +1,5 @@
 use mathlib.Core.Path.{refl, sym, ap, ◌∙◌}
+use Rattle.std.proofs.lemmas.Result.{err_from_is_err_and}
 use Rattle.lists.specs.Tests.{◌and◌, all_below}
 use Rattle.words.specs.Words.{words}
 use Rattle.rules.specs.declared.settings.Settings.{Settings}
@@ -15,10 +16,11 @@ use Rattle.lent.proofs.Places.{place_yes}
 use Rattle.lent.proofs.Stores.{settings_are}
 use Rattle.collect.proofs.collect.Goals as goal
 
-pub returns-then-no-ne0 : goal.returns-then-no-ne0
+pub returns-in_err-asks : goal.returns-in_err-asks
 unfolding rule
-returns-then-no-ne0 c =
-    refused (Event.collect c.args.place) (words c.args.store.now) c.requires.sound _ c.asks-no.ensures c.if-no-ne0.true
+returns-in_err-asks c =
+    let p = err_from_is_err_and c.from_residual.result c.from_residual.ensures.1 in
+    rw (p.1, p.2) (refused (Event.collect c.args.place) (words c.args.store.now) c.requires.sound _ c.in_err-asks.ensures)
 
 pub collect_log-requires : goal.collect_log-requires
 unfolding ◌and◌
@@ -26,7 +28,7 @@ collect_log-requires c =
     let k = c.args.settings in
     let bs = c.args.store.now in
     let s = decode (words bs) in
-    let none = sym c.asks-no.ensures ∙ c.if-no-ne0.false in
+    let none = sym c.in_ok-asks.ensures in
     let y = place_yes k bs c.requires c.args.place (front_none (place_asks s c.args.place) _ none) in
     record {
       store = c.requires;
@@ -38,7 +40,4 @@ collect_log-requires c =
 
 pub returns : goal.returns
 unfolding rule
-returns c =
-    let done = c.collect_log in
-    accepted (Event.collect c.args.place) (words c.args.store.now) (words done.new.store) (sym c.asks-no.ensures ∙ c.if-no-ne0.false)
-    done.ensures
+returns c = accepted (Event.collect c.args.place) (words c.args.store.now) (words c.collect_log.new.store) (sym c.in_ok-asks.ensures) c.collect_log.ensures
