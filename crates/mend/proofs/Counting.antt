@@ -104,6 +104,16 @@ pub bucket_few : (s : State) (id base g i inside beyond : ℕ) → InBucket s id
 bucket_few s id base g i inside beyond n =
     (omega (arith, n.here, count_at_most i (adds_inside s id base g)), omega (arith, n.far, count_at_most i (lacks_beyond s id base g)))
 
+-- the same of an entry whose key was read where its bucket's table lies
+pub entry_counted : (c : Settings) (bs tables : List ℕ) (h : AllNamed c bs tables) (g : ℕ) (p : g < buckets c) (id base n : ℕ) → CountAt (get_or tables g 0) (words bs) n
+    → (i key : ℕ) → i < n → key ≡ get_or (words bs) (get_or tables g 0 + (2 + i * 2)) 0 → (flags after : List ℕ) (inside beyond x y : ℕ)
+    → Meets c (decode (words bs)) id base key flags after x y → Met c (decode (words bs)) id base (before (decode (words bs)) g i) flags
+    → InBucket (decode (words bs)) id base g i inside beyond
+    → InBucket (decode (words bs)) id base g (i + 1) (inside + x) (beyond + y) × Met c (decode (words bs)) id base (before (decode (words bs)) g (i + 1)) after
+entry_counted c bs tables h g p id base n k i key l e flags after inside beyond x y m met sums =
+    let q : i < length (named (decode (words bs)) g) = omega (arith, bucket_count c bs tables h g p n k) in
+    entry_turn c (decode (words bs)) id base g i key flags after inside beyond x y q (e ∙ key_is c bs tables h g p i q) m met sums
+
 -- a log has as many chunks as its count says
 pub log_count : (c : Settings) (part : List ℕ) (l : List Chunk) → LogPart c l part → (n : ℕ) → n ≡ get_or (words part) 0 0 → n ≡ length l
 log_count c part l h n e =

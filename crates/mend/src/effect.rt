@@ -43,10 +43,8 @@ fn bring(
     ensures { words store.new
         ≡ with_log_at settings place (key_mended place key.0 (words store.old)) (words store.old) }
 {
-    moves::copy_bytes(
-        area,
-        holders::chunk(store, settings, source.place, source.row),
-    );
+    let Location { place: home, row } = source;
+    moves::copy_bytes(area, holders::chunk(store, settings, home, row));
     let Span { from, to } = place::span_of(settings, place);
     chunk::append_saved(&mut store[from..to], settings, key, area);
 }
@@ -73,11 +71,9 @@ fn mend_table(store: &mut [u8], settings: Settings, place: usize, from: usize, a
         ≡ with_log_at settings place (table_mended settings place from (words store.old)) (words store.old) }
 {
     let n = words::read(store, from) as usize;
-    let mut i = 0;
-    while i < n {
+    for i in 0..n {
         let key = words::read(store, from + (2 + i * sizes::ENTRY_WORDS));
         mend_key(store, settings, place, ChunkKey(key), area);
-        i += 1;
     }
 }
 
@@ -104,10 +100,7 @@ pub fn mend_all(
     ensures { words store.new
         ≡ render (mend_effect (decode (words store.old)) ((decode (words store.old)).ids place)) (words store.old) }
 {
-    let count = settings.buckets();
-    let mut bucket = 0;
-    while bucket < count {
-        mend_named(store, settings, place, tables[bucket], area);
-        bucket += 1;
+    for from in tables {
+        mend_named(store, settings, place, *from, area);
     }
 }

@@ -131,13 +131,11 @@ fn count_in(
     let n = count_at(store, settings, from);
     let mut inside = 0;
     let mut beyond = 0;
-    let mut i = 0;
-    while i < n {
+    for i in 0..n {
         let key = ChunkKey(words::read(store, from + (2 + i * sizes::ENTRY_WORDS)));
         let count = count_key(store, settings, place, key, base, flags);
         inside += count.inside;
         beyond += count.beyond;
-        i += 1;
     }
     Count { inside, beyond }
 }
@@ -156,15 +154,12 @@ fn count_all(
     ensures { InAll (decode (words store.now)) ((decode (words store.now)).ids place) base (buckets settings)
         result.inside result.beyond }
 {
-    let n = settings.buckets();
     let mut inside = 0;
     let mut beyond = 0;
-    let mut bucket = 0;
-    while bucket < n {
+    for bucket in 0..settings.buckets() {
         let count = count_in(store, settings, place, tables, bucket, base, flags);
         inside += count.inside;
         beyond += count.beyond;
-        bucket += 1;
     }
     Count { inside, beyond }
 }
@@ -192,6 +187,7 @@ fn at_most(store: &[u8], settings: Settings, place: usize, tables: &[usize], roo
 {
     let mut count = 0;
     let mut base = 0;
+    // stays: a while, for it ends by what is counted; a range of parts would need a last one, and a count of them.
     while count <= room {
         let part = count_part(store, settings, place, tables, base);
         count += part.inside;
@@ -209,12 +205,9 @@ fn named_count(store: &[u8], settings: Settings, tables: &[usize]) -> usize
     requires { AllNamed settings store.now tables.now }
     ensures { result ≡ named_below (decode (words store.now)) (buckets settings) }
 {
-    let n = settings.buckets();
     let mut count = 0;
-    let mut bucket = 0;
-    while bucket < n {
-        count += count_at(store, settings, tables[bucket]);
-        bucket += 1;
+    for from in tables {
+        count += count_at(store, settings, *from);
     }
     count
 }

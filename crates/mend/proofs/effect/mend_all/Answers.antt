@@ -5,41 +5,34 @@ use Rattle.mend.proofs.AllBuckets.{buckets_start, buckets_end, bucket_mends, buc
 use borrow.Author.Rules.{rules}
 use Rattle.mend.proofs.effect.mend_all.Goals as goal
 
-pub loop-bucket-init : goal.loop-bucket-init
-loop-bucket-init c =
+pub loop-from-init : goal.loop-from-init
+loop-from-init c =
     let a = c.args in (
-      search rules,
-      search rules,
       refl,
       c.requires.1,
       buckets_start a.settings a.store.now a.place a.tables.now c.requires.0 (below_of 256 a.store.now (λ i. (c.type_inv.store i).fits)),
     )
 
-pub bounds-tables-bucket : goal.bounds-tables-bucket
-bounds-tables-bucket c = omega (arith, c.requires.0.known.many)
-
 pub mend_named-requires : goal.mend_named-requires
 mend_named-requires c =
     let a = c.args in (
-      bucket_mends a.settings a.store.now a.place a.tables.now c.requires.0 c.loop-bucket.bucket (omega arith) _ c.loop-bucket.invariant.2 c.loop-bucket.invariant.4,
-      c.loop-bucket.invariant.3,
+      bucket_mends a.settings a.store.now a.place a.tables.now c.requires.0 c.loop-from.from-index (omega arith) _ c.loop-from.invariant.0 c.loop-from.invariant.2,
+      c.loop-from.invariant.1,
     )
 
-pub loop-bucket-preserved : goal.loop-bucket-preserved
-loop-bucket-preserved c =
+pub loop-from-preserved : goal.loop-from-preserved
+loop-from-preserved c =
     let a = c.args in (
       search rules,
       search rules,
-      search rules,
-      search rules,
-      buckets_turn a.settings a.store.now a.place a.tables.now c.requires.0 c.loop-bucket.bucket (omega arith) _ c.loop-bucket.invariant.2 c.loop-bucket.invariant.4 _
+      buckets_turn a.settings a.store.now a.place a.tables.now c.requires.0 c.loop-from.from-index (omega arith) _ c.loop-from.invariant.0 c.loop-from.invariant.2 _
           c.mend_named.ensures,
     )
 
 pub shape_of-area : goal.shape_of-area
-shape_of-area c = c.loop-bucket.invariant.3 ∙ sym c.requires.1
+shape_of-area c = c.loop-from.invariant.1 ∙ sym c.requires.1
 
 pub returns : goal.returns
 returns c =
     let a = c.args in
-    buckets_end a.settings a.store.now a.place a.tables.now c.requires.0 c.loop-bucket.bucket _ (omega arith) c.loop-bucket.invariant.4
+    buckets_end a.settings a.store.now a.place a.tables.now c.requires.0 c.loop-from.from-index _ (omega arith) c.loop-from.invariant.2

@@ -18,7 +18,6 @@ read-n-requires c =
 pub loop-i-init : goal.loop-i-init
 loop-i-init c =
     let a = c.args in (
-      search rules,
       refl,
       c.requires.1,
       rows_start a.settings a.store.now a.place a.from c.requires.0 (below_of 256 a.store.now (λ i. (c.slice_known-1.given i).fits)),
@@ -51,9 +50,9 @@ read-key-requires c =
 pub mend_key-requires : goal.mend_key-requires
 mend_key-requires c =
     let a = c.args in (
-      row_mends a.settings a.store.now a.place a.from c.requires.0 c.loop-i.i (omega arith) _ c.loop-i.invariant.1 c.loop-i.invariant.3 _
+      row_mends a.settings a.store.now a.place a.from c.requires.0 c.loop-i.i (omega arith) _ c.loop-i.invariant.0 c.loop-i.invariant.2 _
           c.read-key.ensures,
-      c.loop-i.invariant.2,
+      c.loop-i.invariant.1,
     )
 
 pub loop-i-preserved : goal.loop-i-preserved
@@ -61,17 +60,16 @@ loop-i-preserved c =
     let a = c.args in (
       search rules,
       search rules,
-      search rules,
-      rows_turn a.settings a.store.now a.place a.from c.requires.0 c.loop-i.i (omega arith) _ c.loop-i.invariant.1 c.loop-i.invariant.3 _
+      rows_turn a.settings a.store.now a.place a.from c.requires.0 c.loop-i.i (omega arith) _ c.loop-i.invariant.0 c.loop-i.invariant.2 _
           c.read-key.ensures _ c.mend_key.ensures,
     )
 
 pub shape_of-area : goal.shape_of-area
-shape_of-area c = c.loop-i.invariant.2 ∙ sym c.requires.1
+shape_of-area c = c.loop-i.invariant.1 ∙ sym c.requires.1
 
 pub returns : goal.returns
 returns c =
     let a = c.args in
-    c.loop-i.invariant.3
+    c.loop-i.invariant.2
     ∙ ap (λ (k : List Chunk). with_log_at a.settings a.place k (words a.store.now))
     (rows_end a.settings a.store.now a.place a.from c.requires.0 c.loop-i.i (omega (arith, c.read-n.ensures)))

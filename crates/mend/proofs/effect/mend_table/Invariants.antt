@@ -1,5 +1,4 @@
 use mathlib.Core.Path.{◌≡◌}
-use Prim.Native.Nat.{◌-◌, ◌≤◌}
 use lib.ListN.{length, take}
 use Rattle.words.specs.Words.{words}
 use Rattle.rules.specs.Upkeep.{mend_keys}
@@ -9,11 +8,8 @@ use Rattle.mend.proofs.effect.mend_table.Given as goal
 
 abbrev pub invariant-loop-i : goal.invariant-loop-i
 invariant-loop-i l =
-    (l.i ≤ l.n) × (length l.store ≡ length l.initial.store) × (length l.area ≡ l.settings.size)
+    (length l.store ≡ length l.initial.store) × (length l.area ≡ l.settings.size)
     × (words l.store
     ≡ with_log_at l.settings l.place
     (mend_keys (decode (words l.initial.store)) ((decode (words l.initial.store)).ids l.place) (log_of l.place (words l.initial.store)) (take l.i (table_of l.settings l.from (words l.initial.store))))
     (words l.initial.store))
-
-abbrev pub decreases-loop-i : goal.decreases-loop-i
-decreases-loop-i l = l.n - l.i

@@ -1,7 +1,4 @@
-use mathlib.Core.Path.{◌≡◌}
-use Prim.Native.Nat.{◌-◌, ◌≤◌}
 use Rattle.words.specs.Words.{words}
-use Rattle.rules.specs.Limits.{buckets}
 use Rattle.layout.specs.Store.{decode}
 use Rattle.mend.specs.Keys.{before}
 use Rattle.mend.specs.Flags.{Met}
@@ -10,8 +7,5 @@ use Rattle.mend.proofs.room.count_all.Given as goal
 
 abbrev pub invariant-loop-bucket : goal.invariant-loop-bucket
 invariant-loop-bucket l =
-    (l.bucket ≤ l.n) × (l.n ≡ buckets l.settings) × InAll (decode (words l.store)) ((decode (words l.store)).ids l.place) l.base l.bucket l.inside l.beyond
+    InAll (decode (words l.store)) ((decode (words l.store)).ids l.place) l.base l.bucket l.inside l.beyond
     × Met l.settings (decode (words l.store)) ((decode (words l.store)).ids l.place) l.base (before (decode (words l.store)) l.bucket 0) l.flags
-
-abbrev pub decreases-loop-bucket : goal.decreases-loop-bucket
-decreases-loop-bucket l = l.n - l.bucket

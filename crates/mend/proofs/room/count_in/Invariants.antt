@@ -1,4 +1,3 @@
-use Prim.Native.Nat.{◌-◌, ◌≤◌}
 use Rattle.words.specs.Words.{words}
 use Rattle.layout.specs.Store.{decode}
 use Rattle.mend.specs.Keys.{before}
@@ -8,8 +7,5 @@ use Rattle.mend.proofs.room.count_in.Given as goal
 
 abbrev pub invariant-loop-i : goal.invariant-loop-i
 invariant-loop-i l =
-    (l.i ≤ l.n) × InBucket (decode (words l.store)) ((decode (words l.store)).ids l.place) l.base l.bucket l.i l.inside l.beyond
+    InBucket (decode (words l.store)) ((decode (words l.store)).ids l.place) l.base l.bucket l.i l.inside l.beyond
     × Met l.settings (decode (words l.store)) ((decode (words l.store)).ids l.place) l.base (before (decode (words l.store)) l.bucket l.i) l.flags
-
-abbrev pub decreases-loop-i : goal.decreases-loop-i
-decreases-loop-i l = l.n - l.i
