@@ -10,30 +10,6 @@ use Rattle.answers.proofs.put_end.Goals as goal
 
 -- `answers::put_end` meets its contract.
 
-pub put-requires-2 : goal.put-requires-2
-put-requires-2 c =
-    let a = c.args in
-    omega (
-      arith,
-      data_short
-          a.«data».now,
-      c.requires,
-      c.put_data-end.ensures.0,
-      c.put_data-end.auto.area,
-      c.put.auto.area,
-    )
-
-pub overflow_add-result : goal.overflow_add-result
-overflow_add-result c =
-    let a = c.args in
-    omega (
-      arith,
-      data_short
-          a.«data».now,
-      c.requires,
-      c.put_data-end.ensures.0,
-    )
-
 pub returns : goal.returns
 returns c =
     let a = c.args in

@@ -13,55 +13,6 @@ use Rattle.answers.proofs.write_answer.Goals as goal
 
 -- `answers::write_answer` meets its contract.
 
-pub write-first-requires : goal.write-first-requires
-write-first-requires c =
-    omega (arith, c.requires, decimal_most c.args.number)
-
-pub put_number-second-requires : goal.put_number-second-requires
-put_number-second-requires c =
-    omega (
-      arith,
-      c.requires,
-      decimal_most c.args.number,
-      decimal_most
-          c.args.code,
-      c.write-first.ensures.0,
-      c.write-first.auto.area,
-    )
-
-pub put_number-third-requires : goal.put_number-third-requires
-put_number-third-requires c =
-    let a = c.args in
-    let kept = c.put_number-second.auto.line in
-    let before = c.write-first.auto.area in
-    omega (
-      arith,
-      c.requires,
-      decimal_most a.number,
-      decimal_most a.code,
-      decimal_most
-          a.key,
-      c.write-first.ensures.0,
-      c.put_number-second.ensures.0,
-    )
-
-pub put_end-requires : goal.put_end-requires
-put_end-requires c =
-    let a = c.args in
-    let kept = c.put_number-third.auto.line in
-    let before = c.put_number-second.auto.line in
-    let first = c.write-first.auto.area in
-    omega (
-      arith,
-      c.requires,
-      decimal_most a.number,
-      decimal_most a.code,
-      decimal_most a.key,
-      c.write-first.ensures.0,
-      c.put_number-second.ensures.0,
-      c.put_number-third.ensures.0,
-    )
-
 pub returns : goal.returns
 returns c =
     let a = c.args in
