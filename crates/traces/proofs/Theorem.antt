@@ -1,7 +1,7 @@
 -- The theorem of the trace: the machine says the trace of its input, whatever pieces that comes in.
 use mathlib.Core.Path.{◌≡◌, refl, sym, ap, ◌∙◌}
 use mathlib.Core.List.{List, [], ◌∷◌, ◌++◌, append_assoc, append-nil}
-use mathlib.Core.Option.{Option, some, none}
+use Rattle.std.specs.Prelude.{Option, Some, None}
 use Prim.Native.Nat.{ℕ, ◌+◌}
 use native.Mathlib.Omega.{arith}
 use lib.Dec.{eqb}
@@ -25,7 +25,7 @@ use Rattle.traces.proofs.Machine.{feed_append}
 -- ---- a cut line is answered as the whole line is
 kept_event : (S : ℕ) (l : List ℕ) → event_in S (kept_bytes l) ≡ event_in S l
 unfolding event_in read_event
-kept_event S l = ap (λ (o : Option EventFields). event_or_unknown (and_then o (λ p. some (event_of p)))) (kept_fields S l)
+kept_event S l = ap (λ (o : Option EventFields). event_or_unknown (and_then o (λ p. Some (event_of p)))) (kept_fields S l)
 
 kept_said : (p : Phase) (l : List ℕ) → line_said p (kept_bytes l) ≡ line_said p l
 unfolding line_said
@@ -84,8 +84,8 @@ silent (l ∷ ls) = silent ls
 
 by_settings : (o : Option Settings) (ls : List (List ℕ)) → settings_said o ++ in_phase (settings_next o) ls ≡ with_settings o ls
 unfolding with_settings
-by_settings none ls = ap (λ (t : List ℕ). refused ++ t) (silent ls) ∙ append-nil refused
-by_settings (some c) ls =
+by_settings None ls = ap (λ (t : List ℕ). refused ++ t) (silent ls) ∙ append-nil refused
+by_settings (Some c) ls =
     by (can_trace c) (λ y. rw y (run_answers ls 1 _)) (λ n. rw n (ap (λ (t : List ℕ). refused ++ t) (silent ls) ∙ append-nil refused))
 
 from_opening : (ls : List (List ℕ)) → in_phase opening ls ≡ trace_lines ls

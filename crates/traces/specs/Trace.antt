@@ -1,7 +1,6 @@
 -- The trace: from the bytes that are read to the bytes that are written. The settings line (N,S,M,L) and the lines of events come in; a header goes out, and
 -- an answer to each event.
-use Rattle.std.specs.Prelude.{List, [], ◌∷◌, ◌++◌, Bool, cond, ℕ, ◌+◌, leb}
-use Rattle.std.proofs.Math.Option.{Option, some, none}
+use Rattle.std.specs.Prelude.{List, [], ◌∷◌, ◌++◌, Bool, cond, ℕ, ◌+◌, leb, Option, Some, None}
 use Rattle.lists.specs.Tests.{◌and◌}
 use Rattle.rules.specs.declared.settings.Settings.{Settings}
 use Rattle.rules.specs.Limits.{in_limits}
@@ -27,8 +26,8 @@ refused = answer_line 0 1 0 []
 
 -- ---- an event
 abbrev pub event_or_unknown : Option Event → Event
-event_or_unknown none = Event.unknown
-event_or_unknown (some e) = e
+event_or_unknown None = Event.unknown
+event_or_unknown (Some e) = e
 
 -- the event of a line, where blocks have S bytes; a line that is no event is one that question 3 refuses
 unfoldable pub event_in : ℕ → List ℕ → Event
@@ -48,8 +47,8 @@ answers number s [] = []
 answers number s (l ∷ ls) = answer_text number (outcome s l) ++ answers (number + 1) (outcome s l).after ls
 
 unfoldable pub with_settings : Option Settings → List (List ℕ) → List ℕ
-with_settings none ls = refused
-with_settings (some c) ls = cond (can_trace c) (answers 1 (format c) ls) refused
+with_settings None ls = refused
+with_settings (Some c) ls = cond (can_trace c) (answers 1 (format c) ls) refused
 
 unfoldable pub trace_lines : List (List ℕ) → List ℕ
 trace_lines [] = refused
