@@ -12,3 +12,4 @@ pub mod Clean
 pub mod Check
 pub mod Bytes
 pub mod Lent
+pub mod Each
