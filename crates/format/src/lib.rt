@@ -15,7 +15,7 @@ ghost use Rattle.layout.specs.Store.{render, store_bytes};
 ghost use Rattle.records.specs.Records.{agreed_of, status_of};
 ghost use Rattle.format.specs.First.{first_agreed, agreed_in, new_brick, first_place};
 
-use layout::sizes;
+use layout::{lend, sizes};
 use records::agreed::Agreed;
 use records::head::Head;
 use records::status::Status;
@@ -55,12 +55,9 @@ fn bucket_records(s: &mut [u8], settings: Settings, assigned: &[u64])
     requires { (length s.old ≡ 8 * (buckets settings * agreed_words)) × (length assigned.now ≡ 2 * buckets settings) }
     ensures { words s.new ≡ (all_agreed_codec settings).enc (agreed_in assigned.now) (words s.old) }
 {
-    let count = settings.buckets();
-    for g in 0..count {
-        let at = 8 * words::offset(g, sizes::AGREED_WORDS, count);
-        let agreed = first_agreed(assigned[2 * g], assigned[2 * g + 1]);
-        records::agreed::write(&mut s[at..at + 8 * sizes::AGREED_WORDS], agreed);
-    }
+    lend::each_part(s, sizes::AGREED_WORDS, settings.buckets(), |g, part| {
+        records::agreed::write(part, first_agreed(assigned[2 * g], assigned[2 * g + 1]));
+    });
 }
 
 // All proxies, blank.
@@ -68,10 +65,9 @@ fn proxies(s: &mut [u8])
     requires { length s.old ≡ 8 * all_proxies_codec.size }
     ensures { words s.new ≡ all_proxies_codec.enc (λ p. blank_proxy) (words s.old) }
 {
-    for p in 0..constants::PROXIES {
-        let at = 8 * words::offset(p, sizes::PROXY_WORDS, constants::PROXIES);
-        records::proxy::clear(&mut s[at..at + 8 * sizes::PROXY_WORDS]);
-    }
+    lend::each_part(s, sizes::PROXY_WORDS, constants::PROXIES, |_, part| {
+        records::proxy::clear(part);
+    });
 }
 
 // A bucket's two copies, empty.
@@ -88,12 +84,14 @@ fn all_copies(s: &mut [u8], settings: Settings)
     requires { Limits settings × (length s.old ≡ 8 * (buckets settings * copies_words settings)) }
     ensures { words s.new ≡ (all_copies_codec settings).enc (λ g. blank_copies) (words s.old) }
 {
-    let count = settings.buckets();
-    let size = sizes::copies_words(settings);
-    for g in 0..count {
-        let at = 8 * words::offset(g, size, count);
-        copies(&mut s[at..at + 8 * size], settings);
-    }
+    lend::each_part(
+        s,
+        sizes::copies_words(settings),
+        settings.buckets(),
+        |_, part| {
+            copies(part, settings);
+        },
+    );
 }
 
 // A place with a brick that holds nothing yet.
@@ -114,19 +112,21 @@ fn places(s: &mut [u8], settings: Settings)
     requires { Limits settings × (length s.old ≡ 8 * (settings.places * place_words settings)) }
     ensures { words s.new ≡ (all_places_codec settings).enc first_place (words s.old) }
 {
-    let count = settings.places;
-    let size = sizes::place_words(settings);
-    for p in 0..count {
-        let at = 8 * words::offset(p, size, count);
-        let status = Status {
-            up: true,
-            member: true,
-            began: true,
-            next: 0,
-            ceiling: 0,
-        };
-        place(&mut s[at..at + 8 * size], settings, p as u64 + 1, status);
-    }
+    let status = Status {
+        up: true,
+        member: true,
+        began: true,
+        next: 0,
+        ceiling: 0,
+    };
+    lend::each_part(
+        s,
+        sizes::place_words(settings),
+        settings.places,
+        |p, part| {
+            place(part, settings, p as u64 + 1, status);
+        },
+    );
 }
 
 // The first state, with the pairs in the assignments.
