@@ -1,5 +1,5 @@
-// The copies of a place: where they lie in the store, and those in memory and on disk made the same.
-ghost use Rattle.std.specs.Prelude.{◌≡◌, ◌+◌, ◌≤◌, ◌<◌, length};
+// The copies of a place: where they lie in the store, and those in memory saved on disk or restored from it.
+ghost use Rattle.std.specs.Prelude.{true, false, ◌≡◌, ◌+◌, ◌≤◌, ◌<◌, length};
 ghost use Rattle.words.specs.Words.{words};
 ghost use Rattle.rules.specs.Limits.{buckets};
 ghost use Rattle.rules.specs.Limits.{Limits};
@@ -8,7 +8,7 @@ ghost use Rattle.layout.specs.Layout.{copies_codec, all_copies_codec, copy_words
 ghost use Rattle.lent.specs.Parts.{CopiesFit, AllCopiesFit, matched, all_matched};
 
 use crate::place;
-use layout::sizes;
+use layout::{lend, sizes};
 use rules::settings::Settings;
 
 // The word at which a place's copy of a bucket in memory begins.
@@ -27,28 +27,48 @@ pub fn disk_at(settings: Settings, place: usize, bucket: usize) -> usize
     sizes::place_at(settings, place) + place::disk_at(settings, bucket)
 }
 
-// A bucket's two copies become the same: what is in memory goes to disk, or what is on disk to memory.
-fn match_two(copies: &mut [u8], settings: Settings, saving: bool)
+// A bucket's copy in memory goes to disk.
+fn save(copies: &mut [u8], settings: Settings)
     requires { CopiesFit settings (words copies.old) (length copies.old) }
-    ensures { words copies.new ≡ change (copies_codec settings) (matched saving) (words copies.old) }
+    ensures { words copies.new ≡ change (copies_codec settings) (matched true) (words copies.old) }
 {
-    let disk = sizes::copy_words(settings);
-    if saving {
-        entries::copy(copies, 0, disk, settings.entries);
-        return;
-    }
-    entries::copy(copies, disk, 0, settings.entries);
+    entries::copy(copies, 0, sizes::copy_words(settings), settings.entries);
 }
 
 // Every bucket's.
-pub fn match_all(copies: &mut [u8], settings: Settings, saving: bool)
+pub fn save_all(copies: &mut [u8], settings: Settings)
     requires { AllCopiesFit settings (words copies.old) (length copies.old) }
-    ensures { words copies.new ≡ change (all_copies_codec settings) (all_matched saving) (words copies.old) }
+    ensures { words copies.new ≡ change (all_copies_codec settings) (all_matched true) (words copies.old) }
 {
-    let count = settings.buckets();
-    let size = sizes::copies_words(settings);
-    for bucket in 0..count {
-        let at = 8 * words::offset(bucket, size, count);
-        match_two(&mut copies[at..at + 8 * size], settings, saving);
-    }
+    lend::each_part(
+        copies,
+        sizes::copies_words(settings),
+        settings.buckets(),
+        |_, part| {
+            save(part, settings);
+        },
+    );
+}
+
+// A bucket's copy on disk comes back to memory.
+fn restore(copies: &mut [u8], settings: Settings)
+    requires { CopiesFit settings (words copies.old) (length copies.old) }
+    ensures { words copies.new ≡ change (copies_codec settings) (matched false) (words copies.old) }
+{
+    entries::copy(copies, sizes::copy_words(settings), 0, settings.entries);
+}
+
+// Every bucket's.
+pub fn restore_all(copies: &mut [u8], settings: Settings)
+    requires { AllCopiesFit settings (words copies.old) (length copies.old) }
+    ensures { words copies.new ≡ change (all_copies_codec settings) (all_matched false) (words copies.old) }
+{
+    lend::each_part(
+        copies,
+        sizes::copies_words(settings),
+        settings.buckets(),
+        |_, part| {
+            restore(part, settings);
+        },
+    );
 }

@@ -19,7 +19,7 @@ fn save_place(part: &mut [u8], settings: Settings)
     ensures { words part.new ≡ change (place_codec settings) saved (words part.old) }
 {
     let end = 8 * sizes::log_at(settings);
-    copies::match_all(&mut part[8 * sizes::COPIES_AT..end], settings, true);
+    copies::save_all(&mut part[8 * sizes::COPIES_AT..end], settings);
 }
 
 pub fn savemap(store: &mut [u8], settings: Settings, place: u64) -> Answer

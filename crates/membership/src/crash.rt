@@ -51,7 +51,7 @@ fn crash_place(part: &mut [u8], settings: Settings)
     };
     records::place::write_status(part, settings, new);
     words::write(part, sizes::BUFFER_AT, 0);
-    copies::match_all(&mut part[8 * sizes::COPIES_AT..log], settings, false);
+    copies::restore_all(&mut part[8 * sizes::COPIES_AT..log], settings);
     sweep::keep_saved(
         &mut part[log..end],
         settings.chunks,

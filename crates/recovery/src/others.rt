@@ -7,7 +7,7 @@ ghost use Rattle.layout.specs.Layout.{place_codec, all_places_codec};
 ghost use Rattle.lent.specs.Places.{CleanPlace, CleanPlaces};
 ghost use Rattle.recovery.specs.Ready.{emptied, dropped_copies};
 
-use layout::sizes;
+use layout::{lend, sizes};
 use lent::place;
 use rules::settings::Settings;
 
@@ -45,16 +45,12 @@ pub fn drop_all(part: &mut [u8], settings: Settings, bucket: usize, primary: u64
     ensures { words part.new
         ≡ change (all_places_codec settings) (λ places p. dropped_copies bucket primary backup (places p)) (words part.old) }
 {
-    let count = settings.places;
-    let size = sizes::place_words(settings);
-    for place in 0..count {
-        let at = 8 * words::offset(place, size, count);
-        drop_at(
-            &mut part[at..at + 8 * size],
-            settings,
-            bucket,
-            primary,
-            backup,
-        );
-    }
+    lend::each_part(
+        part,
+        sizes::place_words(settings),
+        settings.places,
+        |_, place| {
+            drop_at(place, settings, bucket, primary, backup);
+        },
+    );
 }

@@ -16,7 +16,7 @@ use Rattle.lent.proofs.PlaceSteps.{all_copies_of, copies_fit, log_fits, step_cha
 use Rattle.membership.specs.Places.{fallen, restored, crashed}
 use Rattle.membership.proofs.CrashSteps.{unbuffered, buffer_step}
 use Rattle.membership.proofs.crash.crash_place.Goals as goal
-use Rattle.membership.proofs.crash.crash_place.Goals.{After-match_all, After-write}
+use Rattle.membership.proofs.crash.crash_place.Goals.{After-restore_all, After-write}
 
 -- bytes v are the part with its place changed by f
 record Now (settings : Settings) (part : List ℕ) (f : Place → Place) (v : List ℕ) : Type 0 where
@@ -34,26 +34,26 @@ emptied c =
     }
 
 -- and the copies
-abbrev restored_bytes : After-match_all → List ℕ
+abbrev restored_bytes : After-restore_all → List ℕ
 restored_bytes c =
     let v = c.write.new.s in
     let from = 8 * all_copies_at in
-    take from v ++ (c.match_all.new.copies ++ drop (8 * c.log_at-log.result - from) (drop from v))
+    take from v ++ (c.restore_all.new.copies ++ drop (8 * c.log_at-log.result - from) (drop from v))
 
-matched : (c : After-match_all) → Now c.args.settings c.args.part.now unbuffered c.write.new.s
+matched : (c : After-restore_all) → Now c.args.settings c.args.part.now unbuffered c.write.new.s
     → let old = (place_codec c.args.settings).dec (words c.args.part.now) in
     words (restored_bytes c) ≡ (place_codec c.args.settings).enc (restored old) (words c.args.part.now)
 matched c before =
     let t = c.args.settings in
     let old = (place_codec t).dec (words c.args.part.now) in
-    let done = c.match_all in
+    let done = c.restore_all in
     step_changed t c.args.part.now c.requires (unbuffered old) _ before.same before.long (8 * all_copies_at) (8 * c.log_at-log.result)
     (all_copies_of t) ((refl, c.requires.filled), ((refl, refl), refl)) refl refl (omega (arith, c.log_at-log.ensures)) (restored old)
     ((refl, c.requires.filled), ((refl, refl), refl)) (all_matched false) refl done.new.copies done.auto.copies done.ensures
 
-pub match_all-requires : goal.match_all-requires
-match_all-requires c =
-    let before = emptied (goal.at.match_all-requires c).After-write in
+pub restore_all-requires : goal.restore_all-requires
+restore_all-requires c =
+    let before = emptied (goal.at.restore_all-requires c).After-write in
     copies_fit c.args.settings c.args.part.now c.requires _ _ before.same before.long (8 * all_copies_at) (8 * c.log_at-log.result) c.requires.filled
     refl refl (omega (arith, c.log_at-log.ensures))
 
@@ -62,7 +62,7 @@ keep_saved-requires c =
     let at = goal.at.keep_saved-requires c in
     let before = emptied at.After-write in
     let s = c.args.part.now in
-    log_fits c.args.settings s c.requires _ _ (matched at.After-match_all before) (omega (arith, before.long)) (8 * c.log_at-log.result) (length s) c.requires.filled refl
+    log_fits c.args.settings s c.requires _ _ (matched at.After-restore_all before) (omega (arith, before.long)) (8 * c.log_at-log.result) (length s) c.requires.filled refl
     (omega (arith, c.log_at-log.ensures)) refl
 
 pub returns : goal.returns
@@ -74,6 +74,6 @@ returns c =
     let log_at = c.log_at-log.ensures in
     let old = (place_codec t).dec (words s) in
     let done = c.keep_saved in
-    step_changed t s c.requires (restored old) _ (matched at.After-match_all before) (omega (arith, before.long)) (8 * c.log_at-log.result) (length s) (log_of t)
+    step_changed t s c.requires (restored old) _ (matched at.After-restore_all before) (omega (arith, before.long)) (8 * c.log_at-log.result) (length s) (log_of t)
     ((refl, c.requires.filled), ((refl, refl), refl)) refl (omega (arith, log_at)) (omega (arith, c.requires.size, log_at)) (crashed old)
     ((refl, c.requires.filled), ((refl, refl), refl)) only_saved refl done.new.log done.auto.log done.ensures

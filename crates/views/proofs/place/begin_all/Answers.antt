@@ -1,34 +1,19 @@
-use mathlib.Core.Path.{ap}
-use Prim.Native.Nat.{ℕ, ◌+◌, ◌*◌, ◌-◌}
-use native.Mathlib.Omega.{arith}
-use Rattle.lent.proofs.AllPlaces.{none_changed, all_changed, next_place, one_more}
+use mathlib.Core.Path.{refl}
+use borrow.Author.Rules.{rules}
+use Rattle.lent.proofs.AllPlaces.{each_place}
+use Rattle.layout.specs.Contents.{blank_place}
+use Rattle.layout.specs.Layout.{place_codec}
+use Rattle.layout.proofs.Each.{all_changed}
 use Rattle.views.specs.Begin.{begun}
 use Rattle.views.proofs.place.begin_all.Goals as goal
 
-pub loop-place-init : goal.loop-place-init
-loop-place-init c =
-    (ap (λ (k : ℕ). c.args.settings.places * k) c.place_words-size.ensures, none_changed begun c.args.settings c.args.part.now c.requires)
-
-pub begin-requires : goal.begin-requires
-begin-requires c =
-    let l = c.loop-place in
-    let size = c.place_words-size in
-    let o = 8 * c.offset-at.result in
-    let product = ap (λ (k : ℕ). l.place * k) size.ensures in
-    next_place begun c.args.settings c.args.part.now c.requires l.place (omega arith) l.part l.invariant.1 o (o + 8 * size.result - o) (omega arith)
-    (omega arith)
-
-pub loop-place-preserved : goal.loop-place-preserved
-loop-place-preserved c =
-    let l = c.loop-place in
-    let size = c.place_words-size in
-    let o = 8 * c.offset-at.result in
-    let product = ap (λ (k : ℕ). l.place * k) size.ensures in (
-      l.invariant.0,
-      one_more begun c.args.settings c.args.part.now c.requires l.place (omega arith) l.part l.invariant.1 o (o + 8 * size.result - o)
-          (omega arith) (omega arith) c.begin.new.part (omega arith) c.begin.ensures,
-    )
+pub each_part-requires-clause-callable : goal.each_part-requires-clause-callable
+each_part-requires-clause-callable c = λ i x l e.
+    let clean = each_place c.args.settings c.args.part.now c.requires c.place_words.result i c.place_words.ensures l x.now e in
+    search rules
 
 pub returns : goal.returns
 returns c =
-    all_changed begun c.args.settings c.args.part.now c.requires c.loop-place.place c.loop-place.part (omega arith) c.loop-place.invariant.1
+    let t = c.args.settings in
+    all_changed (place_codec t) t.places c.args.part.now c.each_part.new.s c.requires.size c.each_part.auto.s c.place_words.result t.places
+    c.place_words.ensures refl _ c.each_part.ensures blank_place (λ p. begun) (λ i x y l q. search rules)
