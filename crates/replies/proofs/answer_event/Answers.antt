@@ -21,5 +21,5 @@ returns-in-Err c =
     let a = c.args in
     let r = c.perform-answer in
     no_written a.settings a.store.now c.requires.0 a.kind a.a a.b a.c a.«data».now c.if-kind-eq-GET.false r.result _ _ r.ensures
-    r.auto.area c.in-Err.refusal c.in-Err.is a.number _ a.area.now _ w.ensures.0
-    w.ensures.1
+    r.auto.area c.in-Err.refusal c.in-Err.is a.number _ a.area.now _
+    (rw c.from.ensures at w.ensures.0) (rw c.from.ensures at w.ensures.1)

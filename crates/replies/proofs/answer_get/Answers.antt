@@ -16,8 +16,8 @@ slice_bounds-get-end c =
     let blank : take c.args.settings.size c.zero_block-blank.result ≡ zeros c.args.settings.size = ap (λ (l : List ℕ). take c.args.settings.size l) c.zero_block-blank.ensures ∙ zeros_front max_size c.args.settings.size (small) in
     sym (ap length (blank) ∙ zeros_length _)
 
-pub get-bytes-requires : goal.get-bytes-requires
-get-bytes-requires c =
+pub get-requires : goal.get-requires
+get-requires c =
     let small : c.args.settings.size ≤ max_size = c.requires.0.limits.size_to in
     let blank : take c.args.settings.size c.zero_block-blank.result ≡ zeros c.args.settings.size = ap (λ (l : List ℕ). take c.args.settings.size l) c.zero_block-blank.ensures ∙ zeros_front max_size c.args.settings.size (small) in
     (c.requires.0, blank)
@@ -25,13 +25,21 @@ get-bytes-requires c =
 pub write_answer-requires : goal.write_answer-requires
 unfolding decode_bytes
 write_answer-requires c =
-    let small : c.args.settings.size ≤ max_size = c.requires.0.limits.size_to in
     let a = c.args in
-    omega (arith, c.requires.1, small, ap length c.get-bytes.ensures.same, said_within a.settings a.store.now c.requires.0 a.proxy a.block)
+    omega (arith, c.requires.1, c.requires.0.limits.size_to, ap length c.in-Ok.ensures.same, said_within a.settings a.store.now c.requires.0 a.proxy a.block)
 
-pub returns : goal.returns
+pub returns-in-Ok : goal.returns-in-Ok
 unfolding decode_bytes
-returns c =
+returns-in-Ok c =
     let a = c.args in
+    let w = c.write_answer in
     get_written a.settings a.store.now c.requires.0 a.proxy a.block (below_of 256 _ (λ i. omega (arith, c.type_inv.store i)))
-    c.get-bytes.ensures a.number _ a.area.now _ c.write_answer.ensures.0 c.write_answer.ensures.1
+    c.in-Ok.ensures a.number _ a.area.now _ w.ensures.0 w.ensures.1
+
+pub returns-in-Err : goal.returns-in-Err
+unfolding decode_bytes
+returns-in-Err c =
+    let a = c.args in
+    let w = c.write_answer-in-Err in
+    get_written a.settings a.store.now c.requires.0 a.proxy a.block (below_of 256 _ (λ i. omega (arith, c.type_inv.store i)))
+    c.in-Err.ensures a.number _ a.area.now _ (rw c.from.ensures at w.ensures.0) (rw c.from.ensures at w.ensures.1)
