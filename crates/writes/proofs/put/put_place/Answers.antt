@@ -9,6 +9,7 @@ use Rattle.writes.specs.Puts.{counted}
 use Rattle.writes.proofs.Logs.{append_fits, log_grown}
 use Rattle.writes.proofs.Puts.{status_counted}
 use Rattle.writes.proofs.put.put_place.Goals as goal
+use Rattle.writes.proofs.put.put_place.Goals.{After-write_status}
 
 pub read_status-old-requires : goal.read_status-old-requires
 read_status-old-requires c = (c.requires.brick.size, c.requires.brick.filled)
@@ -25,29 +26,29 @@ pub write_status-requires : goal.write_status-requires
 write_status-requires c =
     (c.requires.brick.size, c.requires.brick.filled, c.requires.brick.clean)
 
-pub append-requires : goal.append-requires
-append-requires c =
-    let new : Place = let old = (place_codec c.args.settings).dec (words c.args.part.now) in with_status (counted old.snd.status) old in
-    let same : words c.write_status.new.part ≡ (place_codec c.args.settings).enc (new) (words c.args.part.now) = let codec = place_codec c.args.settings in
+-- the place once its brick is counted one chunk more
+abbrev new : After-write_status → Place
+new c = let old = (place_codec c.args.settings).dec (words c.args.part.now) in with_status (counted old.snd.status) old
+
+same : (c : After-write_status) → words c.write_status.new.part ≡ (place_codec c.args.settings).enc (new c) (words c.args.part.now)
+same c =
+    let codec = place_codec c.args.settings in
     let w = words c.args.part.now in
     let old = codec.dec w in
     let read = c.read_status-old in
     c.write_status.ensures
     ∙ ap (λ (r : Status). codec.enc (with_status r old) w)
-    (status_counted (status_of read.result) old.snd.status _ _ read.ensures refl c.raised.ensures) in
-    append_fits c.args.settings c.args.part.now c.requires.brick (new) c.requires.brick.filled refl _ (same) c.write_status.auto.part
+    (status_counted (status_of read.result) old.snd.status _ _ read.ensures refl c.raised.ensures)
+
+pub append-requires : goal.append-requires
+append-requires c =
+    let at = (goal.at.append-requires c).After-write_status in
+    append_fits c.args.settings c.args.part.now c.requires.brick (new at) c.requires.brick.filled refl _ (same at) c.write_status.auto.part
     c.args.bytes.now c.requires.room c.requires.size
 
 pub returns : goal.returns
 returns c =
-    let new : Place = let old = (place_codec c.args.settings).dec (words c.args.part.now) in with_status (counted old.snd.status) old in
-    let same : words c.write_status.new.part ≡ (place_codec c.args.settings).enc (new) (words c.args.part.now) = let codec = place_codec c.args.settings in
-    let w = words c.args.part.now in
-    let old = codec.dec w in
-    let read = c.read_status-old in
-    c.write_status.ensures
-    ∙ ap (λ (r : Status). codec.enc (with_status r old) w)
-    (status_counted (status_of read.result) old.snd.status _ _ read.ensures refl c.raised.ensures) in
+    let at = (goal.at.returns c).After-write_status in
     c.append.ensures
-    ∙ log_grown c.args.settings c.args.part.now c.requires.brick (new) c.requires.brick.filled refl _ (same) c.write_status.auto.part
+    ∙ log_grown c.args.settings c.args.part.now c.requires.brick (new at) c.requires.brick.filled refl _ (same at) c.write_status.auto.part
     (with_chunk c.args.key.0 c.args.bytes.now)

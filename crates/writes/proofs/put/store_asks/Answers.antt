@@ -27,15 +27,9 @@ filled c = up_filled c.args.settings c.args.store.now c.requires.0 c.args.place 
 pub returns-then-not-up_member : goal.returns-then-not-up_member
 returns-then-not-up_member c = no_member (decode (words c.args.store.now)) c.args.proxy c.args.place c.args.block.0 (sym c.up_member.ensures ∙ c.if-not-up_member.true)
 
-pub has_item-requires : goal.has_item-requires
-has_item-requires c = (c.requires.0, c.requires.1)
-
 pub returns-then-has_item : goal.returns-then-has_item
 returns-then-has_item c =
     item_there (decode (words c.args.store.now)) c.args.proxy c.args.place c.args.block.0 (live (goal.at.returns-then-has_item c).Else-not-up_member) (sym c.has_item.ensures ∙ c.if-has_item.true)
-
-pub item_count-requires : goal.item_count-requires
-item_count-requires c = (c.requires.0, c.requires.1)
 
 pub returns-then-item_count : goal.returns-then-item_count
 returns-then-item_count c =
