@@ -7,13 +7,10 @@ use native.Mathlib.Omega.{arith}
 use borrow.Author.Tests.{ltb-true, leb-true}
 use lib.ListN.{length, get_or, set, take, drop}
 use Rattle.lists.proofs.Tests.{and_l, and_r}
-use Rattle.rules.specs.State.{Relay as Held}
+use Rattle.rules.specs.State.{Relay as Held, blank_relay}
 use Rattle.rules.specs.Question.{first_no}
 use Rattle.relay_list.specs.declared.Relay.{Relay}
-use Rattle.relay_list.specs.declared.Sent.TheVariants.{Sent as Yes, NoRoom}
-use Rattle.relay_list.specs.declared.Delivered.TheVariants.{Is, NoSuch}
-use Rattle.relay_list.specs.declared.Dropped.TheVariants.{Dropped as Gone, NoSuch as NoneThere}
-use Rattle.relay_list.specs.Relays.{relay_of, relays_of, bag_of, over, has_room, is_within, record_at, sent_number, delivered_number, delivered_relay, dropped_number, Sends, Drops, Delivers, Loses, Within}
+use Rattle.relay_list.specs.Relays.{relay_of, relays_of, bag_of, over, has_room, is_within, record_at, Sends, Drops, Delivers, Loses, Within}
 use Rattle.relay_list.proofs.Elements.{blank}
 
 abbrev put_first : Relay → List Held → List Held
@@ -66,11 +63,11 @@ youngest count r [] h = absurd (omega (arith, h))
 youngest zero r (x ∷ list) h = refl
 youngest (suc count) r (x ∷ list) h = ap (put_first x) (youngest count r list (omega (arith, h)))
 
-pub sent : (count : ℕ) (r : Relay) (list : List Relay) → has_room count list ≡ true → Sends count r list (sent_number Yes) (set list count r)
+pub sent : (count : ℕ) (r : Relay) (list : List Relay) → has_room count list ≡ true → Sends count r list 0 (set list count r)
 unfolding first_no
 sent count r list room = record { number = rw room; records = rw room (youngest count r list (ltb-true count (length list) (and_l _ _ room))) }
 
-pub unsent : (count : ℕ) (r : Relay) (list : List Relay) → has_room count list ≡ false → Sends count r list (sent_number NoRoom) list
+pub unsent : (count : ℕ) (r : Relay) (list : List Relay) → has_room count list ≡ false → Sends count r list 10 list
 unfolding first_no
 unsent count r list full = record { number = rw full; records = rw full }
 
@@ -79,20 +76,20 @@ pub within_is : (index count : ℕ) (list : List Relay) → is_within index coun
 within_is index count list there = (ltb-true index count (and_l _ _ there), leb-true count (length list) (and_r _ _ there))
 
 module _ (count index : ℕ) (list : List Relay) where
-  pub dropped : (after : List Relay) → is_within index count list ≡ true → Loses count index list after → Drops count index list (dropped_number Gone) after
+  pub dropped : (after : List Relay) → is_within index count list ≡ true → Loses count index list after → Drops count index list 0 after
   unfolding first_no
   dropped after there e = record { number = rw there; records = rw there e }
 
-  pub undropped : is_within index count list ≡ false → Drops count index list (dropped_number NoneThere) list
+  pub undropped : is_within index count list ≡ false → Drops count index list 3 list
   unfolding first_no
   undropped none = record { number = rw none; records = rw none }
 
   pub delivered : (relay : Relay) (after : List Relay) → is_within index count list ≡ true → relay_of relay ≡ record_at index count list
       → Loses count index list after
-      → Delivers count index list (delivered_number (Is relay)) (delivered_relay (Is relay)) after
+      → Delivers count index list 0 (relay_of relay) after
   unfolding first_no
   delivered relay after there same e = record { number = rw there; given = rw there same; records = rw there e }
 
-  pub undelivered : is_within index count list ≡ false → Delivers count index list (delivered_number NoSuch) (delivered_relay NoSuch) list
+  pub undelivered : is_within index count list ≡ false → Delivers count index list 3 blank_relay list
   unfolding first_no
   undelivered none = record { number = rw none; given = rw none; records = rw none }

@@ -1,5 +1,5 @@
 -- What is asked before a bag is handed out, and what is promised then.
-use Rattle.std.proofs.Common.{◌≡◌, ◌≢◌, sym, ◌∙◌, ap}
+use Rattle.std.proofs.Common.{◌≡◌, sym, ◌∙◌, ap}
 use mathlib.Core.Bool.{true, false}
 use mathlib.Core.List.{List}
 use Prim.Native.Nat.{ℕ, ◌<◌, ◌≤◌}
@@ -8,7 +8,10 @@ use lib.ListN.{length}
 use native.Mathlib.Omega.{arith}
 use borrow.Author.Tests.{le-leb, lt-leb, leb-true}
 use Rattle.lists.proofs.Tests.{by, both, and_l, and_r}
+use Rattle.rules.specs.declared.refusal.Refusal.{Refusal}
+use Rattle.rules.specs.Refusals.{number}
 use Rattle.rules.specs.Question.{first_no}
+use Rattle.rules.proofs.Refusals.{never_zero}
 use Rattle.rules.specs.State.{Relay as Held}
 use Rattle.words.specs.Words.{words}
 use Rattle.layout.specs.Store.{sound_bytes}
@@ -36,18 +39,18 @@ module _ (store : List ℕ) where
       (λ right. by (leb (length (stored_bag store)) room) (λ enough. (right, enough)) (λ few. absurd (omega (arith, rw (right, few) at e))))
       (λ wrong. absurd (omega (arith, rw wrong at e)))
 
-  -- ---- what is promised
-  module _ (list : List Relay) (code : ℕ) (asked : code ≡ first_no (show_asks store (length list))) where
-    pub sound_one : code ≡ 0 → sound_bytes store ≡ true
-    sound_one none = (both_yes (length list) (sym asked ∙ none)).0
+  -- ---- what is promised where no question is answered no
+  module _ (list : List Relay) (asked : 0 ≡ first_no (show_asks store (length list))) where
+    pub sound_one : sound_bytes store ≡ true
+    sound_one = (both_yes (length list) (sym asked)).0
 
-    pub has_records : code ≡ 0 → length (stored_bag store) ≤ length list
-    has_records none = leb-true _ _ (both_yes (length list) (sym asked ∙ none)).1
+    pub has_records : length (stored_bag store) ≤ length list
+    has_records = leb-true _ _ (both_yes (length list) (sym asked)).1
 
-    pub handed : (part : List ℕ) (count : ℕ) (after : List Relay) → code ≡ 0 → BagPart (stored_bag store) part → Loads (words part) list count after
-        → Shows store list (record { code = code; count = count }) after
-    handed part count after none bag loads =
-        let yes_both = both_yes (length list) (sym asked ∙ none) in
+    pub handed : (part : List ℕ) (count : ℕ) (after : List Relay) → BagPart (stored_bag store) part → Loads (words part) list count after
+        → Shows store list (record { code = 0; count = count }) after
+    handed part count after bag loads =
+        let yes_both = both_yes (length list) (sym asked) in
         let all = both (sound_bytes store) (leb (length (stored_bag store)) (length list)) yes_both.0 yes_both.1 in
         record {
           code = asked;
@@ -55,8 +58,10 @@ module _ (store : List ℕ) where
           records = rw all (loads.records ∙ ap (λ (l : List Held). over l list) bag.same);
         }
 
-    pub hidden : code ≢ 0 → Shows store list (record { code = code; count = 0 }) list
-    unfolding first_no
-    hidden some = by (is_shown store list)
-        (λ all. absurd (some (asked ∙ sym (all_yes (length list) (and_l _ _ all) (leb-true _ _ (and_r _ _ all))))))
-        (λ none. record { code = asked; count = rw none; records = rw none })
+  -- ---- and where one is
+  pub hidden : (list : List Relay) (r : Refusal) → number r ≡ first_no (show_asks store (length list))
+      → Shows store list (record { code = number r; count = 0 }) list
+  unfolding first_no
+  hidden list r asked = by (is_shown store list)
+      (λ all. absurd (never_zero r (asked ∙ sym (all_yes (length list) (and_l _ _ all) (leb-true _ _ (and_r _ _ all))))))
+      (λ none. record { code = asked; count = rw none; records = rw none })

@@ -1,18 +1,13 @@
 -- A lent slice of records as the bag of the rules: the first `count` of them, oldest first.
-use Rattle.std.specs.Prelude.{◌≡◌, Bool, cond, List, [], ◌∷◌, ◌++◌, map, ℕ, ◌<◌, ◌≤◌, ltb, leb, length, get_or, take, drop}
+use Rattle.std.specs.Prelude.{◌≡◌, Bool, cond, Result, Ok, Err, List, [], ◌∷◌, ◌++◌, map, ℕ, ◌<◌, ◌≤◌, ltb, leb, length, get_or, take, drop}
 use Rattle.lists.specs.Tests.{◌and◌}
+use Rattle.rules.specs.declared.refusal.Refusal.{Refusal}
 use Rattle.rules.specs.Limits.{max_relays}
 use Rattle.rules.specs.State.{Relay as Held, blank_relay}
 use Rattle.rules.specs.Maps.{remove_at}
 use Rattle.rules.specs.Question.{Question, ◌asks◌, first_no}
 use Rattle.layout.specs.Layout.{bag_codec}
 use Rattle.relay_list.specs.declared.Relay.{Relay}
-use Rattle.relay_list.specs.declared.Sent.{Sent}
-use Rattle.relay_list.specs.declared.Sent.TheVariants.{Sent as Yes, NoRoom}
-use Rattle.relay_list.specs.declared.Delivered.{Delivered}
-use Rattle.relay_list.specs.declared.Delivered.TheVariants.{Is, NoSuch}
-use Rattle.relay_list.specs.declared.Dropped.{Dropped}
-use Rattle.relay_list.specs.declared.Dropped.TheVariants.{Dropped as Gone, NoSuch as NoneThere}
 
 -- a record as the rules have it
 abbrev pub relay_of : Relay → Held
@@ -30,22 +25,10 @@ bag_of count list = map relay_of (take count list)
 abbrev pub over : List Held → List Relay → List Held
 over bag list = bag ++ drop (length bag) (relays_of list)
 
--- ---- the answers: the number of each, and the relay of a delivery, all 0 where there is none
-abbrev pub sent_number : Sent → ℕ
-sent_number Yes = 0
-sent_number NoRoom = 10
-
-abbrev pub dropped_number : Dropped → ℕ
-dropped_number Gone = 0
-dropped_number NoneThere = 3
-
-abbrev pub delivered_number : Delivered → ℕ
-delivered_number (Is relay) = 0
-delivered_number NoSuch = 3
-
-abbrev pub delivered_relay : Delivered → Held
-delivered_relay (Is relay) = relay_of relay
-delivered_relay NoSuch = blank_relay
+-- the relay of a delivery, all 0 where there is none
+abbrev pub delivered_relay : Result Relay Refusal → Held
+delivered_relay (Ok relay) = relay_of relay
+delivered_relay (Err _) = blank_relay
 
 -- ---- send
 -- 10: room in the slice and in the bag?

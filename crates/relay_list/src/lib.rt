@@ -6,14 +6,16 @@
 ghost use Rattle.std.specs.Prelude.{◌≡◌, ◌*◌, ◌≤◌, length, get_or};
 ghost use Rattle.words.specs.Words.{words};
 ghost use Rattle.rules.specs.Limits.{max_relays};
+ghost use Rattle.rules.specs.Refusals.{code_of};
 ghost use Rattle.tables.specs.Tables.{IsTable};
 ghost use Rattle.layout.specs.Layout.{bag_words};
 ghost use Rattle.bag.specs.Relays.{relay_words};
-ghost use Rattle.relay_list.specs.Relays.{Within, sent_number, delivered_number, delivered_relay, dropped_number, Sends, Delivers, Drops, Loses, Loads, Stores};
+ghost use Rattle.relay_list.specs.Relays.{Within, delivered_relay, Sends, Delivers, Drops, Loses, Loads, Stores};
 ghost use Rattle.relay_list.specs.Shown.{Shows};
 
 use rules::constants::MAX_RELAYS;
 use rules::numbers::{BlockNumber, ChunkKey, ViewNumber};
+use rules::refusal::Refusal;
 
 pub mod flat;
 pub mod stored;
@@ -28,24 +30,6 @@ pub struct Relay {
     pub key: ChunkKey,
 }
 
-#[derive(Clone, Copy)]
-pub enum Sent {
-    Sent,
-    NoRoom,
-}
-
-#[derive(Clone, Copy)]
-pub enum Delivered {
-    Is(Relay),
-    NoSuch,
-}
-
-#[derive(Clone, Copy)]
-pub enum Dropped {
-    Dropped,
-    NoSuch,
-}
-
 // How many relays of a store's bag were handed out, or the number of the question that was answered no.
 #[repr(C)]
 #[derive(Clone, Copy)]
@@ -55,37 +39,40 @@ pub struct BagAnswer {
 }
 
 // A relay more, as the youngest, where the slice and the bag have room for it.
-pub fn send(list: &mut [Relay], count: usize, relay: Relay) -> Sent
-    ensures { Sends count relay list.old (sent_number result) list.new }
+pub fn send(list: &mut [Relay], count: usize, relay: Relay) -> Result<(), Refusal>
+    ensures { Sends count relay list.old (code_of result) list.new }
 {
     if (count < list.len()) & (count < MAX_RELAYS) {
         list[count] = relay;
-        return Sent::Sent;
+        Ok(())
+    } else {
+        Err(Refusal::NoRoom)
     }
-    Sent::NoRoom
 }
 
 // The relay at an index leaves the bag, and is given back.
-pub fn deliver(list: &mut [Relay], count: usize, index: usize) -> Delivered
-    ensures { Delivers count index list.old (delivered_number result) (delivered_relay result) list.new }
+pub fn deliver(list: &mut [Relay], count: usize, index: usize) -> Result<Relay, Refusal>
+    ensures { Delivers count index list.old (code_of result) (delivered_relay result) list.new }
 {
     if (index < count) & (count <= list.len()) {
         let relay = list[index];
         close_gap(list, count, index);
-        return Delivered::Is(relay);
+        Ok(relay)
+    } else {
+        Err(Refusal::BadInput)
     }
-    Delivered::NoSuch
 }
 
 // The relay at an index is lost.
-pub fn drop(list: &mut [Relay], count: usize, index: usize) -> Dropped
-    ensures { Drops count index list.old (dropped_number result) list.new }
+pub fn drop(list: &mut [Relay], count: usize, index: usize) -> Result<(), Refusal>
+    ensures { Drops count index list.old (code_of result) list.new }
 {
     if (index < count) & (count <= list.len()) {
         close_gap(list, count, index);
-        return Dropped::Dropped;
+        Ok(())
+    } else {
+        Err(Refusal::BadInput)
     }
-    Dropped::NoSuch
 }
 
 // The relay at an index goes: later ones move down by one.
@@ -133,11 +120,15 @@ pub fn store(list: &[Relay], count: usize, part: &mut [u8])
 pub fn show(store: &[u8], list: &mut [Relay]) -> BagAnswer
     ensures { Shows store.now list.old result list.new }
 {
-    let code = stored::asks(store, list.len());
-    if code == 0 {
-        let part = stored::bag_bytes(store);
-        let count = load(part, list);
-        return BagAnswer { code, count };
+    match stored::asks(store, list.len()) {
+        Ok(()) => {
+            let part = stored::bag_bytes(store);
+            let count = load(part, list);
+            BagAnswer { code: 0, count }
+        }
+        Err(refusal) => BagAnswer {
+            code: u64::from(refusal),
+            count: 0,
+        },
     }
-    BagAnswer { code, count: 0 }
 }

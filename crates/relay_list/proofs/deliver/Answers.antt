@@ -14,6 +14,6 @@ returns-then-index-count c =
     let inside = within_is index count list there in
     delivered count index list (get_or list index blank) c.close_gap.new.list there (held_at count index list inside.0 inside.1) c.close_gap.ensures
 
-pub returns : goal.returns
+pub returns-else-index-count : goal.returns-else-index-count
 unfolding ◌and◌
-returns c = undelivered c.args.count c.args.index c.args.list.now c.if-index-count.false
+returns-else-index-count c = undelivered c.args.count c.args.index c.args.list.now c.if-index-count.false

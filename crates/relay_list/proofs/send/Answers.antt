@@ -6,6 +6,6 @@ pub returns-then-count-list : goal.returns-then-count-list
 unfolding ◌and◌
 returns-then-count-list c = sent c.args.count c.args.relay c.args.list.now c.if-count-list.true
 
-pub returns : goal.returns
+pub returns-else-count-list : goal.returns-else-count-list
 unfolding ◌and◌
-returns c = unsent c.args.count c.args.relay c.args.list.now c.if-count-list.false
+returns-else-count-list c = unsent c.args.count c.args.relay c.args.list.now c.if-count-list.false

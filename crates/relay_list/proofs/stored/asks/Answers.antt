@@ -19,8 +19,8 @@ returns-then-room-relay_count c =
     let right = sym c.is_sound.ensures ∙ c.if-not-is_sound.false in
     too_few _ _ right (omega (arith, c.if-room-relay_count.true, c.relay_count.ensures))
 
-pub returns : goal.returns
+pub returns-else-room-relay_count : goal.returns-else-room-relay_count
 unfolding decode_bytes
-returns c =
+returns-else-room-relay_count c =
     let right = sym c.is_sound.ensures ∙ c.if-not-is_sound.false in
     all_yes _ _ right (omega (arith, c.if-room-relay_count.false, c.relay_count.ensures))
