@@ -4,7 +4,9 @@
 
 ghost use Rattle.relay_list.specs.Relays.{relay_of, Sends, Delivers, Drops};
 
+use numbers::delivered;
 use relay_list::Relay;
+use rules::refusal::code;
 
 pub mod numbers;
 
@@ -19,22 +21,19 @@ pub struct DeliverAnswer {
 pub extern "C" fn list_send(list: &mut [Relay], count: usize, relay: Relay) -> u64
     ensures { Sends count relay list.old result list.new }
 {
-    let answer = relay_list::send(list, count, relay);
-    numbers::sent(answer)
+    code(relay_list::send(list, count, relay))
 }
 
 #[unsafe(no_mangle)]
 pub extern "C" fn list_deliver(list: &mut [Relay], count: usize, index: usize) -> DeliverAnswer
     ensures { Delivers count index list.old result.code (relay_of result.relay) list.new }
 {
-    let answer = relay_list::deliver(list, count, index);
-    numbers::delivered(answer)
+    delivered(relay_list::deliver(list, count, index))
 }
 
 #[unsafe(no_mangle)]
 pub extern "C" fn list_drop(list: &mut [Relay], count: usize, index: usize) -> u64
     ensures { Drops count index list.old result list.new }
 {
-    let answer = relay_list::drop(list, count, index);
-    numbers::dropped(answer)
+    code(relay_list::drop(list, count, index))
 }

@@ -1,27 +1,20 @@
-// The number of each answer, and the relay of a delivery: zeros where there is none.
+// What a delivery answers for C: the number of the answer, and the relay, zeros where there is none.
 ghost use Rattle.std.specs.Prelude.{◌≡◌};
-ghost use Rattle.relay_list.specs.Relays.{relay_of, sent_number, delivered_number, delivered_relay, dropped_number};
+ghost use Rattle.rules.specs.Refusals.{code_of};
+ghost use Rattle.relay_list.specs.Relays.{relay_of, delivered_relay};
 
 use crate::DeliverAnswer;
-use relay_list::{Delivered, Dropped, Relay, Sent};
+use relay_list::Relay;
 use rules::numbers::{BlockNumber, ChunkKey, ViewNumber};
+use rules::refusal::Refusal;
 
-pub fn sent(answer: Sent) -> u64
-    ensures { result ≡ sent_number answer }
+pub fn delivered(answer: Result<Relay, Refusal>) -> DeliverAnswer
+    ensures { (result.code ≡ code_of answer) × (relay_of result.relay ≡ delivered_relay answer) }
 {
     match answer {
-        Sent::Sent => 0,
-        Sent::NoRoom => 10,
-    }
-}
-
-pub fn delivered(answer: Delivered) -> DeliverAnswer
-    ensures { (result.code ≡ delivered_number answer) × (relay_of result.relay ≡ delivered_relay answer) }
-{
-    match answer {
-        Delivered::Is(relay) => DeliverAnswer { code: 0, relay },
-        Delivered::NoSuch => DeliverAnswer {
-            code: 3,
+        Ok(relay) => DeliverAnswer { code: 0, relay },
+        Err(refusal) => DeliverAnswer {
+            code: u64::from(refusal),
             relay: Relay {
                 view: ViewNumber(0),
                 bucket: 0,
@@ -30,14 +23,5 @@ pub fn delivered(answer: Delivered) -> DeliverAnswer
                 key: ChunkKey(0),
             },
         },
-    }
-}
-
-pub fn dropped(answer: Dropped) -> u64
-    ensures { result ≡ dropped_number answer }
-{
-    match answer {
-        Dropped::Dropped => 0,
-        Dropped::NoSuch => 3,
     }
 }
