@@ -1,12 +1,14 @@
 -- The questions of fetch and ready: what holds where they are answered yes.
-use mathlib.Core.Path.{◌≡◌, refl, sym, ap, ◌∙◌}
+use mathlib.Core.Path.{◌≡◌, refl, ap}
 use mathlib.Core.List.{List, ◌++◌}
 use mathlib.Core.Bool.{true, false}
 use Prim.Native.Nat.{ℕ, ◌≤◌, ◌<◌}
 use native.Mathlib.Omega.{arith}
 use borrow.Author.Tests.{lt-ltb, le-ltb, ltb-true}
+use lib.Dec.{ltb}
+use Rattle.std.specs.Prelude.{Option, Some, None, is_some, IsSome}
 use Rattle.lists.specs.Tests.{◌and◌}
-use Rattle.lists.proofs.Tests.{by}
+use Rattle.lists.proofs.Tests.{and_l, clash}
 use Rattle.words.specs.Words.{words}
 use Rattle.rules.specs.declared.settings.Settings.{Settings}
 use Rattle.rules.specs.Limits.{buckets}
@@ -17,8 +19,9 @@ use Rattle.rules.specs.Views.{source, fetch_asks, ready_asks}
 use Rattle.rules.proofs.Questions.{all_yes, first_more}
 use Rattle.layout.specs.Store.{decode}
 use Rattle.lent.specs.Stores.{StoreOf}
-use Rattle.lent.proofs.Stores.{settings_are}
+use Rattle.lent.proofs.Stores.{settings_are, facts}
 use Rattle.recovery.specs.Asks.{bucket_asks, UpBucket}
+use Rattle.recovery.specs.Fetch.{SourceIs}
 
 module _ (c : Settings) (bs : List ℕ) (v : StoreOf c bs) (g : ℕ) where
   abbrev s : State
@@ -53,6 +56,22 @@ module _ (c : Settings) (bs : List ℕ) (v : StoreOf c bs) (g : ℕ) where
   unfolding ◌and◌
   ready_yes e = let y = all_yes (ready_asks s g) refl e in (up_bucket y.0 y.1.0, y.1.1.0)
 
+  -- ---- the source as it was found
+  pub no_source : (found : Option ℕ) → SourceIs s g found → is_some found ≡ false → ltb 0 (source s g) ≡ false
+  no_source None e z = le-ltb 0 (source s g) (omega (arith, e))
+  no_source (Some id) e z = clash z refl
+
+  pub some_source : (found : Option ℕ) → SourceIs s g found → is_some found ≡ true → ltb 0 (source s g) ≡ true
+  unfolding ◌and◌
+  some_source None e z = clash refl z
+  some_source (Some id) e z =
+      let bricks = (facts c bs v).bricks in
+      let some = bricks.first id (bricks.up_present id (and_l _ _ e.1)) in lt-ltb 0 (source s g) (omega (arith, some, e.0))
+
+  pub source_there : (found : Option ℕ) → SourceIs s g found → 0 < source s g → IsSome found
+  source_there None e o = absurd (omega (arith, e, o))
+  source_there (Some id) e o = search
+
 -- ---- the source of a bucket, by its last ready pair
 module _ (s : State) (g : ℕ) where
   pub source_first : up_member s (s.bucket g).last_primary ≡ true → (s.bucket g).last_primary ≡ source s g
@@ -64,12 +83,6 @@ module _ (s : State) (g : ℕ) where
     unfolding source
     source_second y = rw (n, y) refl
 
-    pub source_none : up_member s (s.bucket g).last_backup ≡ false → 0 ≡ source s g
+    pub source_none : up_member s (s.bucket g).last_backup ≡ false → source s g ≡ 0
     unfolding source
     source_none m = rw (n, m) refl
-
-  -- where there is one, it is an up member
-  pub source_up : 0 < source s g → up_member s (source s g) ≡ true
-  source_up o =
-      by (up_member s (s.bucket g).last_primary) (λ y. ap (up_member s) (sym (source_first y)) ∙ y)
-      (λ n. by (up_member s (s.bucket g).last_backup) (λ y. ap (up_member s) (sym (source_second n y)) ∙ y) (λ m. absurd (omega (arith, source_none n m, o))))

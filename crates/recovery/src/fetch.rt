@@ -28,10 +28,10 @@ fn asks(store: &[u8], settings: Settings, bucket: u64) -> Result<(), Refusal>
     if agreed.ready {
         return Err(Refusal::WrongState);
     }
-    if member::find_source(store, settings, bucket as usize) == 0 {
-        Err(Refusal::WrongState)
-    } else {
+    if member::find_source(store, settings, bucket as usize).is_some() {
         Ok(())
+    } else {
+        Err(Refusal::WrongState)
     }
 }
 
@@ -51,7 +51,7 @@ fn replace(store: &mut [u8], settings: Settings, bucket: usize)
     ensures { words store.new ≡ render (fetch_effect (decode (words store.old)) bucket) (words store.old) }
 {
     let agreed = lent::bucket::agreed(store, settings, bucket);
-    let source = member::find_source(store, settings, bucket);
+    let source = member::find_source(store, settings, bucket).unwrap();
     let from = member::place(store, settings, source);
     let to = member::place(store, settings, agreed.primary);
     copies::replace(store, settings, bucket, from, to);

@@ -3,28 +3,27 @@ ghost use Rattle.std.specs.Prelude.{◌≡◌, true, ◌<◌};
 ghost use Rattle.words.specs.Words.{words};
 ghost use Rattle.rules.specs.Limits.{buckets};
 ghost use Rattle.rules.specs.Derived.{up_member};
-ghost use Rattle.rules.specs.Views.{source};
 ghost use Rattle.layout.specs.Store.{decode};
 ghost use Rattle.lent.specs.Stores.{StoreOf};
 ghost use Rattle.lent.specs.Places.{Stands};
+ghost use Rattle.recovery.specs.Fetch.{SourceIs};
 
 use lent::brick;
 use rules::settings::Settings;
 
-// The id of a bucket's source: the last ready primary if that is an up member, else the last ready backup if that is one, else 0.
-// stays: 0 is the source of none in rules::specs::Views::source, and in fetch::replace an Option would need a case that cannot be (a)
-pub fn find_source(store: &[u8], settings: Settings, bucket: usize) -> u64
+// A bucket's source: the last ready primary if that is an up member, else the last ready backup if that is one.
+pub fn find_source(store: &[u8], settings: Settings, bucket: usize) -> Option<u64>
     requires { StoreOf settings store.now × (bucket < buckets settings) }
-    ensures { result ≡ source (decode (words store.now)) bucket }
+    ensures { SourceIs (decode (words store.now)) bucket result }
 {
     let agreed = lent::bucket::agreed(store, settings, bucket);
     if brick::up_member(store, settings, agreed.last_primary) {
-        return agreed.last_primary;
+        return Some(agreed.last_primary);
     }
     if brick::up_member(store, settings, agreed.last_backup) {
-        return agreed.last_backup;
+        return Some(agreed.last_backup);
     }
-    0
+    None
 }
 
 // The place of an up member.

@@ -1,9 +1,7 @@
 use mathlib.Core.Path.{◌≡◌, sym, ap, ◌∙◌}
 use mathlib.Core.Bool.{not}
 use mathlib.Core.List.{[], ◌∷◌}
-use native.Mathlib.Omega.{arith}
 use lib.Dec.{ltb}
-use borrow.Author.Tests.{lt-ltb, le-ltb}
 use Rattle.std.proofs.lemmas.Result.{err_from_is_err_and}
 use Rattle.words.specs.Words.{words}
 use Rattle.rules.specs.Question.{◌asks◌, first_no}
@@ -13,7 +11,7 @@ use Rattle.rules.proofs.Refusals.{refuses_there}
 use Rattle.layout.specs.Contents.{Agreed}
 use Rattle.layout.specs.Store.{decode}
 use Rattle.recovery.specs.Asks.{bucket_asks}
-use Rattle.recovery.proofs.Questions.{bucket_yes, bucket_more}
+use Rattle.recovery.proofs.Questions.{bucket_yes, bucket_more, no_source, some_source}
 use Rattle.recovery.proofs.fetch.asks.Goals as goal
 use Rattle.recovery.proofs.fetch.asks.Goals.{After-agreed-agreed}
 
@@ -41,12 +39,12 @@ pub find_source-requires : goal.find_source-requires
 find_source-requires c =
     (c.requires, (bucket_yes c.args.settings c.args.store.now c.requires c.args.bucket (sym c.in_ok-bucket_asks.ensures)).inside)
 
-pub returns-then-find_source-eq0 : goal.returns-then-find_source-eq0
-returns-then-find_source-eq0 c =
-    let few = le-ltb 0 (source (decode (words c.args.store.now)) c.args.bucket) (omega (arith, c.find_source.ensures, c.if-find_source-eq0.true)) in
-    sym (later (goal.at.returns-then-find_source-eq0 c).After-agreed-agreed ∙ first_yes 13 _ (ap not c.if-agreed.false) ∙ first_stop 13 _ few)
+pub returns-then-is_some : goal.returns-then-is_some
+returns-then-is_some c =
+    let yes = some_source c.args.settings c.args.store.now c.requires c.args.bucket _ c.find_source.ensures (sym c.is_some.ensures ∙ c.if-is_some.true) in
+    sym (later (goal.at.returns-then-is_some c).After-agreed-agreed ∙ first_yes 13 _ (ap not c.if-agreed.false) ∙ first_yes 13 _ yes ∙ none_asked)
 
-pub returns-else-find_source-eq0 : goal.returns-else-find_source-eq0
-returns-else-find_source-eq0 c =
-    let some = lt-ltb 0 (source (decode (words c.args.store.now)) c.args.bucket) (omega (arith, c.find_source.ensures, c.if-find_source-eq0.false)) in
-    sym (later (goal.at.returns-else-find_source-eq0 c).After-agreed-agreed ∙ first_yes 13 _ (ap not c.if-agreed.false) ∙ first_yes 13 _ some ∙ none_asked)
+pub returns-else-is_some : goal.returns-else-is_some
+returns-else-is_some c =
+    let no = no_source c.args.settings c.args.store.now c.requires c.args.bucket _ c.find_source.ensures (sym c.is_some.ensures ∙ c.if-is_some.false) in
+    sym (later (goal.at.returns-else-is_some c).After-agreed-agreed ∙ first_yes 13 _ (ap not c.if-agreed.false) ∙ first_stop 13 _ no)

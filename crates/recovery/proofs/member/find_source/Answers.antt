@@ -17,15 +17,21 @@ not_first c =
 pub returns-then-up_member : goal.returns-then-up_member
 returns-then-up_member c =
     let s = decode (words c.args.store.now) in
-    let first = ap (λ (k : Agreed). up_member s k.last_primary) (sym c.agreed-agreed.ensures) ∙ sym c.up_member.ensures ∙ c.if-up_member.true in
-    ap (λ (k : Agreed). k.last_primary) c.agreed-agreed.ensures ∙ source_first s c.args.bucket first
+    let up = sym c.up_member.ensures ∙ c.if-up_member.true in (
+      ap (λ (k : Agreed). k.last_primary) c.agreed-agreed.ensures
+          ∙ source_first s c.args.bucket (ap (λ (k : Agreed). up_member s k.last_primary) (sym c.agreed-agreed.ensures) ∙ up),
+      up,
+    )
 
 pub returns-then-up_member-2 : goal.returns-then-up_member-2
 returns-then-up_member-2 c =
     let s = decode (words c.args.store.now) in
-    let second = ap (λ (k : Agreed). up_member s k.last_backup) (sym c.agreed-agreed.ensures) ∙ sym c.up_member-2.ensures ∙ c.if-up_member-2.true in
-    ap (λ (k : Agreed). k.last_backup) c.agreed-agreed.ensures
-    ∙ source_second s c.args.bucket (not_first (goal.at.returns-then-up_member-2 c).Else-up_member) second
+    let up = sym c.up_member-2.ensures ∙ c.if-up_member-2.true in (
+      ap (λ (k : Agreed). k.last_backup) c.agreed-agreed.ensures
+          ∙ source_second s c.args.bucket (not_first (goal.at.returns-then-up_member-2 c).Else-up_member)
+          (ap (λ (k : Agreed). up_member s k.last_backup) (sym c.agreed-agreed.ensures) ∙ up),
+      up,
+    )
 
 pub returns : goal.returns
 returns c =
