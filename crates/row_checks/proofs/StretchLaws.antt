@@ -4,6 +4,8 @@ use mathlib.Core.List.{List}
 use mathlib.Core.Bool.{Bool, true}
 use Prim.Native.Nat.{ℕ, zero, suc, ◌+◌, ◌*◌, ◌-◌, ◌/◌, ◌^◌, ◌≤◌, ◌<◌}
 use native.Mathlib.Omega.{arith}
+use Rattle.std.proofs.Common.{Option, Some, None}
+use Rattle.std.specs.Option.{MatchOption}
 use Rattle.lists.proofs.Tests.{by_eq, and_l, both}
 use Rattle.rules.specs.declared.settings.Settings.{Settings}
 use Rattle.rules.specs.Numbers.{block_count, run_blocks, proxy_of, bucket_of}
@@ -15,6 +17,11 @@ use Rattle.row_checks.specs.Rows.{key_below, belongs_to, floor_after, ceiling_be
 use Rattle.row_checks.specs.Stretches.{block_at, entry_key_at, RowUnder, Stretch}
 use Rattle.row_checks.proofs.RowLaws.{rows_under, under_next, below_ceiling}
 
+-- what is known of a value that may be there, said anew
+pub if_there : {A : Type 0} {P Q : A → Type 0} (o : Option A) → MatchOption o (Unit {0}) P → ((x : A) → P x → Q x) → MatchOption o (Unit {0}) Q
+if_there None m f = m
+if_there (Some x) m f = f x m
+
 -- ---- blocks of one run
 pub same_run : (c : Settings) (whose : Whose) (a b : ℕ) → a / run_blocks ≡ b / run_blocks → belongs_to c whose a ≡ belongs_to c whose b
 unfolding belongs_to in_bucket bucket_of proxy_of
@@ -24,17 +31,6 @@ same_run c Anyone a b e = refl
 
 -- ---- down from a row, one at a time
 module _ (bounds ws : List ℕ) (floor i : ℕ) where
-  pub stretch_start : (block : ℕ) → block ≡ block_at ws i → Stretch bounds ws floor i i block
-  stretch_start block e =
-      record {
-        inside = omega arith;
-        here = e;
-        under = omega (arith, e);
-        rises = λ k l m. absurd (omega arith);
-        range = λ k l m. absurd (omega arith);
-        keys = λ k l m. absurd (omega arith);
-      }
-
   stretch_turn : (j k next block : ℕ) → suc k ≡ j → Stretch bounds ws floor i j next → floor < block → RowUnder bounds ws k next block
       → Stretch bounds ws floor i k block
   stretch_turn j k next block q v h u =
@@ -48,19 +44,15 @@ module _ (bounds ws : List ℕ) (floor i : ℕ) where
         keys = λ m a b. by_eq m k (λ _ e. rw e u.key) (λ _ e. v.keys m (omega arith) b);
       }
 
-  -- four rows, each below the one before it: the last is above the floor, so all are
-  pub stretch_four : (j k next b1 b2 b3 b4 : ℕ) → k + 4 ≡ j → Stretch bounds ws floor i j next → floor < b4
-      → (0 < b1 → RowUnder bounds ws (k + 3) next b1) → (0 < b2 → RowUnder bounds ws (k + 2) b1 b2)
-      → (0 < b3 → RowUnder bounds ws (k + 1) b2 b3) → (0 < b4 → RowUnder bounds ws k b3 b4) → Stretch bounds ws floor i k b4
-  stretch_four j k next b1 b2 b3 b4 p v h f1 f2 f3 f4 =
-      let u4 = f4 (omega arith) in
-      let u3 = f3 (omega (arith, u4.below)) in
-      let u2 = f2 (omega (arith, u3.below)) in
-      let u1 = f1 (omega (arith, u2.below)) in
-      let v1 = stretch_turn j (k + 3) next b1 (omega arith) v (omega (arith, u4.below, u3.below, u2.below)) u1 in
-      let v2 = stretch_turn (k + 3) (k + 2) b1 b2 (omega arith) v1 (omega (arith, u4.below, u3.below)) u2 in
-      let v3 = stretch_turn (k + 2) (k + 1) b2 b3 (omega arith) v2 (omega (arith, u4.below)) u3 in
-      stretch_turn (k + 1) k b3 b4 (omega arith) v3 h u4
+  -- four rows, each below the one before it: the lowest is above the floor, so all are
+  pub stretch_four : (j next a1 b1 a2 b2 a3 b3 a4 b4 : ℕ) → suc a1 ≡ j → suc a2 ≡ a1 → suc a3 ≡ a2 → suc a4 ≡ a3 → floor < b4
+      → RowUnder bounds ws a1 next b1 → RowUnder bounds ws a2 b1 b2 → RowUnder bounds ws a3 b2 b3 → RowUnder bounds ws a4 b3 b4
+      → Stretch bounds ws floor i j next → Stretch bounds ws floor i a4 b4
+  stretch_four j next a1 b1 a2 b2 a3 b3 a4 b4 e1 e2 e3 e4 h u1 u2 u3 u4 v =
+      let v1 = stretch_turn j a1 next b1 e1 v (omega (arith, u4.below, u3.below, u2.below)) u1 in
+      let v2 = stretch_turn a1 a2 b1 b2 e2 v1 (omega (arith, u4.below, u3.below)) u2 in
+      let v3 = stretch_turn a2 a3 b2 b3 e3 v2 (omega (arith, u4.below)) u3 in
+      stretch_turn a3 a4 b3 b4 e4 v3 h u4
 
 -- ---- the rows of a stretch need no test
 module _ (c : Settings) (bounds : List ℕ) (whose : Whose) (ws : List ℕ) (floor i r block top : ℕ) (v : Stretch bounds ws floor i r block)

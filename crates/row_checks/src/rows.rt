@@ -1,5 +1,6 @@
 // Keys, entries, and tables of entries: bucket copies, items, append buffers.
-ghost use Rattle.std.specs.Prelude.{◌≡◌, suc, ◌<◌, length};
+ghost use Rattle.std.specs.Prelude.{◌≡◌, ℕ, suc, ◌<◌, length};
+ghost use Rattle.std.specs.Option.{MatchOption};
 ghost use Rattle.words.specs.Words.{words};
 ghost use Rattle.rules.specs.Entries.{entry};
 ghost use Rattle.layout.specs.Layout.{entries_codec};
@@ -41,8 +42,7 @@ fn ceiling_below(whose: Whose, block: u64) -> u64
     ensures { result ≡ ceiling_below whose block }
 {
     match whose {
-        Whose::Bucket(_) => block,
-        Whose::Proxy(_) => block,
+        Whose::Bucket(_) | Whose::Proxy(_) => block,
         Whose::Anyone => constants::BLOCKS,
     }
 }
@@ -52,26 +52,7 @@ fn entry_fits(settings: Settings, bounds: &[u64], whose: Whose, block: u64, key:
     requires { length bounds.now ≡ ids }
     ensures { result ≡ entry_fits settings (key_below bounds.now) whose (entry block key) }
 {
-    if !belongs(settings, whose, block) {
-        return false;
-    }
-    key_below(bounds, key)
-}
-
-// The block of row i, if it is below the next and its key below its bound; else 0.
-fn block_under(bounds: &[u64], table: &[u8], i: usize, next: u64) -> u64
-    requires { RowsFit (length bounds.now) (length table.now) (suc i) }
-    ensures { 0 < result → RowUnder bounds.now (words table.now) i next result }
-{
-    let block = words::read(table, 1 + 2 * i);
-    if next <= block {
-        return 0;
-    }
-    let key = words::read(table, 2 + 2 * i);
-    if !key_below(bounds, key) {
-        return 0;
-    }
-    block
+    belongs(settings, whose, block) && key_below(bounds, key)
 }
 
 // A row that was reached, and the block there.
@@ -81,33 +62,44 @@ struct Reached {
     block: u64,
 }
 
-// From row i down, four at a time, as long as blocks descend and stay above the floor and keys are below their bounds. One that fails makes those below it
-// fail, so the last of the four tells of all; where that is not above the floor the others need not be looked at.
+// The row below, if its block is below the next and its key below its bound.
+fn row_under(bounds: &[u64], table: &[u8], next: Reached) -> Option<Reached>
+    requires { RowsFit (length bounds.now) (length table.now) next.at × (0 < next.at) }
+    ensures { MatchOption result (Unit {0}) (λ r. (suc r.at ≡ next.at) × RowUnder bounds.now (words table.now) r.at next.block r.block) }
+{
+    let at = next.at - 1;
+    let block = words::read(table, 1 + 2 * at);
+    if next.block <= block || !key_below(bounds, words::read(table, 2 + 2 * at)) {
+        return None;
+    }
+    Some(Reached { at, block })
+}
+
+// Four rows down, if their blocks descend and stay above the floor and their keys are below their bounds. The lowest is looked at first: where it is not above
+// the floor the others need not be looked at.
+fn four_under(bounds: &[u64], table: &[u8], floor: u64, next: Reached) -> Option<Reached>
+    requires { RowsFit (length bounds.now) (length table.now) next.at }
+    ensures { MatchOption result (Unit {0}) (λ r. (r.at < next.at) × ((i : ℕ) → Stretch bounds.now (words table.now) floor i next.at next.block
+        → Stretch bounds.now (words table.now) floor i r.at r.block)) }
+{
+    if next.at < 4 || words::read(table, 1 + 2 * (next.at - 4)) <= floor {
+        return None;
+    }
+    let one = row_under(bounds, table, next)?;
+    let two = row_under(bounds, table, one)?;
+    let three = row_under(bounds, table, two)?;
+    row_under(bounds, table, three)
+}
+
+// From row i down, four at a time, as long as blocks descend and stay above the floor and keys are below their bounds.
 fn stretch(bounds: &[u64], table: &[u8], i: usize, floor: u64, block: u64) -> Reached
     requires rows_fit { RowsFit (length bounds.now) (length table.now) i }
     requires block_value { block ≡ block_at (words table.now) i }
     ensures { Stretch bounds.now (words table.now) floor i result.at result.block }
 {
-    let mut here = Reached {
-        at: i,
-        block: block,
-    };
-    while 3 < here.at {
-        let last = here.at - 4;
-        if words::read(table, 1 + 2 * last) <= floor {
-            return here;
-        }
-        let one = block_under(bounds, table, last + 3, here.block);
-        let two = block_under(bounds, table, last + 2, one);
-        let three = block_under(bounds, table, last + 1, two);
-        let four = block_under(bounds, table, last, three);
-        if four <= floor {
-            return here;
-        }
-        here = Reached {
-            at: last,
-            block: four,
-        };
+    let mut here = Reached { at: i, block };
+    while let Some(lower) = four_under(bounds, table, floor, here) {
+        here = lower;
     }
     here
 }
@@ -119,6 +111,7 @@ fn rows_good(settings: Settings, bounds: &[u64], whose: Whose, table: &[u8], n: 
 {
     let mut ceiling = constants::BLOCKS;
     let mut i = n;
+    // stays: (d) each turn goes down past a stretch, as far as that reaches
     while 0 < i {
         i -= 1;
         let block = words::read(table, 1 + 2 * i);
@@ -149,8 +142,5 @@ pub fn table_good(
     ensures { result ≡ table_sound settings (key_below bounds.now) whose most ((entries_codec most).dec (words bytes.now)) }
 {
     let count = words::read(bytes, 0);
-    if (most as u64) < count {
-        return false;
-    }
-    rows_good(settings, bounds, whose, bytes, count as usize)
+    count <= most as u64 && rows_good(settings, bounds, whose, bytes, count as usize)
 }

@@ -1,6 +1,5 @@
 use Rattle.words.specs.Words.{words}
 use Rattle.row_checks.specs.Chunks.{Descent}
-use Rattle.row_checks.proofs.chunks.key_under.Reads as key-under-reads
 use Rattle.row_checks.proofs.chunks.descend.Given as goal
 
 abbrev pub invariant-loop-j : goal.invariant-loop-j

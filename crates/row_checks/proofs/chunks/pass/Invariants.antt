@@ -1,11 +1,6 @@
-use Prim.Native.Nat.{◌-◌}
 use Rattle.words.specs.Words.{words}
 use Rattle.row_checks.specs.Rows.{key_below}
 use Rattle.row_checks.proofs.ChunkLaws.{Passing}
-use Rattle.row_checks.proofs.chunks.descend.Reads as descend-reads
-use Rattle.row_checks.proofs.rows.key_below.Reads as key-below-reads
-use Rattle.rules.proofs.numbers.ChunkKey.home.Reads as home-reads
-use Rattle.words.proofs.read.Reads as read-reads
 use Rattle.row_checks.proofs.chunks.pass.Given as goal
 
 abbrev pub invariant-loop-i : goal.invariant-loop-i

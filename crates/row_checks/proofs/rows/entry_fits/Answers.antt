@@ -1,13 +1,12 @@
-use mathlib.Core.Path.{sym, ◌∙◌}
-use borrow.Author.Tests.{not-true, not-false}
-use Rattle.lists.proofs.Tests.{no_first, yes_first}
+use Rattle.std.proofs.Common.{rules}
+use Rattle.lists.specs.Tests.{◌and◌}
 use Rattle.row_checks.specs.Rows.{entry_fits}
 use Rattle.row_checks.proofs.rows.entry_fits.Goals as goal
 
-pub returns-then-not-belongs : goal.returns-then-not-belongs
-unfolding entry_fits
-returns-then-not-belongs c = sym (no_first _ _ (sym c.belongs.ensures ∙ not-true _ c.if-not-belongs.true-raw))
+pub returns-then-belongs : goal.returns-then-belongs
+unfolding entry_fits ◌and◌
+returns-then-belongs c = search rules
 
-pub returns : goal.returns
-unfolding entry_fits
-returns c = c.key_below.ensures ∙ sym (yes_first _ _ (sym c.belongs.ensures ∙ not-false _ c.if-not-belongs.false-raw))
+pub returns-else-belongs : goal.returns-else-belongs
+unfolding entry_fits ◌and◌
+returns-else-belongs c = search rules

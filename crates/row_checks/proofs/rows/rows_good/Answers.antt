@@ -2,17 +2,11 @@ use mathlib.Core.Path.{◌≡◌, refl, sym, ap, ◌∙◌}
 use mathlib.Core.Bool.{Bool}
 use Prim.Native.Nat.{ℕ, suc, ◌-◌, ◌<◌}
 use native.Mathlib.Omega.{arith}
-use borrow.Author.Tests.{not-true, not-false}
 use Rattle.rules.specs.Numbers.{block_count}
 use Rattle.words.specs.Words.{words}
 use Rattle.row_checks.specs.Rows.{key_below}
 use Rattle.row_checks.proofs.RowLaws.{ceiling_range, rows_under, under_none, under_high, under_bad, under_next, rows_are}
 use Rattle.row_checks.proofs.StretchLaws.{stretch_under}
-use borrow.Author.Rules.{rules}
-use Rattle.row_checks.proofs.rows.ceiling_below.Reads as ceiling-below-reads
-use Rattle.row_checks.proofs.rows.entry_fits.Reads as entry-fits-reads
-use Rattle.row_checks.proofs.rows.stretch.Reads as stretch-reads
-use Rattle.words.proofs.read.Reads as read-reads
 use Rattle.row_checks.proofs.rows.rows_good.Goals as goal
 
 -- what the loop has left to test, with its last row by itself
@@ -20,10 +14,7 @@ one_more : (under : ℕ → ℕ → Bool) (all ceiling i : ℕ) → 0 < i → un
 one_more under all ceiling i h e = let q : i ≡ suc (i - 1) = omega arith in e ∙ ap (under ceiling) q
 
 -- src/rows.rt:145:5
-pub loop-i-init : goal.loop-i-init
-loop-i-init c = (search rules, search rules, refl)
 
--- src/rows.rt:149:13
 pub returns-then-ceiling-block : goal.returns-then-ceiling-block
 returns-then-ceiling-block c =
     let l = c.loop-i in
@@ -35,6 +26,7 @@ returns-then-ceiling-block c =
     ∙ under_high a.settings k a.whose ws l.ceiling (l.i - 1) c.read-block.result _ c.read-block.ensures refl c.if-ceiling-block.true)
 
 -- src/rows.rt:153:13
+
 pub returns-then-not-entry_fits : goal.returns-then-not-entry_fits
 returns-then-not-entry_fits c =
     let l = c.loop-i in
@@ -44,17 +36,10 @@ returns-then-not-entry_fits c =
     sym (sym (rows_are a.settings k a.whose ws a.n)
     ∙ one_more (rows_under a.settings k a.whose ws) a.n l.ceiling l.i (omega arith) l.invariant.2
     ∙ under_bad a.settings k a.whose ws l.ceiling (l.i - 1) c.read-block.result c.read-key.result c.read-block.ensures
-    c.read-key.ensures (sym c.entry_fits.ensures ∙ not-true _ c.if-not-entry_fits.true-raw))
+    c.read-key.ensures (sym c.entry_fits.ensures ∙ c.if-not-entry_fits.true))
 
 -- src/rows.rt:156:13
-pub stretch-reached-requires : goal.stretch-reached-requires
-stretch-reached-requires c = record { rows_fit = record { known = c.requires.known; room = omega (arith, c.requires.room, c.loop-i.invariant.0) }; block_value = c.read-block.ensures }
 
--- src/rows.rt:145:5
-pub loop-i-smaller : goal.loop-i-smaller
-loop-i-smaller c = omega (arith, c.stretch-reached.ensures.inside)
-
--- src/rows.rt:145:5
 pub loop-i-preserved : goal.loop-i-preserved
 loop-i-preserved c =
     let l = c.loop-i in
@@ -62,7 +47,7 @@ loop-i-preserved c =
     let k = key_below a.bounds.now in
     let ws = words a.table.now in
     let key = c.read-key in
-    let fits = sym c.entry_fits.ensures ∙ not-false _ c.if-not-entry_fits.false-raw in
+    let fits = sym c.entry_fits.ensures ∙ c.if-not-entry_fits.false in
     let s = c.stretch-reached.ensures in
     let low : c.read-block.result < l.ceiling = c.if-ceiling-block.false in
     let range : c.read-block.result < block_count = omega (arith, low, l.invariant.1) in (
@@ -75,6 +60,7 @@ loop-i-preserved c =
     )
 
 -- src/rows.rt:139:1
+
 pub returns : goal.returns
 returns c =
     let l = c.loop-i in

@@ -1,13 +1,9 @@
 use mathlib.Core.Path.{◌≡◌}
-use Prim.Native.Nat.{◌-◌, ◌≤◌}
+use Prim.Native.Nat.{◌≤◌}
 use Rattle.rules.specs.Numbers.{block_count}
 use Rattle.words.specs.Words.{words}
 use Rattle.row_checks.specs.Rows.{key_below}
 use Rattle.row_checks.proofs.RowLaws.{rows_under}
-use Rattle.row_checks.proofs.rows.ceiling_below.Reads as ceiling-below-reads
-use Rattle.row_checks.proofs.rows.entry_fits.Reads as entry-fits-reads
-use Rattle.row_checks.proofs.rows.stretch.Reads as stretch-reads
-use Rattle.words.proofs.read.Reads as read-reads
 use Rattle.row_checks.proofs.rows.rows_good.Given as goal
 
 abbrev pub invariant-loop-i : goal.invariant-loop-i
