@@ -1,4 +1,7 @@
 -- Alike, by what the stores differ in first.
+use mathlib.Core.Bool.{Bool, ◌&&◌}
+use lib.Dec.{eqb}
+use mathlib.Core.Path.{refl}
 use mathlib.Core.Path.{◌≡◌, sym, ap, subst, ◌∙◌}
 use mathlib.Core.List.{List}
 use mathlib.Core.Bool.{true, false}
@@ -74,3 +77,13 @@ module _ (c : Settings) (one other : List ℕ) (v : Two c one other) where
 -- with equal settings, either's are the other's
 pub two_stores : {c d : Settings} (one other : List ℕ) → StoreOf c one → StoreOf d other → same_settings c d ≡ true → Two c one other
 two_stores {c} {d} one other v w y = record { first = v; second = subst (λ (x : Settings). StoreOf x other) (sym (same_settings_true c d y)) w }
+
+-- the derived equality compares the same four numbers
+pub derived_settings : (c d : Settings) → (eqb c.places d.places && (eqb c.size d.size && (eqb c.entries d.entries && eqb c.chunks d.chunks))) ≡ same_settings c d
+unfolding same_settings ◌and◌
+derived_settings c d = turned (eqb c.places d.places) (eqb c.size d.size) (eqb c.entries d.entries) (eqb c.chunks d.chunks)
+  where
+    turned : (a b e f : Bool) → (a && (b && (e && f))) ≡ (((a && b) && e) && f)
+    turned true true e f = refl
+    turned true false e f = refl
+    turned false b e f = refl

@@ -2,7 +2,7 @@
 use mathlib.Core.Path.{◌≡◌, refl, sym, ap, subst, ◌∙◌}
 use mathlib.Core.List.{List, [], ◌∷◌}
 use mathlib.Core.Bool.{true}
-use Prim.Native.Nat.{ℕ, ◌<◌}
+use Prim.Native.Nat.{ℕ}
 use native.Mathlib.Omega.{arith}
 use lib.Dec.{eqb}
 use lib.ListN.{length, get_or, drop}
@@ -30,10 +30,6 @@ module _ (c : Settings) (s : State) (g : ℕ) where
   pub nowhere : {r : Option ℕ} → r ≡ None → PlaceOf c s (s.bucket g).primary r → brick_in s (s.bucket g).primary ≡ blank_brick
   nowhere e h = subst (PlaceOf c s (s.bucket g).primary) e h
 
--- a place that holds a brick is not empty
-pub holds : {c : Settings} {s : State} {id place : ℕ} → Stands c s id place → 0 < s.ids place
-holds k = omega (arith, k.here, k.some)
-
 -- ---- no entries
 none_same : (l : List Entry) → eqb (length l) 0 ≡ same_entries l []
 unfolding same_entries
@@ -54,10 +50,6 @@ count_none most l part h =
 
 -- ---- a bucket's primaries: each stands at a place, or nowhere
 module _ (s t : State) (g : ℕ) where
-  pub both_stand : (p q : ℕ) → s.ids p ≡ (s.bucket g).primary → t.ids q ≡ (t.bucket g).primary
-      → same_entries ((s.bucket g).memory (s.ids p)) ((t.bucket g).memory (t.ids q)) ≡ same_primary s t g
-  both_stand p q a b = rw (a, b)
-
   pub first_stands : (p : ℕ) → s.ids p ≡ (s.bucket g).primary → brick_in t (t.bucket g).primary ≡ blank_brick
       → same_entries ((s.bucket g).memory (s.ids p)) [] ≡ same_primary s t g
   first_stands p a b = let n : (t.bucket g).memory (t.bucket g).primary ≡ [] = ap (λ (k : Brick). (k.copies g).memory) b in rw (a, n)

@@ -7,7 +7,7 @@ ghost use Rattle.lists.specs.Tests.{all_below};
 ghost use Rattle.words.specs.Words.{words};
 ghost use Rattle.rules.specs.Limits.{buckets};
 ghost use Rattle.rules.specs.Sound.{same_entries};
-ghost use Rattle.rules.specs.Alike.{same_settings, alike};
+ghost use Rattle.rules.specs.Alike.{alike};
 ghost use Rattle.layout.specs.Store.{decode};
 ghost use Rattle.lent.specs.Stores.{SoundStore};
 ghost use Rattle.lent.specs.Stores.{StoreOf};
@@ -20,15 +20,6 @@ use lent::{brick, bucket, place, store};
 use rules::refusal::Refusal;
 use rules::settings::Settings;
 
-fn same_settings(one: Settings, other: Settings) -> bool
-    ensures { result ≡ same_settings one other }
-{
-    (one.places == other.places)
-        & (one.size == other.size)
-        & (one.entries == other.entries)
-        & (one.chunks == other.chunks)
-}
-
 // ---- members
 
 // Is the brick at a place of the one a member of the other, where it is a member?
@@ -36,11 +27,8 @@ fn member_in(one: &[u8], other: &[u8], settings: Settings, place: usize) -> bool
     requires { Two settings one.now other.now × (place < settings.places) }
     ensures { result ≡ member_in (decode (words one.now)) (decode (words other.now)) place }
 {
-    if place::is_member(one, settings, place) {
-        let id = place::id(one, settings, place);
-        return brick::up_member(other, settings, id);
-    }
-    true
+    !place::is_member(one, settings, place)
+        || brick::up_member(other, settings, place::id(one, settings, place))
 }
 
 // Is every member of the one a member of the other?
@@ -48,14 +36,7 @@ fn members_in(one: &[u8], other: &[u8], settings: Settings) -> bool
     requires { Two settings one.now other.now }
     ensures { result ≡ all_below settings.places (member_in (decode (words one.now)) (decode (words other.now))) }
 {
-    let mut p = 0;
-    while p < settings.places {
-        if !member_in(one, other, settings, p) {
-            return false;
-        }
-        p += 1;
-    }
-    true
+    (0..settings.places).all(|place| member_in(one, other, settings, place))
 }
 
 // ---- what the primaries have in memory
@@ -82,19 +63,19 @@ fn same_memory(one: &[u8], other: &[u8], settings: Settings, bucket: usize) -> b
     requires { Two settings one.now other.now × (bucket < buckets settings) }
     ensures { result ≡ same_primary (decode (words one.now)) (decode (words other.now)) bucket }
 {
-    match primary_place(one, settings, bucket) {
-        Some(first) => match primary_place(other, settings, bucket) {
-            Some(second) => entries::same(
-                place::memory(one, settings, first, bucket),
-                place::memory(other, settings, second, bucket),
-                settings.entries,
-            ),
-            None => none_there(one, settings, first, bucket),
-        },
-        None => match primary_place(other, settings, bucket) {
-            Some(second) => none_there(other, settings, second, bucket),
-            None => true,
-        },
+    let places = (
+        primary_place(one, settings, bucket),
+        primary_place(other, settings, bucket),
+    );
+    match places {
+        (Some(first), Some(second)) => entries::same(
+            place::memory(one, settings, first, bucket),
+            place::memory(other, settings, second, bucket),
+            settings.entries,
+        ),
+        (Some(first), None) => none_there(one, settings, first, bucket),
+        (None, Some(second)) => none_there(other, settings, second, bucket),
+        (None, None) => true,
     }
 }
 
@@ -102,15 +83,7 @@ fn same_memories(one: &[u8], other: &[u8], settings: Settings) -> bool
     requires { Two settings one.now other.now }
     ensures { result ≡ all_below (buckets settings) (same_primary (decode (words one.now)) (decode (words other.now))) }
 {
-    let count = settings.buckets();
-    let mut g = 0;
-    while g < count {
-        if !same_memory(one, other, settings, g) {
-            return false;
-        }
-        g += 1;
-    }
-    true
+    (0..settings.buckets()).all(|bucket| same_memory(one, other, settings, bucket))
 }
 
 // ---- the whole
@@ -138,10 +111,7 @@ fn are_alike(one: &[u8], other: &[u8]) -> bool
     ensures { result ≡ alike (decode (words one.now)) (decode (words other.now)) }
 {
     let settings = store::settings(one);
-    if same_settings(settings, store::settings(other)) {
-        return same_parts(one, other, settings);
-    }
-    false
+    settings == store::settings(other) && same_parts(one, other, settings)
 }
 
 // Are two lent stores alike? Refused where one of them is not sound.

@@ -1,29 +1,13 @@
-use mathlib.Core.Path.{sym, ◌∙◌}
-use native.Mathlib.Omega.{arith}
-use borrow.Author.Count.{below_more, below_none}
-use borrow.Author.Rules.{rules}
-use borrow.Author.Tests.{not-true, not-false}
-use Rattle.lists.proofs.Tests.{all_true, all_false}
-use borrow.Author.Rules.{rules}
-use borrow.Author.Rules.{rules}
-use borrow.Author.Rules.{rules}
-use borrow.Author.Rules.{rules}
-use borrow.Author.Rules.{rules}
+use Rattle.std.proofs.Common.{Bool, ℕ, refl, ◌∙◌, arith, rules, tests}
+use Rattle.std.proofs.lemmas.Iterator.{YieldsList-from_range}
+use Rattle.std.proofs.lemmas.Iterator.Search.{all_from_yields_List}
+use Rattle.words.specs.Words.{words}
+use Rattle.layout.specs.Store.{decode}
+use Rattle.alike.specs.Alike.{member_in}
+use Rattle.lent.proofs.Ranges.{all_range}
 use Rattle.alike.proofs.members_in.Goals as goal
-
-pub loop-p-init : goal.loop-p-init
-loop-p-init c = (search rules, below_none _)
-
-pub returns-then-not-member_in : goal.returns-then-not-member_in
-returns-then-not-member_in c =
-    sym (all_false _ _ c.loop-p.p (search rules) (sym c.member_in.ensures ∙ not-true _ c.if-not-member_in.true-raw))
-
-pub loop-p-preserved : goal.loop-p-preserved
-loop-p-preserved c = (
-  search rules,
-  below_more _ c.loop-p.p c.loop-p.invariant.1 (sym c.member_in.ensures ∙ not-false _ c.if-not-member_in.false-raw),
-)
 
 pub returns : goal.returns
 returns c =
-    sym (all_true _ _ (λ k l. c.loop-p.invariant.1 k (omega arith)))
+    let test : ℕ → Bool = member_in (decode (words c.args.one.now)) (decode (words c.args.other.now)) in
+    all_from_yields_List test _ _ _ c.all.ensures.ran (YieldsList-from_range 0 _ c.args.settings.places refl (omega arith)) (λ x b q k. search (rules, tests)) ∙ all_range test c.args.settings.places

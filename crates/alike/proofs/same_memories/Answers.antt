@@ -1,24 +1,14 @@
-use mathlib.Core.Path.{sym, ◌∙◌}
-use native.Mathlib.Omega.{arith}
-use borrow.Author.Count.{below_more, below_none}
-use borrow.Author.Tests.{not-true, not-false}
-use Rattle.lists.proofs.Tests.{all_true, all_false}
-use borrow.Author.Rules.{rules}
+use Rattle.std.proofs.Common.{Bool, ℕ, refl, ◌∙◌, arith, rules, tests}
+use Rattle.std.proofs.lemmas.Iterator.{YieldsList-from_range}
+use Rattle.std.proofs.lemmas.Iterator.Search.{all_from_yields_List}
+use Rattle.words.specs.Words.{words}
+use Rattle.rules.specs.Limits.{buckets}
+use Rattle.layout.specs.Store.{decode}
+use Rattle.alike.specs.Alike.{same_primary}
+use Rattle.lent.proofs.Ranges.{all_range}
 use Rattle.alike.proofs.same_memories.Goals as goal
 
-pub loop-g-init : goal.loop-g-init
-loop-g-init c = (search rules, search rules, below_none _)
-
-pub returns-then-not-same_memory : goal.returns-then-not-same_memory
-returns-then-not-same_memory c =
-    sym (all_false _ _ c.loop-g.g (search rules) (sym c.same_memory.ensures ∙ not-true _ c.if-not-same_memory.true-raw))
-
-pub loop-g-preserved : goal.loop-g-preserved
-loop-g-preserved c = (
-  search rules,
-  search rules,
-  below_more _ c.loop-g.g c.loop-g.invariant.2 (sym c.same_memory.ensures ∙ not-false _ c.if-not-same_memory.false-raw),
-)
-
 pub returns : goal.returns
-returns c = sym (all_true _ _ (λ k l. c.loop-g.invariant.2 k (omega arith)))
+returns c =
+    let test : ℕ → Bool = same_primary (decode (words c.args.one.now)) (decode (words c.args.other.now)) in
+    all_from_yields_List test _ _ _ c.all.ensures.ran (YieldsList-from_range 0 _ (buckets c.args.settings) refl (omega (arith, c.buckets.ensures))) (λ x b q k. search (rules, tests)) ∙ all_range test (buckets c.args.settings)
