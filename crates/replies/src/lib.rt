@@ -12,7 +12,6 @@ ghost use Rattle.lent.specs.Stores.{SoundStore, StoreOf};
 ghost use Rattle.traces.specs.Trace.{outcome};
 ghost use Rattle.replies.specs.Replies.{longest_answer, Replies};
 
-use parse::Parsed;
 use rules::settings::Settings;
 
 // An answer has at most so many bytes.
@@ -46,32 +45,29 @@ fn answer_get(
     }
 }
 
-// The event of a kind is carried out, and its answer stands at the front of the area; the answer's length. Only a get looks at areas and shows bytes.
+// An event is carried out, and its answer stands at the front of the area; the answer's length. Only a get looks at areas and shows bytes.
 fn answer_event(
     store: &mut [u8],
     settings: Settings,
-    kind: u64,
-    a: u64,
-    b: u64,
-    c: u64,
+    event: text::Event,
     data: &[u8],
     number: u64,
     area: &mut [u8],
 ) -> usize
     requires { StoreOf settings store.old × (longest_answer ≤ length area.old) }
-    ensures { Replies number (step (decode_bytes store.old) (event_from kind a b c «data».now)) area.old result
-        area.new store.old store.new }
+    ensures { Replies number (step (decode_bytes store.old) (event_from event.kind event.a event.b event.c «data».now)) area.old
+        result area.new store.old store.new }
 {
-    if kind == step::GET {
-        return answer_get(store, settings, a, b, number, area);
+    if event.kind == step::GET {
+        return answer_get(store, settings, event.a, event.b, number, area);
     }
     let answer = step::perform(
         store,
         settings,
-        kind,
-        a,
-        b,
-        c,
+        event.kind,
+        event.a,
+        event.b,
+        event.c,
         data,
         &data[0..0],
         &mut area[0..0],
@@ -93,19 +89,8 @@ pub fn answer_line(store: &mut [u8], line: &[u8], number: u64, area: &mut [u8]) 
     let settings = lent::store::settings(store);
     let size = settings.size;
     let mut data = zero_block();
-    let parsed = parse::parse(line, size, &mut data[..size]);
-    match parsed {
-        Parsed::Is { kind, a, b, c } => answer_event(
-            store,
-            settings,
-            kind,
-            a,
-            b,
-            c,
-            &data[..size],
-            number,
-            area,
-        ),
-        Parsed::Refused => answers::write_answer(number, 3, 0, &line[0..0], area),
+    match parse::parse(line, size, &mut data[..size]) {
+        Some(event) => answer_event(store, settings, event, &data[..size], number, area),
+        None => answers::write_answer(number, 3, 0, &line[0..0], area),
     }
 }

@@ -1,17 +1,17 @@
 use Rattle.replies.proofs.Outcomes.{of_kind, yes_written, no_written}
 use Rattle.replies.proofs.answer_event.Goals as goal
 
-pub returns-then-kind-eq-GET : goal.returns-then-kind-eq-GET
-returns-then-kind-eq-GET c =
+pub returns-then-event-eq-GET : goal.returns-then-event-eq-GET
+returns-then-event-eq-GET c =
     let a = c.args in
-    of_kind c.if-kind-eq-GET.true a.a a.b a.c a.«data».now c.answer_get.ensures
+    of_kind c.if-event-eq-GET.true a.event.a a.event.b a.event.c a.«data».now c.answer_get.ensures
 
 pub returns-in-Ok : goal.returns-in-Ok
 returns-in-Ok c =
     let w = c.write_answer in
     let a = c.args in
     let r = c.perform-answer in
-    yes_written a.settings a.store.now c.requires.0 a.kind a.a a.b a.c a.«data».now c.if-kind-eq-GET.false r.result _ _ r.ensures
+    yes_written a.settings a.store.now c.requires.0 a.event.kind a.event.a a.event.b a.event.c a.«data».now c.if-event-eq-GET.false r.result _ _ r.ensures
     r.auto.area c.in-Ok.key c.in-Ok.is a.number _ a.area.now _ w.ensures.0
     w.ensures.1
 
@@ -20,6 +20,6 @@ returns-in-Err c =
     let w = c.write_answer-in-Err in
     let a = c.args in
     let r = c.perform-answer in
-    no_written a.settings a.store.now c.requires.0 a.kind a.a a.b a.c a.«data».now c.if-kind-eq-GET.false r.result _ _ r.ensures
+    no_written a.settings a.store.now c.requires.0 a.event.kind a.event.a a.event.b a.event.c a.«data».now c.if-event-eq-GET.false r.result _ _ r.ensures
     r.auto.area c.in-Err.refusal c.in-Err.is a.number _ a.area.now _
     (rw c.from.ensures at w.ensures.0) (rw c.from.ensures at w.ensures.1)

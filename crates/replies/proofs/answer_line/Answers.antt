@@ -14,15 +14,15 @@ slice_bounds-parse-end c =
     (omega (arith, c.settings-settings.ensures.limits.size_to, ap length c.zero_block-data.ensures, zeros_length max_size)) in
     sym (block_size)
 
-pub slice_bounds-data-end-in-Is : goal.slice_bounds-data-end-in-Is
-slice_bounds-data-end-in-Is c =
+pub slice_bounds-data-end-in-Some : goal.slice_bounds-data-end-in-Some
+slice_bounds-data-end-in-Some c =
     let block_size : length (take c.settings-settings.result.size c.zero_block-data.result) ≡ c.settings-settings.result.size = length-take-le _ c.zero_block-data.result
     (omega (arith, c.settings-settings.ensures.limits.size_to, ap length c.zero_block-data.ensures, zeros_length max_size)) in
-    let data_size : length c.parse-parsed.new.data ≡ c.settings-settings.result.size = c.parse-parsed.auto.data ∙ block_size in
+    let data_size : length c.parse.new.data ≡ c.settings-settings.result.size = c.parse.auto.data ∙ block_size in
     omega (
       arith,
       data_size,
-      length-append c.parse-parsed.new.data
+      length-append c.parse.new.data
           (drop c.settings-settings.result.size c.zero_block-data.result),
     )
 
@@ -30,30 +30,30 @@ pub slice_bounds-answer_event-end : goal.slice_bounds-answer_event-end
 slice_bounds-answer_event-end c =
     let block_size : length (take c.settings-settings.result.size c.zero_block-data.result) ≡ c.settings-settings.result.size = length-take-le _ c.zero_block-data.result
     (omega (arith, c.settings-settings.ensures.limits.size_to, ap length c.zero_block-data.ensures, zeros_length max_size)) in
-    let data_size : length c.parse-parsed.new.data ≡ c.settings-settings.result.size = c.parse-parsed.auto.data ∙ block_size in
-    sym (ap length (take_at c.parse-parsed.new.data _ c.settings-settings.result.size (data_size)) ∙ data_size)
+    let data_size : length c.parse.new.data ≡ c.settings-settings.result.size = c.parse.auto.data ∙ block_size in
+    sym (ap length (take_at c.parse.new.data _ c.settings-settings.result.size (data_size)) ∙ data_size)
 
-pub returns-in-Is : goal.returns-in-Is
-returns-in-Is c =
+pub returns-in-Some : goal.returns-in-Some
+returns-in-Some c =
     let block_size : length (take c.settings-settings.result.size c.zero_block-data.result) ≡ c.settings-settings.result.size = length-take-le _ c.zero_block-data.result
     (omega (arith, c.settings-settings.ensures.limits.size_to, ap length c.zero_block-data.ensures, zeros_length max_size)) in
-    let data_size : length c.parse-parsed.new.data ≡ c.settings-settings.result.size = c.parse-parsed.auto.data ∙ block_size in
+    let data_size : length c.parse.new.data ≡ c.settings-settings.result.size = c.parse.auto.data ∙ block_size in
     let a = c.args in
     let z = c.settings-settings in
     let e = c.answer_event in
-    answered_line z.result a.store.now a.line.now (take z.result.size c.zero_block-data.result) c.parse-parsed.new.data
-    z.ensures c.parse-parsed.result (block_size) c.parse-parsed.ensures.0
-    c.parse-parsed.ensures.1 a.number a.area.now e.result _ _ c.in-Is.kind c.in-Is.a c.in-Is.b c.in-Is.c _
-    (take_at c.parse-parsed.new.data _ z.result.size (data_size)) c.in-Is.is e.ensures
+    answered_line z.result a.store.now a.line.now (take z.result.size c.zero_block-data.result) c.parse.new.data
+    z.ensures c.parse.result (block_size) c.parse.ensures.0
+    c.parse.ensures.1 a.number a.area.now e.result _ _ c.in-Some.event _
+    (take_at c.parse.new.data _ z.result.size (data_size)) c.in-Some.is e.ensures
 
-pub returns-in-Refused : goal.returns-in-Refused
-returns-in-Refused c =
+pub returns-in-None : goal.returns-in-None
+returns-in-None c =
     let block_size : length (take c.settings-settings.result.size c.zero_block-data.result) ≡ c.settings-settings.result.size = length-take-le _ c.zero_block-data.result
     (omega (arith, c.settings-settings.ensures.limits.size_to, ap length c.zero_block-data.ensures, zeros_length max_size)) in
     let a = c.args in
     let z = c.settings-settings in
     let w = c.write_answer in
-    answered_none z.result a.store.now a.line.now (take z.result.size c.zero_block-data.result) c.parse-parsed.new.data
-    z.ensures c.parse-parsed.result (block_size) c.parse-parsed.ensures.0
-    c.parse-parsed.ensures.1 a.number a.area.now w.result _ a.store.now (below_of 256 _ (λ i. omega (arith, c.slice_known-1.given i)))
-    c.in-Refused.is w.ensures.0 w.ensures.1
+    answered_none z.result a.store.now a.line.now (take z.result.size c.zero_block-data.result) c.parse.new.data
+    z.ensures c.parse.result (block_size) c.parse.ensures.0
+    c.parse.ensures.1 a.number a.area.now w.result _ a.store.now (below_of 256 _ (λ i. omega (arith, c.slice_known-1.given i)))
+    c.in-None.is w.ensures.0 w.ensures.1
