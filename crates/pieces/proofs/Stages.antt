@@ -2,7 +2,7 @@
 use mathlib.Core.Path.{◌≡◌, refl, sym, ap, subst, ◌∙◌}
 use mathlib.Core.List.{List, []}
 use mathlib.Core.Bool.{true}
-use mathlib.Core.Option.{Option, some, none}
+use Rattle.std.specs.Prelude.{Option, Some, None}
 use Prim.Native.Nat.{ℕ, ◌+◌, ◌≤◌}
 use native.Mathlib.Omega.{arith}
 use lib.ListN.{length, take}
@@ -16,7 +16,6 @@ use Rattle.layout.specs.Store.{decode_bytes, sound_bytes}
 use Rattle.text.specs.Lines.{read_settings}
 use Rattle.parse.specs.Answers.{settings_answer}
 use Rattle.parse.specs.declared.SettingsLine.{SettingsLine}
-use Rattle.parse.specs.declared.SettingsLine.TheVariants.{Are, Refused}
 use Rattle.answers.specs.Answers.{answer_line}
 use Rattle.store.specs.Calls.{settings}
 use Rattle.calls.proofs.Held.{Holds, holds_own, holds_step}
@@ -29,34 +28,34 @@ use Rattle.pieces.specs.declared.Said.{Said}
 use Rattle.pieces.specs.Stages.{phase_of, line_number, Opens, OpensLine, TakesLine}
 
 -- ---- the settings of a line
-module _ (o : Option Settings) (r : SettingsLine) (e : r ≡ settings_answer o) (stage : Stage) (room : List ℕ) where
-  pub opened_some : (p s m l : ℕ) → r ≡ Are p s m l → Opens (settings p s m l) stage room → OpensLine o stage room
+module _ (o : Option Settings) (r : Option SettingsLine) (e : r ≡ settings_answer o) (stage : Stage) (room : List ℕ) where
+  pub opened_some : (l : SettingsLine) → r ≡ Some l → Opens (settings l.places l.size l.entries l.chunks) stage room → OpensLine o stage room
   unfolding settings_answer
-  opened_some p s m l q = go o e
+  opened_some l q = go o e
     where
-      go : (o : Option Settings) → r ≡ settings_answer o → Opens (settings p s m l) stage room → OpensLine o stage room
-      go none e h = let z : ◌≡◌ {A = ℕ} 0 1 = cc in absurd (omega arith)
-      go (some c) e h =
-          let same : settings p s m l ≡ settings c.places c.size c.entries c.chunks = cc in
-          subst (λ (x : Settings). OpensLine (some x) stage room) same h
+      go : (o : Option Settings) → r ≡ settings_answer o → Opens (settings l.places l.size l.entries l.chunks) stage room → OpensLine o stage room
+      go None e h = let z : ◌≡◌ {A = ℕ} 0 1 = cc in absurd (omega arith)
+      go (Some c) e h =
+          let same : settings l.places l.size l.entries l.chunks ≡ settings c.places c.size c.entries c.chunks = cc in
+          subst (λ (x : Settings). OpensLine (Some x) stage room) same h
 
-pub opened_none : (o : Option Settings) (r : SettingsLine) → r ≡ settings_answer o → r ≡ Refused → (room : List ℕ) → OpensLine o Stopped room
+pub opened_none : (o : Option Settings) (r : Option SettingsLine) → r ≡ settings_answer o → r ≡ None → (room : List ℕ) → OpensLine o Stopped room
 unfolding settings_answer
-opened_none none r e q room = record { phase = refl; fits = tt; number = omega arith }
-opened_none (some c) r e q room = let z : ◌≡◌ {A = ℕ} 0 1 = cc in absurd (omega arith)
+opened_none None r e q room = record { phase = refl; fits = tt; number = omega arith }
+opened_none (Some c) r e q room = let z : ◌≡◌ {A = ℕ} 0 1 = cc in absurd (omega arith)
 
 -- ---- the settings line
 stopped_said : (o : Option Settings) → settings_next o ≡ stopped → settings_said o ≡ refused
-stopped_said none e = refl
-stopped_said (some c) e =
+stopped_said None e = refl
+stopped_said (Some c) e =
     by (can_trace c) (λ y. let z : ◌≡◌ {A = ℕ} 0 1 = differ (rw y at e) in absurd (omega arith)) (λ n. rw n)
   where
     differ : {n : ℕ} {s : State} → running n s ≡ stopped → ◌≡◌ {A = ℕ} 0 1
     differ e = cc
 
 others_said : (o : Option Settings) → (settings_next o ≡ stopped → ⊥) → settings_said o ≡ []
-others_said none e = absurd (e refl)
-others_said (some c) e = by (can_trace c) (λ y. rw y) (λ n. absurd (e (rw n)))
+others_said None e = absurd (e refl)
+others_said (Some c) e = by (can_trace c) (λ y. rw y) (λ n. absurd (e (rw n)))
 
 not_stopped : (r : Stage) (room : List ℕ) → (r ≡ Stopped → ⊥) → phase_of r room ≡ stopped → ⊥
 not_stopped Opening room n e = let z : ◌≡◌ {A = ℕ} 0 1 = cc in omega arith

@@ -12,13 +12,13 @@ use Rattle.pieces.proofs.open_store.Goals as goal
 pub returns-then-bytes-eq0 : goal.returns-then-bytes-eq0
 returns-then-bytes-eq0 c =
     let a = c.args in
-    opens_none (settings a.places a.size a.entries a.chunks) _ c.length-bytes.result c.length-bytes.ensures c.if-bytes-eq0.true
+    opens_none (settings a.given.places a.given.size a.given.entries a.given.chunks) _ c.length-bytes.result c.length-bytes.ensures c.if-bytes-eq0.true
 
 pub returns-then-bytes : goal.returns-then-bytes
 returns-then-bytes c =
     let a = c.args in
     let n = c.length-bytes in
-    opens_large (settings a.places a.size a.entries a.chunks) n.result n.ensures c.if-bytes-eq0.false _ c.if-bytes.true
+    opens_large (settings a.given.places a.given.size a.given.entries a.given.chunks) n.result n.ensures c.if-bytes-eq0.false _ c.if-bytes.true
 
 pub slice_bounds-format_store-end-2 : goal.slice_bounds-format_store-end-2
 slice_bounds-format_store-end-2 c =
@@ -31,7 +31,7 @@ returns c =
     let n = c.length-bytes in
     let f = c.format_store in
     let part = length-take-le n.result a.room.now (omega (arith, c.requires, c.if-bytes.false)) in
-    opens (settings a.places a.size a.entries a.chunks) n.result n.ensures c.if-bytes-eq0.false (take n.result a.room.now) f.new.store
+    opens (settings a.given.places a.given.size a.given.entries a.given.chunks) n.result n.ensures c.if-bytes-eq0.false (take n.result a.room.now) f.new.store
     _
     f.result c.if-bytes.false part
     (below_take n.result (below_of 256 a.room.now (λ i. omega (arith, c.slice_known-1.given i)))) f.ensures
