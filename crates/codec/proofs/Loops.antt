@@ -1,64 +1,21 @@
--- What code that writes values one after the other leaves: a loop over many values, two values, a table.
+-- What code that writes values one after the other leaves: two values, a table.
 use mathlib.Core.Path.{◌≡◌, refl, sym, ap, ◌∙◌}
-use mathlib.Core.List.{List, [], ◌∷◌, ◌++◌, append_assoc, append-nil}
-use Prim.Native.Nat.{ℕ, suc, ◌+◌, ◌*◌, ◌≤◌, ◌<◌}
-use native.Mathlib.Nat.{suc-mul, zero-mul, add-zero, not-suc-le-zero}
+use mathlib.Core.List.{List, [], ◌∷◌, ◌++◌}
+use Prim.Native.Nat.{ℕ, ◌+◌, ◌≤◌, ◌<◌}
+use native.Mathlib.Nat.{zero-mul, add-zero, not-suc-le-zero}
 use native.Mathlib.Omega.{arith}
 use lib.ListN.{length, take, drop, set}
-use lib.Seq.{take_at, drop_at, take_all, take-nil, drop-drop, drop-length, take-length, take-add, length-take-le}
-use Rattle.lists.specs.Runs.{run, on_run, nth_run, enc_all}
+use lib.Seq.{take_all, take-nil}
+use Rattle.lists.specs.Runs.{run, on_run, enc_all}
 use Rattle.lists.specs.Rows.{table_enc}
-use Rattle.lists.proofs.Runs.{fits_in, run_length, on_right, on_length, on_by, on_twice, on_within}
-use Rattle.codec.specs.Codec.{Codec, Two, enc_two, enc_many, Row, table}
-use Rattle.codec.proofs.Laws.{Lawful, two_is, two_left, two_right, many_none, many_last, many_keeps}
+use Rattle.lists.proofs.Runs.{run_length, on_right, on_length, on_by, on_twice, on_within}
+use Rattle.codec.specs.Codec.{Codec, Two, enc_two, Row, table}
+use Rattle.codec.proofs.Laws.{Lawful, two_is, two_left, two_right}
 use Rattle.codec.proofs.Focus.{on_whole}
-
--- ---- what a loop over n values has written after i turns: the first i values, and past them what was there
-unfoldable pub written : {A : Type 0} → Codec A → ℕ → (ℕ → A) → List ℕ → List ℕ
-written c i f w = enc_many c i f (take (i * c.size) w) ++ drop (i * c.size) w
 
 on_front : (k : ℕ) (g : List ℕ → List ℕ) (w : List ℕ) → on_run 0 k g w ≡ g (take k w) ++ drop k w
 unfolding on_run
 on_front k g w = refl
-
-module _ {A : Type 0} (c : Codec A) (law : Lawful c) (n : ℕ) (f : ℕ → A) (w : List ℕ) (h : length w ≡ n * c.size) where
-  pub loop_start : w ≡ written c 0 f w
-  unfolding written
-  loop_start = rw (many_none c f (take (0 * c.size) w), zero-mul c.size)
-
-  pub loop_end : written c n f w ≡ enc_many c n f w
-  unfolding written
-  loop_end = rw (← h, drop-length w, take-length w) (append-nil (enc_many c n f w))
-
-  module _ (i : ℕ) (p : i < n) where
-    inside : i * c.size + c.size ≤ length w
-    inside = rw h (fits_in c.size p)
-
-    front : length (enc_many c i f (take (i * c.size) w)) ≡ i * c.size
-    front = many_keeps c law i f (take (i * c.size) w) (length-take-le (i * c.size) w (omega (arith, inside)))
-
-    -- value i is still as it was
-    pub loop_next : nth_run c.size i (written c i f w) ≡ nth_run c.size i w
-    unfolding written
-    loop_next = ap (take c.size) (drop_at (enc_many c i f (take (i * c.size) w)) (drop (i * c.size) w) (i * c.size) front)
-
-    pub loop_turn : (g : List ℕ → List ℕ) (v : List ℕ) → v ≡ written c i f w → g (nth_run c.size i w) ≡ c.enc (f i) (nth_run c.size i w)
-        → on_run (i * c.size) c.size g v ≡ written c (suc i) f w
-    unfolding written
-    loop_turn g v e q =
-        let k : ℕ = i * c.size in
-        let x : List ℕ = enc_many c i f (take k w) in
-        let lt : length (take k w) ≡ k = length-take-le k w (omega (arith, inside)) in
-        let up : suc i * c.size ≡ k + c.size = suc-mul i c.size in
-        let parted : take (k + c.size) w ≡ take k w ++ nth_run c.size i w = take-add k c.size w in
-        let last : enc_many c (suc i) f (take (k + c.size) w) ≡ x ++ c.enc (f i) (nth_run c.size i w) =
-        rw parted (many_last c i f (take k w ++ nth_run c.size i w)
-        ∙ rw (take_at (take k w) (nth_run c.size i w) k lt, drop_at (take k w) (nth_run c.size i w) k lt)) in
-        ap (on_run k c.size g) e
-        ∙ ap (λ (o : ℕ). on_run o c.size g (x ++ drop k w)) (sym (add-zero k))
-        ∙ on_right 0 c.size g k x (drop k w) front
-        ∙ ap (λ (l : List ℕ). x ++ l) (on_front c.size g (drop k w) ∙ ap (λ (l : List ℕ). l ++ drop c.size (drop k w)) q)
-        ∙ rw (up, last, drop-drop c.size k w) (sym (append_assoc x (c.enc (f i) (nth_run c.size i w)) (drop (k + c.size) w)))
 
 -- ---- two values written one after the other
 module _ {A B : Type 0} (c : Codec A) (d : Codec B) (l : Lawful c) (x : Two A B) where
