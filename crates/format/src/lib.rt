@@ -55,9 +55,12 @@ fn bucket_records(s: &mut [u8], settings: Settings, assigned: &[u64])
     requires { (length s.old ≡ 8 * (buckets settings * agreed_words)) × (length assigned.now ≡ 2 * buckets settings) }
     ensures { words s.new ≡ (all_agreed_codec settings).enc (agreed_in assigned.now) (words s.old) }
 {
-    lend::each_part(s, sizes::AGREED_WORDS, settings.buckets(), |g, part| {
-        records::agreed::write(part, first_agreed(assigned[2 * g], assigned[2 * g + 1]));
-    });
+    lend::each_part(
+        s,
+        sizes::AGREED_WORDS,
+        settings.buckets(),
+        |g, part| records::agreed::write(part, first_agreed(assigned[2 * g], assigned[2 * g + 1])),
+    );
 }
 
 // All proxies, blank.
@@ -65,9 +68,12 @@ fn proxies(s: &mut [u8])
     requires { length s.old ≡ 8 * all_proxies_codec.size }
     ensures { words s.new ≡ all_proxies_codec.enc (λ p. blank_proxy) (words s.old) }
 {
-    lend::each_part(s, sizes::PROXY_WORDS, constants::PROXIES, |_, part| {
-        records::proxy::clear(part);
-    });
+    lend::each_part(
+        s,
+        sizes::PROXY_WORDS,
+        constants::PROXIES,
+        |_, part| records::proxy::clear(part),
+    );
 }
 
 // A bucket's two copies, empty.
@@ -88,9 +94,7 @@ fn all_copies(s: &mut [u8], settings: Settings)
         s,
         sizes::copies_words(settings),
         settings.buckets(),
-        |_, part| {
-            copies(part, settings);
-        },
+        |_, part| copies(part, settings),
     );
 }
 
@@ -123,9 +127,7 @@ fn places(s: &mut [u8], settings: Settings)
         s,
         sizes::place_words(settings),
         settings.places,
-        |p, part| {
-            place(part, settings, p as u64 + 1, status);
-        },
+        |p, part| place(part, settings, p as u64 + 1, status),
     );
 }
 

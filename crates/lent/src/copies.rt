@@ -44,9 +44,7 @@ pub fn save_all(copies: &mut [u8], settings: Settings)
         copies,
         sizes::copies_words(settings),
         settings.buckets(),
-        |_, part| {
-            save(part, settings);
-        },
+        |_, part| save(part, settings),
     );
 }
 
@@ -67,8 +65,6 @@ pub fn restore_all(copies: &mut [u8], settings: Settings)
         copies,
         sizes::copies_words(settings),
         settings.buckets(),
-        |_, part| {
-            restore(part, settings);
-        },
+        |_, part| restore(part, settings),
     );
 }

@@ -49,8 +49,6 @@ pub fn drop_all(part: &mut [u8], settings: Settings, bucket: usize, primary: u64
         part,
         sizes::place_words(settings),
         settings.places,
-        |_, place| {
-            drop_at(place, settings, bucket, primary, backup);
-        },
+        |_, place| drop_at(place, settings, bucket, primary, backup),
     );
 }
