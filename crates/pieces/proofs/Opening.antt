@@ -6,13 +6,16 @@ use Prim.Native.Nat.{ℕ, ◌≤◌, ◌<◌}
 use native.Mathlib.Omega.{arith}
 use lib.ListN.{length, take}
 use borrow.Author.Tests.{le-leb, lt-leb, eq-eqb}
+use Rattle.std.specs.Prelude.{Ok, Err}
+use Rattle.rules.specs.declared.refusal.Refusal.{Refusal}
+use Rattle.rules.specs.declared.refusal.Refusal.TheVariants.{BadSettings}
 use Rattle.lists.specs.Runs.{Below}
 use Rattle.lists.proofs.Tests.{by, no_first, no_second, both}
 use Rattle.rules.specs.declared.settings.Settings.{Settings}
 use Rattle.rules.specs.Limits.{in_limits}
 use Rattle.rules.specs.Format.{format}
 use Rattle.layout.specs.Store.{store_bytes}
-use Rattle.store.specs.Calls.{length_answer, may_format, Formatted}
+use Rattle.store.specs.Calls.{length_of, may_format, Formatted}
 use Rattle.calls.proofs.Held.{Holds}
 use Rattle.calls.proofs.Claim.{formatted}
 use Rattle.traces.specs.Trace.{most_bytes, can_trace}
@@ -25,19 +28,20 @@ module _ (c : Settings) where
   refused room f = record { phase = rw f refl; fits = tt; number = omega arith }
 
   -- out of limits
-  pub opens_none : (room : List ℕ) (n : ℕ) → n ≡ length_answer c → n ≡ 0 → Opens c Stopped room
-  unfolding length_answer can_trace
-  opens_none room n e z =
-      by (in_limits c) (λ y. let q : n ≡ store_bytes c = rw y at e in absurd (omega arith)) (λ f. refused room (no_first _ _ f))
+  pub opens_none : (room : List ℕ) (r : Refusal) → Err r ≡ length_of c → Opens c Stopped room
+  unfolding length_of can_trace
+  opens_none room r e =
+      by (in_limits c) (λ y. let q : Err r ≡ Ok (store_bytes c) = rw y at e in let z : ◌≡◌ {A = ℕ} 0 1 = cc in absurd (omega arith))
+      (λ f. refused room (no_first _ _ f))
 
-  module _ (n : ℕ) (e : n ≡ length_answer c) (some_bytes : n ≡ 0 → ⊥) where
+  module _ (n : ℕ) (e : Ok n ≡ length_of c) where
     within : in_limits c ≡ true
-    unfolding length_answer
-    within = by (in_limits c) (λ y. y) (λ f. absurd (some_bytes (rw f at e)))
+    unfolding length_of
+    within = by (in_limits c) (λ y. y) (λ f. let q : Ok n ≡ Err BadSettings = rw f at e in let z : ◌≡◌ {A = ℕ} 0 1 = cc in absurd (omega arith))
 
     size_is : n ≡ store_bytes c
-    unfolding length_answer
-    size_is = rw within at e
+    unfolding length_of
+    size_is = let q : Ok n ≡ Ok (store_bytes c) = rw within at e in cc
 
     -- too large
     pub opens_large : (room : List ℕ) → most_bytes < n → Opens c Stopped room
