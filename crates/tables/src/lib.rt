@@ -27,19 +27,8 @@ fn lower_bound(t: &[u8], width: usize, most: usize, x: u64) -> usize
     requires { Sorted width most (words t.now) (length t.now) }
     ensures { LowerBound width (words t.now) x result }
 {
-    let mut lo = 0;
-    let mut hi = words::read(t, 0) as usize;
-    // stays: (d) two bounds that approach each other, no count
-    while lo < hi {
-        let mid = lo + (hi - lo) / 2;
-        let at = words::offset(mid, width, most);
-        if words::read(t, 1 + at) < x {
-            lo = mid + 1;
-        } else {
-            hi = mid;
-        }
-    }
-    lo
+    let n = words::read(t, 0) as usize;
+    words::lower_bound(n, x, |i| words::read(t, 1 + words::offset(i, width, most)))
 }
 
 // Does the row before index p begin below x? Before the first there is none.
