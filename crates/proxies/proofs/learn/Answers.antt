@@ -14,9 +14,6 @@ unfolding rule
 returns-then-proxy c =
     refused (Event.learn c.args.proxy) (words c.args.store.now) c.requires.sound _ (sym (first_stop 3 _ (le-ltb c.args.proxy proxies c.if-proxy.true)))
 
-pub take_view-requires : goal.take_view-requires
-take_view-requires c = (c.requires, omega arith)
-
 pub returns : goal.returns
 unfolding rule
 returns c =

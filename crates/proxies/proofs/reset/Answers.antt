@@ -14,9 +14,6 @@ unfolding rule
 returns-then-proxy c =
     refused (Event.reset c.args.proxy) (words c.args.store.now) c.requires.sound _ (sym (first_stop 3 _ (le-ltb c.args.proxy proxies c.if-proxy.true)))
 
-pub clear_proxy-requires : goal.clear_proxy-requires
-clear_proxy-requires c = (c.requires, omega arith)
-
 pub returns : goal.returns
 unfolding rule
 returns c =

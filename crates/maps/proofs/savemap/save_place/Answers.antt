@@ -7,9 +7,6 @@ use Rattle.maps.proofs.savemap.save_place.Goals as goal
 pub overflow_mul-end : goal.overflow_mul-end
 overflow_mul-end c = omega (arith, place_small c.args.settings c.requires.limits)
 
-pub slice_bounds-save_all-end : goal.slice_bounds-save_all-end
-slice_bounds-save_all-end c = omega (arith, c.requires.size)
-
 pub save_all-requires : goal.save_all-requires
 save_all-requires c =
     copies_lent c.args.settings c.args.part.now c.requires 568 (8 * c.log_at-end.result) (omega arith) (omega arith)

@@ -5,7 +5,7 @@ use Rattle.rules.specs.Event.{Event}
 use Rattle.rules.specs.Maps.{savemap_effect}
 use Rattle.rules.specs.Step.{rule}
 use Rattle.layout.specs.Store.{decode}
-use Rattle.lent.proofs.LentPlace.{LentPlace, lent_place, part_inside, part_filled, part_brick, part_changed}
+use Rattle.lent.proofs.LentPlace.{LentPlace, lent_place, part_filled, part_brick, part_changed}
 use Rattle.lent.proofs.Performs.{refused, accepted}
 use Rattle.lent.proofs.Places.{UpPlace, place_yes}
 use Rattle.maps.proofs.Saving.{saved_place}
@@ -28,9 +28,6 @@ returns-in_err-asks c =
 pub span_of-from-requires : goal.span_of-from-requires
 span_of-from-requires c =
     (c.requires.limits, (place_yes c.args.settings c.args.store.now c.requires c.args.place (sym c.in_ok-asks.ensures)).inside)
-
-pub slice_bounds-save_place-end : goal.slice_bounds-save_place-end
-slice_bounds-save_place-end c = part_inside (lent (goal.at.slice_bounds-save_place-end c).After-span_of-from)
 
 pub save_place-requires : goal.save_place-requires
 save_place-requires c =

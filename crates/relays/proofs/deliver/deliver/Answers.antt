@@ -22,9 +22,6 @@ pub returns-then-relay_count-index : goal.returns-then-relay_count-index
 returns-then-relay_count-index c =
     deliver_none (words c.args.store.now) c.args.index c.requires.sound (omega (arith, c.relay_count.ensures, c.if-relay_count-index.true))
 
-pub read-found-requires : goal.read-found-requires
-read-found-requires c = (c.requires, omega (arith, c.relay_count.ensures, c.if-relay_count-index.false))
-
 pub returns-in_err-asks : goal.returns-in_err-asks
 returns-in_err-asks c =
     let p = err_from_is_err_and c.from_residual.result c.from_residual.ensures.1 in
@@ -38,9 +35,6 @@ pub returns-then-is_taken : goal.returns-then-is_taken
 returns-then-is_taken c =
     let done = c.take in
     deliver_yes (words c.args.store.now) c.args.index _ (takeable (goal.at.returns-then-is_taken c).In_ok-asks) (words done.new.store) done.ensures
-
-pub remove-requires : goal.remove-requires
-remove-requires c = (c.requires, omega (arith, c.relay_count.ensures, c.if-relay_count-index.false))
 
 pub returns : goal.returns
 returns c =

@@ -19,11 +19,6 @@ returns-then-relay_count-index c =
     refused (Event.drop c.args.index) (words c.args.store.now) c.requires.sound _
     (sym (first_stop 3 [] (le-ltb c.args.index (length s.bag) (omega (arith, c.relay_count.ensures, c.if-relay_count-index.true)))))
 
-pub remove-requires : goal.remove-requires
-remove-requires c =
-    let inside : c.args.index < length (decode (words c.args.store.now)).bag = omega (arith, c.relay_count.ensures, c.if-relay_count-index.false) in
-    (c.requires, inside)
-
 pub returns : goal.returns
 unfolding rule
 returns c =

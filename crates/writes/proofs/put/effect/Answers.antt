@@ -10,7 +10,7 @@ use Rattle.codec.specs.Codec.{change}
 use Rattle.layout.specs.Contents.{Status}
 use Rattle.layout.specs.Layout.{place_codec, items_codec}
 use Rattle.layout.specs.Store.{decode, render}
-use Rattle.lent.proofs.LentPlace.{LentPlace, lent_place, part_inside, part_filled, back_length, part_changed}
+use Rattle.lent.proofs.LentPlace.{LentPlace, lent_place, part_filled, back_length, part_changed}
 use Rattle.writes.specs.Puts.{put_in, put_bricks}
 use Rattle.writes.proofs.Puts.{PutMay, put_may, put_fits, put_changes, items_take, item_added}
 use Rattle.writes.proofs.put.effect.Goals as goal
@@ -62,18 +62,10 @@ new-key-requires c =
 pub span_of-from-requires : goal.span_of-from-requires
 span_of-from-requires c = (c.requires.0.limits, (may (goal.at.span_of-from-requires c).Start).place_in)
 
-pub slice_bounds-put_place-end : goal.slice_bounds-put_place-end
-slice_bounds-put_place-end c =
-    let at = goal.at.slice_bounds-put_place-end c in
-    part_inside (place at.After-span_of-from (may at.Start).place_in)
-
 pub put_place-requires : goal.put_place-requires
 put_place-requires c =
     let at = goal.at.put_place-requires c in
     put_fits (place at.After-span_of-from (may at.Start).place_in) (may at.Start)
-
-pub items_at-at-requires : goal.items_at-at-requires
-items_at-at-requires c = (c.requires.0.limits, (may (goal.at.items_at-at-requires c).Start).proxy_in)
 
 pub insert-requires : goal.insert-requires
 insert-requires c =

@@ -1,5 +1,4 @@
 use mathlib.Core.Path.{◌≡◌, refl, ap, ◌∙◌}
-use native.Mathlib.Omega.{arith}
 use Rattle.words.specs.Words.{words}
 use Rattle.layout.specs.Contents.{Status, Place}
 use Rattle.layout.specs.Layout.{place_codec}
@@ -10,21 +9,6 @@ use Rattle.writes.proofs.Logs.{append_fits, log_grown}
 use Rattle.writes.proofs.Puts.{status_counted}
 use Rattle.writes.proofs.put.put_place.Goals as goal
 use Rattle.writes.proofs.put.put_place.Goals.{After-write_status}
-
-pub read_status-old-requires : goal.read_status-old-requires
-read_status-old-requires c = (c.requires.brick.size, c.requires.brick.filled)
-
-pub overflow_add-new : goal.overflow_add-new
-overflow_add-new c =
-    omega (arith, ap (λ (s : Status). s.next) c.read_status-old.ensures, c.requires.next, c.requires.ceiling)
-
-pub raised-requires : goal.raised-requires
-raised-requires c =
-    omega (arith, ap (λ (s : Status). s.ceiling) c.read_status-old.ensures, c.requires.ceiling)
-
-pub write_status-requires : goal.write_status-requires
-write_status-requires c =
-    (c.requires.brick.size, c.requires.brick.filled, c.requires.brick.clean)
 
 -- the place once its brick is counted one chunk more
 abbrev new : After-write_status → Place

@@ -8,7 +8,7 @@ use Rattle.rules.specs.Step.{rule}
 use Rattle.layout.specs.Store.{decode}
 use Rattle.lent.proofs.Performs.{refused, accepted}
 use Rattle.lent.proofs.Places.{UpPlace, place_yes}
-use Rattle.lent.proofs.LentPlace.{LentPlace, lent_place, part_inside, part_filled, part_brick, part_changed}
+use Rattle.lent.proofs.LentPlace.{LentPlace, lent_place, part_filled, part_brick, part_changed}
 use Rattle.writes.proofs.Logs.{log_changes}
 use Rattle.writes.proofs.savelog.savelog.Goals as goal
 use Rattle.writes.proofs.savelog.savelog.Goals.{In_ok-asks, After-span_of-from}
@@ -28,9 +28,6 @@ returns-in_err-asks c =
 
 pub span_of-from-requires : goal.span_of-from-requires
 span_of-from-requires c = (c.requires.limits, (stands (goal.at.span_of-from-requires c).In_ok-asks).inside)
-
-pub slice_bounds-save_place-end : goal.slice_bounds-save_place-end
-slice_bounds-save_place-end c = part_inside (lent (goal.at.slice_bounds-save_place-end c).After-span_of-from)
 
 pub save_place-requires : goal.save_place-requires
 save_place-requires c =
