@@ -24,10 +24,8 @@ fn is_taken(store: &[u8], settings: Settings, relay: Relay) -> bool
     requires { StoreOf settings store.now }
     ensures { result ≡ takes_relay (decode (words store.now)) (relay_of (decode (words store.now)) relay) }
 {
-    if relay.view.0 == lent::store::view(store, settings) {
-        return block::agreed(store, settings, relay.block).taken < relay.order;
-    }
-    false
+    relay.view.0 == lent::store::view(store, settings)
+        && block::agreed(store, settings, relay.block).taken < relay.order
 }
 
 // Is the backup an up member, and may its copy take the block?
