@@ -2,7 +2,9 @@
 use mathlib.Core.Path.{◌≡◌, ap, ◌∙◌}
 use mathlib.Core.List.{List, ◌∷◌}
 use mathlib.Core.Bool.{Bool, true, false}
-use Prim.Native.Nat.{ℕ, ◌+◌, ◌*◌, ◌≤◌, ◌<◌}
+use Rattle.std.specs.List.{list_all, range_with_len}
+use Rattle.std.proofs.Common.{◌&&◌}
+use Prim.Native.Nat.{ℕ, zero, suc, ◌+◌, ◌*◌, ◌≤◌, ◌<◌}
 use native.Mathlib.Nat.{add-zero}
 use native.Mathlib.Omega.{arith}
 use lib.ListN.{drop, get_or}
@@ -51,7 +53,7 @@ module _ (c : Settings) (good : ℕ → Bool) (ws : List ℕ) (n : ℕ) (e : n �
   unfolding sound_bag relays_left table_dec
   bag_begin h = yes_first _ _ (rw (length_rows 5 relay_row.read (get_or ws 0 0) (drop 1 ws), ← e) (le-leb n max_relays h)) ∙ rw e
 
-  pub bag_end : (i : ℕ) → i ≤ n → n ≤ i → relays_left i ≡ true
+  bag_end : (i : ℕ) → i ≤ n → n ≤ i → relays_left i ≡ true
   unfolding relays_left every
   bag_end i l m = let q : i ≡ n = omega arith in rw (q, rows_past 5 relay_row.read n (drop 1 ws))
 
@@ -62,8 +64,8 @@ module _ (c : Settings) (good : ℕ → Bool) (ws : List ℕ) (n : ℕ) (e : n �
         ap (every (sound_relay good c)) (rows_from 5 relay_row.read n i (drop 1 ws) h)
         ∙ ap (λ (r : Relay). every (sound_relay good c) (r ∷ drop (i + 1) (rows 5 relay_row.read n (drop 1 ws)))) (read_relay ws i)
 
-    pub bag_bad : sound_relay good c (relay_in_words ws i) ≡ false → relays_left i ≡ false
-    bag_bad q = turn ∙ no_first _ _ q
-
-    pub bag_next : sound_relay good c (relay_in_words ws i) ≡ true → relays_left i ≡ relays_left (i + 1)
-    bag_next q = turn ∙ yes_first _ _ q
+  -- from relay i on, one by one
+  pub left_range : (k i : ℕ) → i + k ≡ n → relays_left i ≡ list_all (λ j. sound_relay good c (relay_in_words ws j)) (range_with_len i k)
+  unfolding ◌and◌
+  left_range zero i q = bag_end i (omega arith) (omega arith)
+  left_range (suc k) i q = turn i (omega arith) ∙ ap (λ b. sound_relay good c (relay_in_words ws i) && b) (left_range k (i + 1) (omega arith))

@@ -27,11 +27,11 @@ memory_of c ws g q = run (place_at c q + copies_at c g) (copy_words c) ws
 abbrev pub HoldsBrick : Settings → List ℕ → ℕ → Type 0
 HoldsBrick c ws q = 0 < get_or ws (place_at c q) 0
 
--- r is p, or a place below it that holds a brick and has n rows in the table at word `from`
+-- r is a place below p that holds a brick and has n rows in the table at word `from`
 pub record Earlier (c : Settings) (ws : List ℕ) (p from n r : ℕ) : Type 0 where
-  pub inside : r ≤ p
-  pub brick : r < p → HoldsBrick c ws r
-  pub rows : r < p → get_or ws (place_at c r + from) 0 ≡ n
+  pub inside : r < p
+  pub brick : HoldsBrick c ws r
+  pub rows : get_or ws (place_at c r + from) 0 ≡ n
 
 -- a place below p holds a brick with these entries in its copy of bucket g in memory
 pub record Known (c : Settings) (g : ℕ) (ws : List ℕ) (p : ℕ) (l : List Entry) : Type 0 where

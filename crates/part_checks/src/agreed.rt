@@ -46,14 +46,11 @@ pub fn all_agreed_good(settings: Settings, given: u64, store: &[u8]) -> bool
     requires { AllAgreedFit settings (length store.now) }
     ensures { result ≡ all_below (buckets settings) (agreed_at_sound given (words store.now)) }
 {
-    let count = settings.buckets();
-    let mut g = 0;
-    while g < count {
+    for g in 0..settings.buckets() {
         let a = 8 * sizes::agreed_at(settings, g);
         if !agreed_good(given, &store[a..a + 8 * sizes::AGREED_WORDS]) {
             return false;
         }
-        g += 1;
     }
     true
 }

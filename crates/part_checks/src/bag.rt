@@ -38,12 +38,5 @@ pub fn bag_good(settings: Settings, bounds: &[u64], bag: &[u8]) -> bool
     if (constants::MAX_RELAYS as u64) < count {
         return false;
     }
-    let mut i = 0;
-    while i < count as usize {
-        if !relay_good(settings, bounds, bag, i) {
-            return false;
-        }
-        i += 1;
-    }
-    true
+    (0..count as usize).all(|i| relay_good(settings, bounds, bag, i))
 }

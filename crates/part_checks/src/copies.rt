@@ -1,5 +1,6 @@
 // The bucket copies of a place.
 ghost use Rattle.std.specs.Prelude.{◌≡◌, true, length};
+ghost use Rattle.std.specs.Option.{MatchOption};
 ghost use Rattle.lists.specs.Tests.{all_below};
 ghost use Rattle.words.specs.Words.{words};
 ghost use Rattle.rules.specs.Limits.{buckets};
@@ -32,12 +33,10 @@ fn compare_words(one: &[u8], second: &[u8], third: &[u8], n: usize) -> Alike
 {
     let mut other = 0;
     let mut unsaved = 0;
-    let mut i = 0;
-    while i < n {
+    for i in 0..n {
         let word = words::read(one, 1 + i);
-        other = other | (word ^ words::read(second, 1 + i));
-        unsaved = unsaved | (word ^ words::read(third, 1 + i));
-        i += 1;
+        other |= word ^ words::read(second, 1 + i);
+        unsaved |= word ^ words::read(third, 1 + i);
     }
     Alike {
         known: other == 0,
@@ -63,25 +62,23 @@ fn same_three(one: &[u8], second: &[u8], third: &[u8], most: usize) -> Alike
     }
 }
 
-// The last place below p that holds a brick and has n rows in the table at this word of it; p where there is none. An empty table is sooner tested than sought.
-fn earlier(settings: Settings, store: &[u8], p: usize, from: usize, n: u64) -> usize
+// The last place below p that holds a brick and has n rows in the table at this word of it. An empty table is sooner tested than sought.
+fn earlier(settings: Settings, store: &[u8], p: usize, from: usize, n: u64) -> Option<usize>
     requires { EarlierFit settings (length store.now) p from }
-    ensures { Earlier settings (words store.now) p from n result }
+    ensures { MatchOption result (Unit {0}) (Earlier settings (words store.now) p from n) }
 {
     if n == 0 {
-        return p;
+        return None;
     }
-    let mut q = p;
-    while 0 < q {
-        q -= 1;
+    for q in (0..p).rev() {
         let at = sizes::place_at(settings, q);
         let id = words::read(store, at);
         let count = words::read(store, at + from);
         if (0 < id) & (count == n) {
-            return q;
+            return Some(q);
         }
     }
-    p
+    None
 }
 
 // Has a place below p the same copy of the bucket in memory, which passed already, and has the disk the same?
@@ -99,13 +96,12 @@ fn compared(
 {
     let size = sizes::copies_words(settings);
     let from = sizes::COPIES_AT + words::offset(bucket as usize, size, settings.buckets());
-    let q = earlier(settings, store, p, from, words::read(memory, 0));
-    if p <= q {
+    let Some(q) = earlier(settings, store, p, from, words::read(memory, 0)) else {
         return Alike {
             known: false,
             saved: entries::same(memory, disk, settings.entries),
         };
-    }
+    };
     let a = 8 * (sizes::place_at(settings, q) + from);
     let e = a + 8 * sizes::copy_words(settings);
     same_three(memory, &store[a..e], disk, settings.entries)
@@ -117,16 +113,8 @@ fn memory_good(settings: Settings, bounds: &[u64], bucket: u64, known: bool, mem
     ensures { result ≡ sound_table (key_below bounds.now) (in_bucket settings bucket) settings.entries
         ((copy_codec settings).dec (words memory.now)) }
 {
-    if known {
-        return true;
-    }
-    rows::table_good(
-        settings,
-        bounds,
-        Whose::Bucket(bucket),
-        memory,
-        settings.entries,
-    )
+    let whose = Whose::Bucket(bucket);
+    known || rows::table_good(settings, bounds, whose, memory, settings.entries)
 }
 
 // The copies of one bucket, in memory and on disk. They nearly always have the same entries, and those of the place below, and then the test of one is the
@@ -157,19 +145,8 @@ fn copies_good(
     if !memory_good(settings, bounds, bucket, found.known, memory) {
         return false;
     }
-    if found.saved {
-        return true;
-    }
-    if !up {
-        return false;
-    }
-    rows::table_good(
-        settings,
-        bounds,
-        Whose::Bucket(bucket),
-        disk,
-        settings.entries,
-    )
+    let whose = Whose::Bucket(bucket);
+    found.saved || (up && rows::table_good(settings, bounds, whose, disk, settings.entries))
 }
 
 // The copies of all buckets at place p; the places below it passed.
@@ -186,14 +163,12 @@ pub fn all_copies_good(
 {
     let size = sizes::copies_words(settings);
     let count = settings.buckets();
-    let mut g = 0;
-    while g < count {
+    for g in 0..count {
         let a = 8 * words::offset(g, size, count);
         let e = a + 8 * size;
         if !copies_good(settings, bounds, g as u64, up, store, p, &copies[a..e]) {
             return false;
         }
-        g += 1;
     }
     true
 }

@@ -36,8 +36,7 @@ pub fn proxies_good(settings: Settings, bounds: &[u64], store: &[u8]) -> bool
     requires { ProxiesFit settings (length bounds.now) (length store.now) }
     ensures { result ≡ all_below proxies (proxy_sound settings (key_below bounds.now) (words store.now)) }
 {
-    let mut p = 0;
-    while p < constants::PROXIES {
+    for p in 0..constants::PROXIES {
         let a = 8 * sizes::proxy_at(settings, p);
         if !proxy_good(
             settings,
@@ -47,7 +46,6 @@ pub fn proxies_good(settings: Settings, bounds: &[u64], store: &[u8]) -> bool
         ) {
             return false;
         }
-        p += 1;
     }
     true
 }

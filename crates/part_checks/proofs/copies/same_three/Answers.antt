@@ -13,8 +13,6 @@ use Rattle.lists.specs.Rows.{table_words}
 use Rattle.tables.specs.Tables.{same_at, same_rows}
 use Rattle.entries.proofs.Words.{same_is_rows}
 use Rattle.layout.specs.Layout.{entries_codec}
-use Rattle.part_checks.proofs.copies.compare_words.Reads as compare-words-reads
-use Rattle.words.proofs.read.Reads as read-reads
 use Rattle.part_checks.proofs.copies.same_three.Goals as goal
 
 -- as many rows, and the same words in them: the same entries
