@@ -105,11 +105,9 @@ fn put_place(part: &mut [u8], settings: Settings, key: ChunkKey, bytes: &[u8])
 {
     let old = records::place::read_status(part, settings);
     let new = Status {
-        up: old.up,
-        member: old.member,
-        began: old.began,
         next: old.next + 1,
         ceiling: raised(old.next, old.ceiling),
+        ..old
     };
     records::place::write_status(part, settings, new);
     grow::append(part, settings, key, bytes);
