@@ -18,14 +18,10 @@ pub fn has(store: &[u8], settings: Settings, id: u64, block: BlockNumber) -> boo
     requires { StoreOf settings store.now }
     ensures { result ≡ has ((decode (words store.now)).bricks.buffer id) block.0 }
 {
-    match brick::place_of(store, settings, id) {
-        Some(place) => entries::waits(
-            place::buffer(store, settings, place),
-            constants::MAX_WAITING,
-            block,
-        ),
-        None => false,
-    }
+    brick::place_of(store, settings, id).is_some_and(|place| {
+        let buffer = place::buffer(store, settings, place);
+        entries::waits(buffer, constants::MAX_WAITING, block)
+    })
 }
 
 // Has it room for one entry more?
@@ -33,12 +29,9 @@ pub fn has_room(store: &[u8], settings: Settings, id: u64) -> bool
     requires { StoreOf settings store.now }
     ensures { result ≡ ltb (length ((decode (words store.now)).bricks.buffer id)) max_waiting }
 {
-    match brick::place_of(store, settings, id) {
-        Some(place) => {
-            words::read(place::buffer(store, settings, place), 0) < constants::MAX_WAITING as u64
-        }
-        None => true,
-    }
+    brick::place_of(store, settings, id).is_none_or(|place| {
+        words::read(place::buffer(store, settings, place), 0) < constants::MAX_WAITING as u64
+    })
 }
 
 // That of the brick at a place takes the entry.

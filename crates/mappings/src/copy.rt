@@ -22,17 +22,14 @@ pub fn index_of(
 ) -> usize
     requires { StoreOf settings store.now × (bucket < buckets settings) }
 {
-    match brick::place_of(store, settings, id) {
-        Some(place) => entries::index_of(
-            place::memory(store, settings, place, bucket),
-            settings.entries,
-            block,
-        ),
-        None => 0,
-    }
+    brick::place_of(store, settings, id).map_or(0, |place| {
+        let copy = place::memory(store, settings, place, bucket);
+        entries::index_of(copy, settings.entries, block)
+    })
 }
 
 // The key of a block in memory, and the one on disk: 0 where it has no mapping. It is looked for at the guess first.
+// stays: two functions, as lent::place has two: a parameter that says which copy would be named at each call all the same.
 pub fn in_memory(
     store: &[u8],
     settings: Settings,
@@ -44,15 +41,10 @@ pub fn in_memory(
     requires { StoreOf settings store.now × (bucket < buckets settings) }
     ensures { result.0 ≡ key_for (((decode (words store.now)).bucket bucket).memory id) block.0 }
 {
-    match brick::place_of(store, settings, id) {
-        Some(place) => entries::key_near(
-            place::memory(store, settings, place, bucket),
-            settings.entries,
-            block,
-            guess,
-        ),
-        None => ChunkKey(0),
-    }
+    brick::place_of(store, settings, id).map_or(ChunkKey(0), |place| {
+        let copy = place::memory(store, settings, place, bucket);
+        entries::key_near(copy, settings.entries, block, guess)
+    })
 }
 
 pub fn on_disk(
@@ -66,15 +58,10 @@ pub fn on_disk(
     requires { StoreOf settings store.now × (bucket < buckets settings) }
     ensures { result.0 ≡ key_for (((decode (words store.now)).bucket bucket).disk id) block.0 }
 {
-    match brick::place_of(store, settings, id) {
-        Some(place) => entries::key_near(
-            place::disk(store, settings, place, bucket),
-            settings.entries,
-            block,
-            guess,
-        ),
-        None => ChunkKey(0),
-    }
+    brick::place_of(store, settings, id).map_or(ChunkKey(0), |place| {
+        let copy = place::disk(store, settings, place, bucket);
+        entries::key_near(copy, settings.entries, block, guess)
+    })
 }
 
 // Has the copy in memory an entry for the block?
@@ -82,14 +69,10 @@ pub fn has(store: &[u8], settings: Settings, bucket: usize, id: u64, block: Bloc
     requires { StoreOf settings store.now × (bucket < buckets settings) }
     ensures { result ≡ has (((decode (words store.now)).bucket bucket).memory id) block.0 }
 {
-    match brick::place_of(store, settings, id) {
-        Some(place) => entries::has(
-            place::memory(store, settings, place, bucket),
-            settings.entries,
-            block,
-        ),
-        None => false,
-    }
+    brick::place_of(store, settings, id).is_some_and(|place| {
+        let copy = place::memory(store, settings, place, bucket);
+        entries::has(copy, settings.entries, block)
+    })
 }
 
 // May it take the block?
@@ -97,14 +80,10 @@ pub fn takes(store: &[u8], settings: Settings, bucket: usize, id: u64, block: Bl
     requires { StoreOf settings store.now × (bucket < buckets settings) }
     ensures { result ≡ takes settings.entries (((decode (words store.now)).bucket bucket).memory id) block.0 }
 {
-    match brick::place_of(store, settings, id) {
-        Some(place) => entries::takes(
-            place::memory(store, settings, place, bucket),
-            settings.entries,
-            block,
-        ),
-        None => true,
-    }
+    brick::place_of(store, settings, id).is_none_or(|place| {
+        let copy = place::memory(store, settings, place, bucket);
+        entries::takes(copy, settings.entries, block)
+    })
 }
 
 // The copy in memory of the brick at a place takes the entry.

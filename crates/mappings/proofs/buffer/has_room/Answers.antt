@@ -1,33 +1,16 @@
-use mathlib.Core.Path.{◌≡◌, sym, ap, ◌∙◌}
-use Prim.Native.Nat.{ℕ}
-use native.Mathlib.Omega.{arith}
-use lib.Dec.{ltb}
-use lib.ListN.{length}
+use Rattle.std.proofs.Common.{◌≡◌, true, ℕ, ltb, length, sym, ap, ◌∙◌, rules, tests}
 use Rattle.words.specs.Words.{words}
 use Rattle.rules.specs.Limits.{max_waiting}
-use Rattle.layout.specs.Contents.{Brick, blank_brick, entry_row}
-use Rattle.layout.specs.Store.{brick_in, decode}
-use Rattle.lent.specs.Places.{Stands}
+use Rattle.layout.specs.Contents.{Brick, entry_row}
+use Rattle.layout.specs.Store.{decode}
 use Rattle.entries.proofs.Tables.{count_is}
+use Rattle.lent.proofs.LookUps.{by_place}
 use Rattle.mappings.proofs.buffer.has_room.Goals as goal
 
-pub buffer-requires : goal.buffer-requires
-buffer-requires c =
-    let place_of = c.place_of in
-    let h : Stands c.args.settings (decode (words c.args.store.now)) c.args.id c.in-Some.place =
-    rw c.in-Some.is at place_of.ensures in
-    (c.requires, h.inside, omega (arith, h.some, h.here))
-
-pub returns-in-Some : goal.returns-in-Some
-returns-in-Some c =
-    let place_of = c.place_of in
-    let state = decode (words c.args.store.now) in
-    let h : Stands c.args.settings state c.args.id c.in-Some.place = rw c.in-Some.is at place_of.ensures in
-    ap (λ (n : ℕ). ltb n max_waiting) (c.read.ensures ∙ sym (count_is entry_row max_waiting _) ∙ ap length c.buffer.ensures.same
-    ∙ ap (λ (i : ℕ). length (state.bricks.buffer i)) h.here)
-
-pub returns-in-None : goal.returns-in-None
-returns-in-None c =
-    let place_of = c.place_of in
-    let h : brick_in (decode (words c.args.store.now)) c.args.id ≡ blank_brick = rw c.in-None.is at place_of.ensures in
-    sym (ap (λ (b : Brick). ltb (length b.buffer) max_waiting) h)
+pub returns : goal.returns
+returns c =
+    let a = c.args in
+    let s = decode (words a.store.now) in
+    by_place a.settings s a.id c.place_of.result _ _ c.place_of.ensures c.is_none_or.ensures
+    (λ p h q. let e : c.is_none_or.result ≡ ltb (length (s.bricks.buffer (s.ids p))) max_waiting = search (rules, tests, count_is entry_row max_waiting) in e ∙ ap (λ (i : ℕ). ltb (length (s.bricks.buffer i)) max_waiting) h.here)
+    (λ b e. let y : c.is_none_or.result ≡ true = search (rules, tests) in y ∙ sym (ap (λ (x : Brick). ltb (length x.buffer) max_waiting) b))

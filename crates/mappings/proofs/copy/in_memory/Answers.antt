@@ -1,31 +1,16 @@
-use mathlib.Core.Path.{◌≡◌, sym, ap, ◌∙◌}
-use mathlib.Core.List.{List}
-use Prim.Native.Nat.{ℕ}
-use native.Mathlib.Omega.{arith}
+use Rattle.std.proofs.Common.{◌≡◌, ℕ, sym, ap, ◌∙◌, rules, tests}
 use Rattle.words.specs.Words.{words}
-use Rattle.rules.specs.Entries.{Entry, key_for}
-use Rattle.layout.specs.Contents.{Brick, blank_brick}
-use Rattle.layout.specs.Store.{brick_in, decode}
-use Rattle.lent.specs.Places.{Stands}
+use Rattle.rules.specs.Entries.{key_for}
+use Rattle.layout.specs.Contents.{Brick}
+use Rattle.layout.specs.Store.{decode}
+use Rattle.lent.proofs.LookUps.{by_place}
 use Rattle.mappings.proofs.copy.in_memory.Goals as goal
 
-pub memory-requires : goal.memory-requires
-memory-requires c =
-    let h : Stands c.args.settings (decode (words c.args.store.now)) c.args.id c.in-Some.place =
-    rw c.in-Some.is at c.place_of.ensures in
-    (c.requires.0, h.inside, omega (arith, h.some, h.here), c.requires.1)
-
-pub returns-in-Some : goal.returns-in-Some
-returns-in-Some c =
-    let state = decode (words c.args.store.now) in
-    let h : Stands c.args.settings state c.args.id c.in-Some.place =
-    rw c.in-Some.is at c.place_of.ensures in
-    c.key_near.ensures ∙ ap (λ (l : List Entry). key_for l c.args.block.0) c.memory.ensures.same
-    ∙ ap (λ (i : ℕ). key_for ((state.bucket c.args.bucket).memory i) c.args.block.0) h.here
-
-pub returns-in-None : goal.returns-in-None
+pub returns : goal.returns
 unfolding key_for
-returns-in-None c =
-    let h : brick_in (decode (words c.args.store.now)) c.args.id ≡ blank_brick =
-    rw c.in-None.is at c.place_of.ensures in
-    sym (ap (λ (b : Brick). key_for (b.copies c.args.bucket).memory c.args.block.0) h)
+returns c =
+    let a = c.args in
+    let s = decode (words a.store.now) in
+    by_place a.settings s a.id c.place_of.result _ _ c.place_of.ensures c.map_or.ensures
+    (λ p h q. let e : c.map_or.result.0 ≡ key_for ((s.bucket a.bucket).memory (s.ids p)) a.block.0 = search (rules, tests) in e ∙ ap (λ (i : ℕ). key_for ((s.bucket a.bucket).memory i) a.block.0) h.here)
+    (λ b e. let z : c.map_or.result.0 ≡ 0 = search rules in z ∙ sym (ap (λ (x : Brick). key_for (x.copies a.bucket).memory a.block.0) b))

@@ -1,35 +1,19 @@
-use borrow.Author.Tests.{lt-ltb}
-use mathlib.Core.Path.{◌≡◌, sym, ap, ◌∙◌}
-use mathlib.Core.List.{List}
-use Prim.Native.Nat.{ℕ}
-use native.Mathlib.Omega.{arith}
-use Rattle.words.specs.Words.{words}
+use Rattle.std.proofs.Common.{◌≡◌, true, ℕ, sym, ap, ◌∙◌, arith, rules, tests, lt-ltb}
 use Rattle.lists.specs.Tests.{any, ◌or◌}
-use Rattle.rules.specs.Entries.{Entry, has, takes}
-use Rattle.layout.specs.Contents.{Brick, blank_brick}
-use Rattle.layout.specs.Store.{brick_in, decode}
-use Rattle.lent.specs.Places.{Stands}
+use Rattle.words.specs.Words.{words}
+use Rattle.rules.specs.Entries.{has, takes}
+use Rattle.layout.specs.Contents.{Brick}
+use Rattle.layout.specs.Store.{decode}
+use Rattle.lent.proofs.LookUps.{by_place}
 use Rattle.mappings.proofs.copy.takes.Goals as goal
 
-pub memory-requires : goal.memory-requires
-memory-requires c =
-    let place_of = c.place_of in
-    let h : Stands c.args.settings (decode (words c.args.store.now)) c.args.id c.in-Some.place =
-    rw c.in-Some.is at place_of.ensures in
-    (c.requires.0, h.inside, omega (arith, h.some, h.here), c.requires.1)
-
-pub returns-in-Some : goal.returns-in-Some
-returns-in-Some c =
-    let place_of = c.place_of in
-    let state = decode (words c.args.store.now) in
-    let h : Stands c.args.settings state c.args.id c.in-Some.place = rw c.in-Some.is at place_of.ensures in
-    c.takes.ensures ∙ ap (λ (l : List Entry). takes c.args.settings.entries l c.args.block.0) c.memory.ensures.same
-    ∙ ap (λ (i : ℕ). takes c.args.settings.entries ((state.bucket c.args.bucket).memory i) c.args.block.0) h.here
-
-pub returns-in-None : goal.returns-in-None
+pub returns : goal.returns
 unfolding takes has any ◌or◌
-returns-in-None c =
-    let place_of = c.place_of in
-    let h : brick_in (decode (words c.args.store.now)) c.args.id ≡ blank_brick = rw c.in-None.is at place_of.ensures in
-    let m = c.args.settings.entries in
-    sym (ap (λ (b : Brick). takes m (b.copies c.args.bucket).memory c.args.block.0) h ∙ lt-ltb 0 m (omega (arith, c.requires.0.limits.entries_from)))
+returns c =
+    let a = c.args in
+    let s = decode (words a.store.now) in
+    let m = a.settings.entries in
+    by_place a.settings s a.id c.place_of.result _ _ c.place_of.ensures c.is_none_or.ensures
+    (λ p h q. let e : c.is_none_or.result ≡ takes m ((s.bucket a.bucket).memory (s.ids p)) a.block.0 = search (rules, tests) in e ∙ ap (λ (i : ℕ). takes m ((s.bucket a.bucket).memory i) a.block.0) h.here)
+    (λ b e. let y : c.is_none_or.result ≡ true = search (rules, tests) in
+    y ∙ sym (ap (λ (x : Brick). takes m (x.copies a.bucket).memory a.block.0) b ∙ lt-ltb 0 m (omega (arith, c.requires.0.limits.entries_from))))
