@@ -1,13 +1,16 @@
 -- copy: what it finds, its questions, and what it leaves.
-use mathlib.Core.Path.{◌≡◌, sym, ap, ◌∙◌}
+use Rattle.std.proofs.Common.{Option, Some, None}
+use Rattle.std.specs.Option.{MatchOption}
+use Rattle.std.specs.Bool.{then_some}
+use mathlib.Core.Path.{◌≡◌, sym, ap, subst, ◌∙◌}
 use mathlib.Core.List.{List}
-use mathlib.Core.Bool.{true, false}
-use Prim.Native.Nat.{ℕ, ◌^◌, ◌<◌}
+use mathlib.Core.Bool.{Bool, true, false, not}
+use Prim.Native.Nat.{ℕ, ◌^◌, ◌≤◌, ◌<◌}
 use native.Mathlib.Omega.{arith}
-use lib.Dec.{eqb, ltb}
+use lib.Dec.{eqb, ltb, leb}
 use lib.ListN.{length, drop}
-use borrow.Author.Tests.{eq-eqb, ne_eqb, lt-ltb, le-ltb, le-leb, ltb-true}
-use Rattle.lists.specs.Tests.{any}
+use borrow.Author.Tests.{eq-eqb, ne_eqb, lt-ltb, le-ltb, le-leb, ltb-true, not-true, not-false}
+use Rattle.lists.specs.Tests.{◌and◌, any}
 use Rattle.lists.proofs.Tests.{and_l, both, clash, no_first, or_l, or_r, or_no}
 use Rattle.words.specs.Words.{words}
 use Rattle.rules.specs.declared.settings.Settings.{Settings}
@@ -25,8 +28,9 @@ use Rattle.layout.specs.Store.{brick_in, decode, render}
 use Rattle.lent.specs.Stores.{StoreOf}
 use Rattle.lent.specs.Places.{Stands, with_chunks}
 use Rattle.lent.proofs.Stores.{settings_are}
+use Rattle.holders.specs.Members.{Chosen}
 use Rattle.transfer.specs.Brings.{Brings, brought}
-use Rattle.chunk_copy.specs.Copies.{Lacking, has_room}
+use Rattle.chunk_copy.specs.Copies.{Lacking, CopiedTo, has_room}
 
 -- ---- what is found
 module _ (c : Settings) (s : State) (key : ℕ) where
@@ -40,6 +44,27 @@ module _ (c : Settings) (s : State) (key : ℕ) where
   target_lacks place l =
       let some = l.at.some in
       or_no (eqb (target s key) 0) _ (ne_eqb (target s key) 0 (λ z. omega arith)) ∙ l.lacks
+
+  -- by cases of the target's place, and of the place that a copy goes to
+  pub by_target : (r : Option ℕ) (P : Type 0) (Q : ℕ → Type 0) {R : Type 0} → Chosen c s (target s key) r → MatchOption r P Q
+      → ((place : ℕ) → Stands c s (target s key) place → Q place → R) → (target s key ≡ 0 → P → R) → R
+  by_target None P Q h m at_place none = none h m
+  by_target (Some place) P Q h m at_place none = at_place place h m
+
+  pub by_copy : (r : Option ℕ) (P : Type 0) (Q : ℕ → Type 0) {R : Type 0} → CopiedTo c s key r → MatchOption r P Q
+      → ((place : ℕ) → Lacking c s (target s key) key place → Q place → R) → (nothing_to_copy s key ≡ true → P → R) → R
+  by_copy None P Q h m at_place none = none h m
+  by_copy (Some place) P Q h m at_place none = at_place place h m
+
+  -- the target is kept if it lacks the chunk
+  pub copy_found : (place : ℕ) → Stands c s (target s key) place → (lacks : Bool) (r : Option ℕ) → lacks ≡ not (held (s.bricks.log (s.ids place)) key)
+      → r ≡ then_some lacks place → CopiedTo c s key r
+  copy_found place at true r e f =
+      subst (CopiedTo c s key) (sym f) (record { at = at; lacks = rw at.here at (not-true (held (s.bricks.log (s.ids place)) key) (sym e)) })
+  copy_found place at false r e f = subst (CopiedTo c s key) (sym f) (target_holds place at (not-false (held (s.bricks.log (s.ids place)) key) (sym e)))
+
+  pub copy_none : (r : Option ℕ) → target s key ≡ 0 → r ≡ None → CopiedTo c s key r
+  copy_none r z f = subst (CopiedTo c s key) (sym f) (no_target z)
 
   -- a brick that stands nowhere holds nothing, and is not up
   pub none_held : (id : ℕ) → brick_in s id ≡ blank_brick → held (s.bricks.log id) key ≡ false

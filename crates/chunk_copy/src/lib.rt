@@ -26,15 +26,9 @@ fn copied_to(store: &[u8], settings: Settings, key: ChunkKey) -> Option<usize>
     requires { StoreOf settings store.now }
     ensures { CopiedTo settings (decode (words store.now)) key.0 result }
 {
-    match holders::target(store, settings, key) {
-        Some(target) => {
-            if holders::holds_at(store, settings, target, key) {
-                return None;
-            }
-            Some(target)
-        }
-        None => None,
-    }
+    holders::target(store, settings, key).filter(|&target| !holders::holds_at(
+        store, settings, target, key,
+    ))
 }
 
 // Is there nothing to copy, or room for it?
@@ -42,10 +36,8 @@ fn has_room(store: &[u8], settings: Settings, key: ChunkKey) -> bool
     requires { StoreOf settings store.now }
     ensures { result ≡ has_room (decode (words store.now)) key.0 }
 {
-    match copied_to(store, settings, key) {
-        Some(place) => place::chunk_count(store, settings, place) < settings.chunks as u64,
-        None => true,
-    }
+    copied_to(store, settings, key).is_none_or(|place| place::chunk_count(store, settings, place)
+        < settings.chunks as u64)
 }
 
 // Does the brick hold the chunk?
@@ -53,10 +45,9 @@ fn is_held(store: &[u8], settings: Settings, id: u64, key: ChunkKey) -> bool
     requires { StoreOf settings store.now }
     ensures { result ≡ held ((decode (words store.now)).bricks.log id) key.0 }
 {
-    match brick::place_of(store, settings, id) {
-        Some(place) => holders::holds_at(store, settings, place, key),
-        None => false,
-    }
+    brick::place_of(store, settings, id).is_some_and(|place| holders::holds_at(
+        store, settings, place, key,
+    ))
 }
 
 fn asks(store: &[u8], settings: Settings, key: ChunkKey) -> Result<(), Refusal>

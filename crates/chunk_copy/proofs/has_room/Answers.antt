@@ -1,32 +1,14 @@
-use mathlib.Core.Path.{◌≡◌, sym, ap, ◌∙◌}
-use mathlib.Core.Bool.{true}
-use Prim.Native.Nat.{ℕ}
-use lib.Dec.{ltb}
+use Rattle.std.proofs.Common.{◌≡◌, true, ltb, length, sym, ◌∙◌, rules, tests}
 use Rattle.lists.proofs.Tests.{or_l}
 use Rattle.words.specs.Words.{words}
-use Rattle.rules.specs.Writes.{target, nothing_to_copy}
 use Rattle.layout.specs.Store.{decode}
-use Rattle.chunk_copy.specs.Copies.{Lacking}
-use Rattle.chunk_copy.proofs.Copies.{room_is}
+use Rattle.chunk_copy.proofs.Copies.{by_copy, room_is}
 use Rattle.chunk_copy.proofs.has_room.Goals as goal
 
-pub chunk_count-requires : goal.chunk_count-requires
-chunk_count-requires c =
-    let found : let s = decode (words c.args.store.now) in
-    Lacking c.args.settings s (target s c.args.key.0) c.args.key.0 c.in-Some.place = rw c.in-Some.is at c.copied_to.ensures in
-    let at = found in
-    (c.requires, at.at.inside, rw at.at.here at.at.some)
-
-pub returns-in-Some : goal.returns-in-Some
-returns-in-Some c =
-    let found : let s = decode (words c.args.store.now) in
-    Lacking c.args.settings s (target s c.args.key.0) c.args.key.0 c.in-Some.place = rw c.in-Some.is at c.copied_to.ensures in
-    let chunks = c.args.settings.chunks in
-    ap (λ (n : ℕ). ltb n chunks) c.chunk_count.ensures
-    ∙ room_is c.args.settings c.args.store.now c.requires c.args.key.0 _ (found)
-
-pub returns-in-None : goal.returns-in-None
-returns-in-None c =
-    let nothing : nothing_to_copy (decode (words c.args.store.now)) c.args.key.0 ≡ true =
-    rw c.in-None.is at c.copied_to.ensures in
-    sym (or_l _ _ nothing)
+pub returns : goal.returns
+returns c =
+    let a = c.args in
+    let s = decode (words a.store.now) in
+    by_copy a.settings s a.key.0 c.copied_to.result _ _ c.copied_to.ensures c.is_none_or.ensures
+    (λ p h q. let e : c.is_none_or.result ≡ ltb (length (s.bricks.log (s.ids p))) a.settings.chunks = search (rules, tests) in e ∙ room_is a.settings a.store.now c.requires a.key.0 _ h)
+    (λ n e. let y : c.is_none_or.result ≡ true = search (rules, tests) in y ∙ sym (or_l _ _ n))
