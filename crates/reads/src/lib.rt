@@ -134,12 +134,10 @@ pub fn is_zero_block(bytes: &[u8], size: usize) -> bool
     if bytes.len() != size {
         return false;
     }
-    let mut i = 0;
-    while i < size / sizes::WORD_BYTES {
+    for i in 0..size / sizes::WORD_BYTES {
         if words::read(bytes, i) != 0 {
             return false;
         }
-        i += 1;
     }
     true
 }
