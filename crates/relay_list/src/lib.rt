@@ -80,12 +80,8 @@ fn close_gap(list: &mut [Relay], count: usize, index: usize)
     requires { Within index count list.old }
     ensures { Loses count index list.old list.new }
 {
-    let last = count - 1;
-    let mut i = index;
-    while i < last {
-        let next = i + 1;
-        list[i] = list[next];
-        i = next;
+    for i in index..count - 1 {
+        list[i] = list[i + 1];
     }
 }
 
@@ -95,10 +91,8 @@ pub fn load(part: &[u8], list: &mut [Relay]) -> usize
     ensures { Loads (words part.now) list.old result list.new }
 {
     let count = flat::count(part);
-    let mut i = 0;
-    while i < count {
+    for i in 0..count {
         list[i] = flat::relay_at(part, i);
-        i = i + 1;
     }
     count
 }
@@ -109,10 +103,8 @@ pub fn store(list: &[Relay], count: usize, part: &mut [u8])
     ensures { Stores list.now count (words part.old) (words part.new) }
 {
     flat::clear(part);
-    let mut i = 0;
-    while i < count {
-        flat::append(part, list[i]);
-        i = i + 1;
+    for relay in &list[..count] {
+        flat::append(part, *relay);
     }
 }
 

@@ -12,11 +12,9 @@ loop-i-preserved c =
     let size = c.requires.0.size in
     let whole : length (words part) ≡ bag_words = length_words part ∙ omega arith in
     let held = held_count (words part) whole c.requires.0.few in
-    record {
-      within = omega arith;
-      filled = rw add-one (one_more c.loop-i.i c.relay_at.result c.loop-i.list c.args.list.now (bag_codec.dec (words part)) (omega arith) (omega arith)
-          c.loop-i.invariant.filled c.relay_at.ensures);
-    }
+    rw add-one
+    (one_more c.loop-i.i c.relay_at.result c.loop-i.list c.args.list.now (bag_codec.dec (words part)) (omega arith) (omega arith) c.loop-i.invariant
+    c.relay_at.ensures)
 
 pub returns : goal.returns
 returns c =
@@ -24,5 +22,5 @@ returns c =
     let size = c.requires.0.size in
     let whole : length (words part) ≡ bag_words = length_words part ∙ omega arith in
     let all : c.loop-i.i ≡ c.count-count.result = omega arith in
-    let filled = rw (all, c.count-count.ensures) at c.loop-i.invariant.filled in
+    let filled = rw (all, c.count-count.ensures) at c.loop-i.invariant in
     rw c.count-count.ensures (loaded (words part) c.args.list.now c.loop-i.list whole c.requires.0.few filled)

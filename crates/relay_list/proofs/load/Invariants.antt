@@ -1,4 +1,4 @@
-use Rattle.std.proofs.Common.{◌-◌, ◌≡◌, ◌≤◌, take}
+use Rattle.std.proofs.Common.{◌≡◌, take}
 use Rattle.words.specs.Words.{words}
 use Rattle.layout.specs.Layout.{bag_codec}
 use Rattle.relay_list.specs.Relays.{relays_of, over}
@@ -6,10 +6,4 @@ use Rattle.relay_list.proofs.load.Given as goal
 
 -- so many records are filled
 abbrev pub invariant-loop-i : goal.invariant-loop-i
-invariant-loop-i l = record {
-  within : l.i ≤ l.count;
-  filled : relays_of l.list ≡ over (take l.i (bag_codec.dec (words l.part))) l.initial.list;
-}
-
-abbrev pub decreases-loop-i : goal.decreases-loop-i
-decreases-loop-i l = l.count - l.i
+invariant-loop-i l = relays_of l.list ≡ over (take l.i (bag_codec.dec (words l.part))) l.initial.list
