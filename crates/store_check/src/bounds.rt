@@ -13,10 +13,8 @@ pub fn fill_given(bounds: &mut [u64], given: u64)
     requires { GivenFit (length bounds.old) given }
     ensures { Given given bounds.old bounds.new }
 {
-    let mut i = 1;
-    while i <= given as usize {
+    for i in 1..given as usize + 1 {
         bounds[i] = constants::SEQUENCES;
-        i += 1;
     }
 }
 
@@ -25,13 +23,9 @@ fn set_bound(bounds: &mut [u64], given: u64, id: u64, next: u64)
     requires { GivenFit (length bounds.old) given }
     ensures { bounds.new ≡ with_bound given id next bounds.old }
 {
-    if id == 0 {
-        return;
+    if 0 < id && id <= given {
+        bounds[id as usize] = next;
     }
-    if given < id {
-        return;
-    }
-    bounds[id as usize] = next;
 }
 
 // The bounds of the bricks at the places.
@@ -39,8 +33,7 @@ pub fn fill_places(bounds: &mut [u64], settings: Settings, given: u64, store: &[
     requires { FillFit settings given (length bounds.old) (length store.now) }
     ensures { Filled settings given (words store.now) settings.places bounds.old bounds.new }
 {
-    let mut p = 0;
-    while p < settings.places {
+    for p in 0..settings.places {
         let at = sizes::place_at(settings, p);
         set_bound(
             bounds,
@@ -48,6 +41,5 @@ pub fn fill_places(bounds: &mut [u64], settings: Settings, given: u64, store: &[
             words::read(store, at),
             words::read(store, at + sizes::NEXT_AT),
         );
-        p += 1;
     }
 }

@@ -77,14 +77,7 @@ fn alone(settings: Settings, store: &[u8], p: usize, id: u64) -> bool
     requires { OnePlaceFit settings (length store.now) p }
     ensures { result ≡ all_below p (alone_at settings (words store.now) id) }
 {
-    let mut q = 0;
-    while q < p {
-        if words::read(store, sizes::place_at(settings, q)) == id {
-            return false;
-        }
-        q += 1;
-    }
-    true
+    (0..p).all(|q| words::read(store, sizes::place_at(settings, q)) != id)
 }
 
 // The place p; of an empty one nothing but the id is read. The places below it passed.
@@ -113,12 +106,10 @@ pub fn places_good(settings: Settings, bounds: &[u64], given: u64, store: &[u8])
     requires { PlacesFit settings bounds.now (length store.now) }
     ensures { result ≡ all_below settings.places (place_sound settings (key_below bounds.now) given (words store.now)) }
 {
-    let mut p = 0;
-    while p < settings.places {
+    for p in 0..settings.places {
         if !place_good(settings, bounds, given, store, p) {
             return false;
         }
-        p += 1;
     }
     true
 }

@@ -2,7 +2,6 @@ use mathlib.Core.Path.{◌≡◌, refl, sym, ap, ◌∙◌}
 use mathlib.Core.List.{List}
 use Prim.Native.Nat.{ℕ, ◌+◌, ◌*◌, ◌-◌}
 use lib.ListN.{take, drop}
-use borrow.Author.Tests.{not-true, not-false}
 use Rattle.lists.proofs.Tests.{both, no_first, no_second, yes_first}
 use Rattle.words.specs.Words.{words}
 use Rattle.rules.specs.Sound.{sound_bag}
@@ -38,11 +37,11 @@ returns-then-not-bag_good c =
     (omega (arith, c.bag_at-a.ensures, c.requires.size)) in
     let a = c.args in
     sym (no_first _ _ (no_first _ _ (ap (λ (w : List ℕ). sound_bag (key_below a.bounds.now) a.settings (bag_codec.dec w)) (sym (in-store))
-    ∙ sym c.bag_good.ensures ∙ not-true _ c.if-not-bag_good.true-raw)))
+    ∙ sym c.bag_good.ensures ∙ c.if-not-bag_good.true)))
 
 pub returns-then-not-proxies_good : goal.returns-then-not-proxies_good
 unfolding contents_sound
-returns-then-not-proxies_good c = sym (no_first _ _ (no_second _ _ (sym c.proxies_good.ensures ∙ not-true _ c.if-not-proxies_good.true-raw)))
+returns-then-not-proxies_good c = sym (no_first _ _ (no_second _ _ (sym c.proxies_good.ensures ∙ c.if-not-proxies_good.true)))
 
 pub returns : goal.returns
 unfolding contents_sound
@@ -53,5 +52,5 @@ returns c =
     (omega (arith, c.bag_at-a.ensures, c.requires.size)) in
     let a = c.args in
     let bag = ap (λ (w : List ℕ). sound_bag (key_below a.bounds.now) a.settings (bag_codec.dec w)) (sym (in-store)) in
-    c.places_good.ensures ∙ sym (yes_first _ _ (both _ _ (bag ∙ sym c.bag_good.ensures ∙ not-false _ c.if-not-bag_good.false-raw)
-    (sym c.proxies_good.ensures ∙ not-false _ c.if-not-proxies_good.false-raw)))
+    c.places_good.ensures ∙ sym (yes_first _ _ (both _ _ (bag ∙ sym c.bag_good.ensures ∙ c.if-not-bag_good.false)
+    (sym c.proxies_good.ensures ∙ c.if-not-proxies_good.false)))

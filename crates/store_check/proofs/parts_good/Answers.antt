@@ -2,7 +2,6 @@ use mathlib.Core.Path.{sym, ap, ◌∙◌}
 use mathlib.Core.Bool.{Bool}
 use Prim.Native.Nat.{ℕ, ◌≤◌}
 use lib.ListN.{get_or}
-use borrow.Author.Tests.{not-true, not-false}
 use Rattle.lists.specs.Tests.{all_below}
 use Rattle.lists.proofs.Tests.{both, no_first, no_second, yes_first}
 use Rattle.words.specs.Words.{words}
@@ -22,7 +21,7 @@ use Rattle.store_check.proofs.parts_good.Goals as goal
 
 pub returns-then-not-header_good : goal.returns-then-not-header_good
 unfolding parts_sound
-returns-then-not-header_good c = sym (no_first _ _ (no_first _ _ (sym c.header_good.ensures ∙ not-true _ c.if-not-header_good.true-raw)))
+returns-then-not-header_good c = sym (no_first _ _ (no_first _ _ (sym c.header_good.ensures ∙ c.if-not-header_good.true)))
 
 pub returns-then-not-all_agreed_good : goal.returns-then-not-all_agreed_good
 unfolding parts_sound
@@ -30,18 +29,17 @@ returns-then-not-all_agreed_good c =
     let n = c.args.settings in
     let ws = words c.args.store.now in
     sym (no_first _ _ (no_second _ _ (ap (λ (k : ℕ). all_below (buckets n) (agreed_at_sound k ws)) (sym c.read-given.ensures) ∙ sym
-    c.all_agreed_good.ensures ∙ not-true _ c.if-not-all_agreed_good.true-raw)))
+    c.all_agreed_good.ensures ∙ c.if-not-all_agreed_good.true)))
 
 pub fill_given-requires : goal.fill_given-requires
 fill_given-requires c =
     let few : get_or (words c.args.store.now) given_at 0 ≤ max_id = header_given _ _ _ _ (sym
-    c.header_good.ensures ∙ not-false _ c.if-not-header_good.false-raw) in search rules
+    c.header_good.ensures ∙ c.if-not-header_good.false) in search rules
 
 pub fill_places-requires : goal.fill_places-requires
 fill_places-requires c =
     let few : get_or (words c.args.store.now) given_at 0 ≤ max_id = header_given _ _ _ _ (sym
-    c.header_good.ensures ∙ not-false _
-    c.if-not-header_good.false-raw) in
+    c.header_good.ensures ∙ c.if-not-header_good.false) in
     record { known = c.fill_given.ensures.long; few = omega arith; small = c.requires.small; size = c.requires.size }
 
 pub contents_good-requires : goal.contents_good-requires
@@ -67,8 +65,7 @@ returns c =
     (λ (k : ℕ). contents_sound n (sound_key (decode ws)) k ws)
     c.read-given.ensures ∙ sym
     (yes_first _ _ (both _ _ (sym c.header_good.ensures
-    ∙ not-false _ c.if-not-header_good.false-raw)
+    ∙ c.if-not-header_good.false)
     (ap (λ (k : ℕ). all_below (buckets n) (agreed_at_sound k ws))
     (sym c.read-given.ensures) ∙ sym
-    c.all_agreed_good.ensures ∙ not-false _
-    c.if-not-all_agreed_good.false-raw)))
+    c.all_agreed_good.ensures ∙ c.if-not-all_agreed_good.false)))

@@ -3,7 +3,6 @@ use mathlib.Core.List.{List}
 use mathlib.Core.Bool.{Bool}
 use Prim.Native.Nat.{ℕ, ◌*◌}
 use lib.Dec.{eqb}
-use borrow.Author.Tests.{not-true, not-false}
 use Rattle.lists.specs.Tests.{all_below}
 use Rattle.lists.specs.Runs.{run}
 use Rattle.lists.proofs.Tests.{both, no_first, no_second, yes_first}
@@ -23,7 +22,7 @@ use Rattle.store_check.proofs.place.brick_good.Goals as goal
 
 pub returns-then-not-status_good : goal.returns-then-not-status_good
 unfolding brick_sound
-returns-then-not-status_good c = sym (no_first _ _ (no_first _ _ (no_first _ _ (sym c.status_good.ensures ∙ not-true _ c.if-not-status_good.true-raw))))
+returns-then-not-status_good c = sym (no_first _ _ (no_first _ _ (no_first _ _ (sym c.status_good.ensures ∙ c.if-not-status_good.true))))
 
 pub returns-then-not-buffer_good : goal.returns-then-not-buffer_good
 unfolding brick_sound
@@ -32,7 +31,7 @@ returns-then-not-buffer_good c =
     let n = c.args.settings in
     let up = sym (up_is (words s) ∙ ap (λ (k : ℕ). eqb k 1) (sym c.read-up.ensures)) in
     sym (no_first _ _ (no_first _ _ (no_second _ _ (ap (λ (b : Bool). sound_buffer (key_below c.args.bounds.now) b (waiting_at (words s))) (sym up) ∙ sym
-    c.buffer_good.ensures ∙ not-true _ c.if-not-buffer_good.true-raw))))
+    c.buffer_good.ensures ∙ c.if-not-buffer_good.true))))
 
 pub overflow_mul-log : goal.overflow_mul-log
 overflow_mul-log c = omega (arith, c.log_at-log.ensures, place_small _ c.requires.place_fit.small)
@@ -47,7 +46,7 @@ returns-then-not-all_copies_good c =
     (run all_copies_at (all_copies_codec n).size (words s)))) (sym up) ∙ ap (λ (v : List ℕ). all_below (buckets n)
     (copies_sound n (key_below c.args.bounds.now) (eqb c.read-up.result 1) v))
     (sym (lent s (8 * all_copies_at) (8 * c.log_at-log.result) all_copies_at (all_copies_codec n).size refl (omega arith)
-    (omega arith))) ∙ sym c.all_copies_good.ensures ∙ not-true _ c.if-not-all_copies_good.true-raw)))
+    (omega arith))) ∙ sym c.all_copies_good.ensures ∙ c.if-not-all_copies_good.true)))
 
 pub overflow_mul-end : goal.overflow_mul-end
 overflow_mul-end c = omega (arith, place_small _ c.requires.place_fit.small)
@@ -61,13 +60,11 @@ returns c =
     c.log_good.ensures ∙ ap (log_sound n (key_below c.args.bounds.now)) (lent s
     (8 * c.log_at-log.result) (8 * c.place_words-end.result) (log_at n) (log_words n)
     (omega arith) (omega arith) (omega arith)) ∙ sym (yes_first _ _ (both _ _ (both _ _ (sym
-    c.status_good.ensures ∙ not-false _
-    c.if-not-status_good.false-raw)
+    c.status_good.ensures ∙ c.if-not-status_good.false)
     (ap (λ (b : Bool). sound_buffer (key_below c.args.bounds.now) b (waiting_at (words s))) (sym up) ∙ sym
-    c.buffer_good.ensures ∙ not-false _
-    c.if-not-buffer_good.false-raw)) (ap (λ (b : Bool). all_below (buckets n)
+    c.buffer_good.ensures ∙ c.if-not-buffer_good.false)) (ap (λ (b : Bool). all_below (buckets n)
     (copies_sound n (key_below c.args.bounds.now) b (run all_copies_at (all_copies_codec n).size (words s)))) (sym up) ∙ ap
     (λ (v : List ℕ). all_below (buckets n) (copies_sound n (key_below c.args.bounds.now)
     (eqb c.read-up.result 1) v))
     (sym (lent s (8 * all_copies_at) (8 * c.log_at-log.result) all_copies_at (all_copies_codec n).size refl
-    (omega arith) (omega arith))) ∙ sym c.all_copies_good.ensures ∙ not-false _ c.if-not-all_copies_good.false-raw)))
+    (omega arith) (omega arith))) ∙ sym c.all_copies_good.ensures ∙ c.if-not-all_copies_good.false)))

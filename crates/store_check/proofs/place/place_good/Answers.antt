@@ -1,7 +1,6 @@
 use mathlib.Core.Path.{sym, ap, ◌∙◌}
 use Prim.Native.Nat.{ℕ, ◌+◌, ◌*◌}
 use lib.ListN.{get_or}
-use borrow.Author.Tests.{not-true, not-false}
 use Rattle.words.specs.Words.{words}
 use Rattle.layout.specs.Layout.{place_at, place_words, place_part}
 use Rattle.layout.proofs.Bounds.{store_small}
@@ -31,7 +30,7 @@ pub returns-then-not-alone : goal.returns-then-not-alone
 returns-then-not-alone c =
     let ws = words c.args.store.now in
     let r = c.read-id.ensures ∙ ap (λ (k : ℕ). get_or ws k 0) c.place_at-at.ensures.0 in
-    sym (place_twice _ _ _ c.args.p _ r c.if-id-eq0.false (sym c.alone.ensures ∙ not-true _ c.if-not-alone.true-raw))
+    sym (place_twice _ _ _ c.args.p _ r c.if-id-eq0.false (sym c.alone.ensures ∙ c.if-not-alone.true))
 
 pub overflow_mul-a : goal.overflow_mul-a
 overflow_mul-a c = omega (arith, store_small _ c.requires.places_fit.small)
@@ -54,5 +53,4 @@ returns c =
     (8 * c.place_at-at.result + 8 * c.place_words.result)
     (place_at n c.args.p) (place_words n) (omega arith) (omega arith) (omega arith)) ∙ sym
     (place_brick _ _ (λ p. brick_sound n (key_below c.args.bounds.now) (place_part n p ws)) c.args.p _ r c.if-id-eq0.false
-    c.if-given-id.false (sym c.alone.ensures ∙ not-false _
-    c.if-not-alone.false-raw))
+    c.if-given-id.false (sym c.alone.ensures ∙ c.if-not-alone.false))
