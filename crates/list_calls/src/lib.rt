@@ -10,6 +10,7 @@ use rules::refusal::code;
 
 pub mod numbers;
 
+// stays: C reads this struct, a code with a relay beside it.
 #[repr(C)]
 #[derive(Clone, Copy)]
 pub struct DeliverAnswer {

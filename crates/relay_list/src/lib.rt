@@ -31,6 +31,7 @@ pub struct Relay {
 }
 
 // How many relays of a store's bag were handed out, or the number of the question that was answered no.
+// stays: C reads this struct, a code with a count beside it.
 #[repr(C)]
 #[derive(Clone, Copy)]
 pub struct BagAnswer {
@@ -39,6 +40,7 @@ pub struct BagAnswer {
 }
 
 // A relay more, as the youngest, where the slice and the bag have room for it.
+// stays: C lends the whole slice, so the count is beside it here and below.
 pub fn send(list: &mut [Relay], count: usize, relay: Relay) -> Result<(), Refusal>
     ensures { Sends count relay list.old (code_of result) list.new }
 {
