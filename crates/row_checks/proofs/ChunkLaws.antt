@@ -150,20 +150,6 @@ module _ (good : ℕ → Bool) (L n : ℕ) (ws : List ℕ) where
 
 -- ---- down from a position, one at a time
 module _ (L n : ℕ) (ws : List ℕ) (floor i : ℕ) where
-  pub descent_start : (key : ℕ) → key ≡ key_by L ws i → floor < key → Descent L n ws floor i i key 0
-  descent_start key e h =
-      record {
-        inside = omega arith;
-        here = e;
-        above = h;
-        under = omega (arith, e);
-        rows = λ k l m. absurd (omega arith);
-        rises = λ k l m. absurd (omega arith);
-        range = λ k l m. absurd (omega arith);
-        clean = λ _ k l m. absurd (omega arith);
-        dirty = λ _. omega arith;
-      }
-
   either_flag : (a b : ℕ) → bit_or a b ≤ 1 → (a ≤ 1) × (b ≤ 1)
   either_flag a b h = (omega (arith, or_add_and a b, and_le_r a b), omega (arith, or_add_and a b, and_le_l a b))
 
@@ -189,19 +175,15 @@ module _ (L n : ℕ) (ws : List ℕ) (floor i : ℕ) where
       }
 
   -- four keys, each below the one before it: the last is above the floor, so all are
-  pub descent_four : (j next k1 k2 k3 k4 before f1 f2 f3 f4 : ℕ) → 3 < j → Descent L n ws floor i j next before → floor < k4
-      → (0 < k1 → KeyUnder L n ws (j - 1) next before k1 f1) → (0 < k2 → KeyUnder L n ws (j - 2) k1 f1 k2 f2)
-      → (0 < k3 → KeyUnder L n ws (j - 3) k2 f2 k3 f3) → (0 < k4 → KeyUnder L n ws (j - 4) k3 f3 k4 f4)
-      → Descent L n ws floor i (j - 4) k4 f4
-  descent_four j next k1 k2 k3 k4 before f1 f2 f3 f4 p v h g1 g2 g3 g4 =
-      let u4 = g4 (omega arith) in
-      let u3 = g3 (omega (arith, u4.below)) in
-      let u2 = g2 (omega (arith, u3.below)) in
-      let u1 = g1 (omega (arith, u2.below)) in
-      let v1 = descent_turn j (j - 1) next k1 before f1 (omega arith) v (omega (arith, u4.below, u3.below, u2.below)) u1 in
-      let v2 = descent_turn (j - 1) (j - 2) k1 k2 f1 f2 (omega arith) v1 (omega (arith, u4.below, u3.below)) u2 in
-      let v3 = descent_turn (j - 2) (j - 3) k2 k3 f2 f3 (omega arith) v2 (omega (arith, u4.below)) u3 in
-      descent_turn (j - 3) (j - 4) k3 k4 f3 f4 (omega arith) v3 h u4
+  pub descent_four : (j next before a1 k1 f1 a2 k2 f2 a3 k3 f3 a4 k4 f4 : ℕ) → suc a1 ≡ j → suc a2 ≡ a1 → suc a3 ≡ a2 → suc a4 ≡ a3 → floor < k4
+      → KeyUnder L n ws a1 next before k1 f1 → KeyUnder L n ws a2 k1 f1 k2 f2
+      → KeyUnder L n ws a3 k2 f2 k3 f3 → KeyUnder L n ws a4 k3 f3 k4 f4
+      → Descent L n ws floor i j next before → Descent L n ws floor i a4 k4 f4
+  descent_four j next before a1 k1 f1 a2 k2 f2 a3 k3 f3 a4 k4 f4 e1 e2 e3 e4 h u1 u2 u3 u4 v =
+      let v1 = descent_turn j a1 next k1 before f1 e1 v (omega (arith, u4.below, u3.below, u2.below)) u1 in
+      let v2 = descent_turn a1 a2 k1 k2 f1 f2 e2 v1 (omega (arith, u4.below, u3.below)) u2 in
+      let v3 = descent_turn a2 a3 k2 k3 f2 f3 e3 v2 (omega (arith, u4.below)) u3 in
+      descent_turn a3 a4 k3 k4 f3 f4 e4 v3 h u4
 
 abbrev no_chunk : Chunk
 no_chunk = new_chunk 0 false []

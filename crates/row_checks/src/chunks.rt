@@ -1,5 +1,6 @@
 // A brick's chunk log.
-ghost use Rattle.std.specs.Prelude.{◌≡◌, ◌<◌, length};
+ghost use Rattle.std.specs.Prelude.{◌≡◌, ℕ, suc, ◌-◌, ◌<◌, length};
+ghost use Rattle.std.specs.Option.{MatchOption};
 ghost use Rattle.words.specs.Words.{words};
 ghost use Rattle.lists.specs.Tests.{all_below};
 ghost use Rattle.row_checks.specs.Rows.{key_below};
@@ -10,34 +11,6 @@ use rules::constants;
 use rules::numbers::ChunkKey;
 use rules::settings::Settings;
 
-// A key, and the bits of the flags that were gathered on the way to it.
-#[derive(Clone, Copy)]
-struct Gathered {
-    key: u64,
-    flags: u64,
-}
-
-// The key at position k, if that names a row in use and the key is below the next; else 0.
-// stays: (b) with Option in place of 0, a check of logs of 60,000 chunks took 1.4 to 1.7 times as long
-fn key_under(log: &[u8], chunks: usize, n: usize, k: usize, next: Gathered) -> Gathered
-    requires { KeyFit (length log.now) chunks n k }
-    ensures { 0 < result.key → KeyUnder chunks n (words log.now) k next.key next.flags result.key result.flags }
-{
-    let at = words::read(log, 1 + 2 * chunks + k);
-    if n as u64 <= at {
-        return Gathered { key: 0, flags: 0 };
-    }
-    let p = at as usize;
-    let key = words::read(log, 1 + 2 * p);
-    if next.key <= key {
-        return Gathered { key: 0, flags: 0 };
-    }
-    Gathered {
-        key: key,
-        flags: next.flags | words::read(log, 2 + 2 * p),
-    }
-}
-
 // A position that was reached, the key there, and the bits of the flags on the way.
 #[derive(Clone, Copy)]
 struct Reached {
@@ -46,35 +19,58 @@ struct Reached {
     flags: u64,
 }
 
-// From position i down, four at a time, as long as rows in use have keys that descend and stay above the floor: those have the id of the key at i. One that
-// fails makes those below it fail, so the last of the four tells of all.
+// The position below, if it names a row in use whose key is below the next.
+fn key_under(log: &[u8], chunks: usize, n: usize, next: Reached) -> Option<Reached>
+    requires { KeyFit (length log.now) chunks n (next.at - 1) × (0 < next.at) }
+    ensures { MatchOption result (Unit {0}) (λ r. (suc r.at ≡ next.at) × KeyUnder chunks n (words log.now) r.at next.key next.flags r.key r.flags) }
+{
+    let at = next.at - 1;
+    let row = words::read(log, 1 + 2 * chunks + at);
+    if n as u64 <= row {
+        return None;
+    }
+    let p = row as usize;
+    let key = words::read(log, 1 + 2 * p);
+    if next.key <= key {
+        return None;
+    }
+    let flags = next.flags | words::read(log, 2 + 2 * p);
+    Some(Reached { at, key, flags })
+}
+
+// Four positions down, if they name rows in use whose keys descend and stay above the floor: the last of the four tells of all.
+fn four_under(log: &[u8], chunks: usize, n: usize, floor: u64, next: Reached) -> Option<Reached>
+    requires { KeyFit (length log.now) chunks n next.at }
+    ensures { MatchOption result (Unit {0}) (λ r. (r.at < next.at) × ((i : ℕ) → Descent chunks n (words log.now) floor i next.at next.key next.flags
+        → Descent chunks n (words log.now) floor i r.at r.key r.flags)) }
+{
+    if next.at < 4 {
+        return None;
+    }
+    let one = key_under(log, chunks, n, next)?;
+    let two = key_under(log, chunks, n, one)?;
+    let three = key_under(log, chunks, n, two)?;
+    let four = key_under(log, chunks, n, three)?;
+    if four.key <= floor {
+        return None;
+    }
+    Some(four)
+}
+
+// From position i down, four at a time, as long as rows in use have keys that descend and stay above the floor: those have the id of the key at i.
 fn descend(log: &[u8], chunks: usize, n: usize, i: usize, floor: u64, key: u64) -> Reached
     requires { DescendFit log.now chunks n i floor key }
     ensures { Descent chunks n (words log.now) floor i result.at result.key result.flags }
 {
-    let mut next = Gathered { key: key, flags: 0 };
-    let mut j = i;
-    // stays: (d) it goes down by four, and where it stops is an answer
-    while 3 < j {
-        let one = key_under(log, chunks, n, j - 1, next);
-        let two = key_under(log, chunks, n, j - 2, one);
-        let three = key_under(log, chunks, n, j - 3, two);
-        let four = key_under(log, chunks, n, j - 4, three);
-        if four.key <= floor {
-            return Reached {
-                at: j,
-                key: next.key,
-                flags: next.flags,
-            };
-        }
-        next = four;
-        j -= 4;
+    let mut here = Reached {
+        at: i,
+        key,
+        flags: 0,
+    };
+    while let Some(lower) = four_under(log, chunks, n, floor, here) {
+        here = lower;
     }
-    Reached {
-        at: j,
-        key: next.key,
-        flags: next.flags,
-    }
+    here
 }
 
 // One pass along the positions of a log of n chunks: each names a row in use whose flag is 0 or 1 and whose key is below its bound, and keys ascend. From the
