@@ -3,12 +3,13 @@ use mathlib.Core.Path.{◌≡◌, refl, sym, ap, ◌∙◌}
 use mathlib.Core.List.{List}
 use mathlib.Core.Logic.{◌⊎◌, inl, inr}
 use mathlib.Core.Bool.{Bool, true, false, not}
-use Prim.Native.Nat.{ℕ, ◌+◌, ◌-◌, ◌/◌, ◌%◌, ◌≤◌, ◌<◌}
+use Prim.Native.Nat.{ℕ, ◌+◌, ◌-◌, ◌≤◌, ◌<◌}
 use native.Mathlib.Omega.{arith}
+use lib.Bits.{bit_and, bit_or}
 use lib.Dec.{eqb, ltb}
 use lib.ListN.{length, get_or, set, take, length-set, length-take, replicate, length-replicate, get_or-replicate}
-use lib.Seq.{get_or-set_same, get_or-set_other, set-get_or, get_or-take}
-use borrow.Author.Tests.{eq-eqb, ne_eqb, lt-ltb, le-ltb, ltb-true}
+use lib.Seq.{get_or-set_same, get_or-set_other, get_or-take}
+use borrow.Author.Tests.{lt-ltb, le-ltb, eqb-true}
 use Rattle.lists.specs.Tests.{◌and◌, ◌or◌, all_below}
 use Rattle.lists.proofs.Tests.{by, by_eq, by_lt, clash, eqb_self, all_at, and_l, and_r, is_no, no_first, yes_first, yes_second, or_l, or_r, or_no, both, no_second}
 use Rattle.lists.specs.Runs.{Below}
@@ -57,9 +58,6 @@ module _ (b p : ℕ) (small : b < 256) (few : p < 8) where
   tried : (ltb (with_on b p) 256 and all_below 8 (λ q. bit_is b p q)) ≡ true
   tried = all_at 8 _ (all_at 256 _ all_bits b small) p few
 
-  pub on_small : with_on b p < 256
-  on_small = ltb-true _ _ (and_l _ _ tried)
-
   pub on_bit : (q : ℕ) → q < 8 → is_on (with_on b p) q ≡ (eqb p q or is_on b q)
   unfolding bit_is
   on_bit q l = same_of _ _ (all_at 8 _ (and_r _ _ tried) q l)
@@ -69,44 +67,24 @@ unfolding all_below is_on ◌and◌
 all_some = refl
 
 module _ (p : ℕ) (few : p < 8) where
-  pub bit_some : 0 < get_or bits p 0
-  bit_some = ltb-true _ _ (and_l _ _ (all_at 8 _ all_some p few))
-
   pub bit_off : is_on 0 p ≡ false
   bit_off = by (is_on 0 p) (λ y. absurd (is_no _ (and_r _ _ (all_at 8 _ all_some p few)) y)) (λ n. n)
 
--- ---- as the code tells the bit and sets it
-module _ (b p : ℕ) where
-  told_on : b / get_or bits p 0 % 2 ≡ 1 → is_on b p ≡ true
-  unfolding is_on
-  told_on e = eq-eqb _ 1 e
+-- ---- as the code tells the bit and sets it, tried one by one
+told : (b p : ℕ) → Bool
+told b p = same_bit (eqb (bit_and b (get_or bits p 0)) 0) (not (is_on b p)) and eqb (bit_or b (get_or bits p 0)) (with_on b p)
 
-  told_off : (b / get_or bits p 0 % 2 ≡ 1 → ⊥) → is_on b p ≡ false
-  unfolding is_on
-  told_off n = ne_eqb _ 1 n
+all_told : all_below 256 (λ b. all_below 8 (λ p. told b p)) ≡ true
+unfolding all_below same_bit told is_on with_on ◌and◌
+all_told = refl
 
-  off_adds : is_on b p ≡ false → with_on b p ≡ b + get_or bits p 0
-  unfolding with_on
-  off_adds n = rw n
+module _ (flags : List ℕ) (r p : ℕ) (small : get_or flags r 0 < 256) (few : p < 8) where
+  right : told (get_or flags r 0) p ≡ true
+  right = all_at 8 _ (all_at 256 _ all_told (get_or flags r 0) small) p few
 
-  on_stays : is_on b p ≡ true → with_on b p ≡ b
-  unfolding with_on
-  on_stays y = rw y
-
-  pub bit_fits : b < 256 → p < 8 → (b / get_or bits p 0 % 2 ≡ 1 → ⊥) → b + get_or bits p 0 < 256
-  bit_fits small few n = omega (arith, on_small b p small few, off_adds (told_off n))
-
-module _ (flags : List ℕ) (r p : ℕ) where
-  pub raised_on : get_or flags r 0 / get_or bits p 0 % 2 ≡ 1 → (false ≡ not (flag flags r p)) × (flags ≡ raised flags r p)
-  raised_on e =
-      let y = told_on (get_or flags r 0) p e in
-      (sym (ap not y), sym (ap (set flags r) (on_stays (get_or flags r 0) p y) ∙ set-get_or flags r 0))
-
-  pub raised_off : (get_or flags r 0 / get_or bits p 0 % 2 ≡ 1 → ⊥)
-      → (true ≡ not (flag flags r p)) × (set flags r (get_or flags r 0 + get_or bits p 0) ≡ raised flags r p)
-  raised_off n =
-      let y = told_off (get_or flags r 0) p n in
-      (sym (ap not y), ap (set flags r) (sym (off_adds (get_or flags r 0) p y)))
+  pub raised_now : (eqb (bit_and (get_or flags r 0) (get_or bits p 0)) 0 ≡ not (flag flags r p)) × (set flags r (bit_or (get_or flags r 0) (get_or bits p 0)) ≡ raised flags r p)
+  unfolding told
+  raised_now = (same_of _ _ (and_l _ _ right), ap (set flags r) (eqb-true _ _ (and_r _ _ right)))
 
 pub met_by : (c : Settings) (s : State) (id base : ℕ) (met next : ℕ → Bool) (flags : List ℕ) → ((k : ℕ) → met k ≡ next k) → Met c s id base met flags
     → Met c s id base next flags

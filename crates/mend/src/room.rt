@@ -31,12 +31,9 @@ fn raise(flags: &mut [u8], row: usize, place: usize) -> bool
     ensures { (result ≡ not (flag flags.old row place)) × (flags.new ≡ raised flags.old row place) }
 {
     let bit = BITS[place];
-    let byte = flags[row];
-    if byte / bit % 2 == 1 {
-        return false;
-    }
-    flags[row] = byte + bit;
-    true
+    let new = flags[row] & bit == 0;
+    flags[row] |= bit;
+    new
 }
 
 // ---- chunks that are added
