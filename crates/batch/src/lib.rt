@@ -142,10 +142,8 @@ fn run_all(
         ≡ turns settings.size (batch_with events.now «data».now) n
         (lent store.old area.old answers.old) }
 {
-    let mut i = 0;
-    while i < n {
+    for i in 0..n {
         run_one(store, settings, i, events, data, area, answers);
-        i += 1;
     }
 }
 

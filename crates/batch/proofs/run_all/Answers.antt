@@ -1,5 +1,5 @@
 use mathlib.Core.Path.{◌≡◌, refl, subst, ◌∙◌}
-use Prim.Native.Nat.{ℕ, ◌-◌}
+use Prim.Native.Nat.{ℕ}
 use native.Mathlib.Omega.{arith}
 use Rattle.lists.proofs.Runs.{below_of}
 use Rattle.calls.proofs.Calls.{kept_of}
@@ -25,12 +25,6 @@ run_one-requires c =
     let v = c.loop-i.invariant in
     let p = c.requires in
     record { held = v.held; events_in = omega (arith, p.events_in); answers_in = omega (arith, p.answers_in, v.answers_length) }
-
-pub overflow_add-i : goal.overflow_add-i
-overflow_add-i c = omega arith
-
-pub loop-i-smaller : goal.loop-i-smaller
-loop-i-smaller c = omega arith
 
 pub loop-i-preserved : goal.loop-i-preserved
 loop-i-preserved c =
