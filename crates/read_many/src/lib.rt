@@ -79,13 +79,11 @@ fn set_answers(store: &[u8], settings: Settings, proxy: u64, blocks: &[u64], ans
     ensures { answers.new ≡ answers_to settings.size store.now proxy blocks.now answers.old }
 {
     let size = HEAD_BYTES + settings.size;
-    let mut i = 0;
     let mut at = 0;
-    while i < blocks.len() {
+    for block in blocks {
         let end = at + size;
-        set_answer(store, settings, proxy, blocks[i], &mut answers[at..end]);
+        set_answer(store, settings, proxy, *block, &mut answers[at..end]);
         at = end;
-        i += 1;
     }
 }
 
