@@ -1,35 +1,15 @@
 -- The head of an answer, its code and its key, and the bytes behind it, as they are written.
-use mathlib.Core.Path.{◌≡◌, refl, sym, ap, ◌∙◌}
-use mathlib.Core.List.{List, [], ◌∷◌, ◌++◌, reverse, reverse-cons, append_assoc, append-nil}
-use Prim.Native.Nat.{ℕ, zero, suc, ◌-◌, ◌/◌, ◌%◌, ◌≤◌, ◌<◌}
+use mathlib.Core.Path.{◌≡◌, refl, ap, ◌∙◌}
+use mathlib.Core.List.{List, [], ◌∷◌, ◌++◌, reverse, append-nil}
+use Prim.Native.Nat.{ℕ, ◌-◌, ◌≤◌}
 use native.Mathlib.Omega.{arith}
 use lib.ListN.{length, take, drop, set, length-drop, drop_of_length-le}
-use lib.Seq.{length-take-le, drop_at, set_split}
+use lib.Seq.{length-take-le, drop_at}
 use Rattle.lists.specs.Runs.{run}
 use Rattle.lists.proofs.Runs.{run_length}
 use Rattle.words.specs.Words.{bytes_of}
 use Rattle.rules.specs.Reads.{zeros}
 use Rattle.read_many.specs.Read.{head, answer_bytes}
-
--- ---- the key, its highest byte first, written from the last byte back
-pub key_none : (key : ℕ) (bytes : List ℕ) → length bytes ≡ 8 → reverse (bytes_of 8 key) ≡ reverse (bytes_of 8 key) ++ drop 8 bytes
-key_none key bytes h = rw (drop_of_length-le bytes {i = 8} (omega arith)) (sym (append-nil (reverse (bytes_of 8 key))))
-
-pub key_more : (rest at : ℕ) (bytes : List ℕ) → 0 < at → at ≤ length bytes
-    → reverse (bytes_of at rest) ++ drop at bytes ≡ reverse (bytes_of (at - 1) (rest / 256)) ++ drop (at - 1) (set bytes (at - 1) (rest % 256))
-unfolding bytes_of
-key_more rest zero bytes h k = absurd (omega arith)
-key_more rest (suc n) bytes h k =
-    let last : suc n - 1 ≡ n = omega arith in
-    let e : drop n (set bytes n (rest % 256)) ≡ rest % 256 ∷ drop (suc n) bytes =
-    ap (drop n) (set_split bytes n (rest % 256) (omega arith)) ∙ drop_at (take n bytes) _ n (length-take-le n bytes (omega arith)) in
-    rw (last, e, reverse-cons, append_assoc)
-
-pub key_all : (key rest at : ℕ) (bytes : List ℕ) → at ≤ 0 → reverse (bytes_of 8 key) ≡ reverse (bytes_of at rest) ++ drop at bytes
-    → bytes ≡ reverse (bytes_of 8 key)
-unfolding bytes_of
-key_all key rest zero bytes h e = sym e
-key_all key rest (suc n) bytes h e = absurd (omega arith)
 
 -- ---- the head
 pub head_length : (code key : ℕ) → length (head code key) ≡ 9

@@ -22,18 +22,13 @@ const HEAD_BYTES: usize = 1 + KEY_BYTES;
 
 // ---- one answer
 
-// The eight bytes of a key, the highest first: written from the last back.
+// The eight bytes of a key, the highest first.
+#[tactic(auto, unfolding(words::specs::Words::bytes_of))]
 fn set_key(bytes: &mut [u8], key: u64)
     requires { length bytes.old ≡ 8 }
     ensures { bytes.new ≡ reverse (bytes_of 8 key) }
 {
-    let mut rest = key;
-    let mut at = KEY_BYTES;
-    while 0 < at {
-        at -= 1;
-        bytes[at] = (rest % 256) as u8;
-        rest = rest / 256;
-    }
+    bytes.copy_from_slice(&key.to_be_bytes())
 }
 
 // The code and the key.
