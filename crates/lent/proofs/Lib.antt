@@ -12,4 +12,3 @@ pub mod Proxies
 pub mod PlaceSteps
 pub mod Logs
 pub mod PlaceLogs
-pub mod Ranges

@@ -4,3 +4,4 @@ pub mod Lists
 pub mod Runs
 pub mod Rows
 pub mod Ascending
+pub mod Ranges

@@ -5,7 +5,7 @@ use Rattle.std.proofs.lemmas.Iterator.Search.{any_from_yields_List}
 use Rattle.words.specs.Words.{words}
 use Rattle.words.proofs.Laws.{length_words}
 use Rattle.rules.specs.Entries.{Entry, entry, has}
-use Rattle.tables.proofs.Ranges.{any_places}
+use Rattle.lists.proofs.Ranges.{any_places}
 use Rattle.entries.specs.Entries.{entry_at}
 use Rattle.entries.proofs.Words.{entries, entries_length}
 use Rattle.entries.proofs.waits.Goals as goal

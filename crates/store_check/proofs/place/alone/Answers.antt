@@ -3,7 +3,7 @@ use borrow.Author.Tests.{tests}
 use Rattle.std.proofs.lemmas.Iterator.{YieldsList-from_range}
 use Rattle.std.proofs.lemmas.Iterator.Search.{all_from_yields_List}
 use Rattle.words.specs.Words.{words}
-use Rattle.tables.proofs.Ranges.{all_range}
+use Rattle.lists.proofs.Ranges.{all_range}
 use Rattle.store_check.specs.Places.{alone_at}
 use Rattle.store_check.proofs.place.alone.Goals as goal
 
