@@ -39,9 +39,7 @@ fn answer_get(
     let blank = zero_block();
     match reads::get(store, &blank[..settings.size], settings, proxy, block) {
         Ok(found) => answers::write_answer(number, 0, found.key, found.bytes, area),
-        Err(refusal) => {
-            answers::write_answer(number, u64::from(refusal), 0, &blank[0..0], area)
-        }
+        Err(refusal) => { answers::write_answer(number, u64::from(refusal), 0, &blank[0..0], area) }
     }
 }
 
@@ -74,9 +72,7 @@ fn answer_event(
     );
     match answer {
         Ok(key) => answers::write_answer(number, 0, key, &data[0..0], area),
-        Err(refusal) => {
-            answers::write_answer(number, u64::from(refusal), 0, &data[0..0], area)
-        }
+        Err(refusal) => { answers::write_answer(number, u64::from(refusal), 0, &data[0..0], area) }
     }
 }
 

@@ -35,9 +35,10 @@ returns-then-store-store_bytes c =
 pub first_state-requires : goal.first_state-requires
 first_state-requires c =
     let a = c.args in
-    let made = c.in_ok-made.ensures in
-    (rw (good_is a.places a.size a.entries a.chunks _ made) (limits _ (good_limits a.places a.size a.entries a.chunks _ made)),
-    c.if-store-store_bytes.false ∙ c.store_bytes.ensures)
+    let made = c.in_ok-made.ensures in (
+      rw (good_is a.places a.size a.entries a.chunks _ made) (limits _ (good_limits a.places a.size a.entries a.chunks _ made)),
+      c.if-store-store_bytes.false ∙ c.store_bytes.ensures,
+    )
 
 pub returns : goal.returns
 returns c =
