@@ -102,7 +102,7 @@ module _ (c : Settings) (bs : List ℕ) (v : StoreOf c bs) (proxy block : ℕ) w
       where
         go : (o : Stepped) → 0 ≡ o.code → key ≡ o.said.key → part ≡ cond (eqb o.code 0) o.said.bytes got
             → head 0 key ++ part ≡ head o.code o.said.key ++ filled call o
-        go o n k e = rw (n, k, e) refl
+        go o n k e = rw (e, sym n, sym k) refl
 
     pub answer_no : (r : Refusal) → Fills (decode (words bs)) (Event.get proxy block) got (Err r) part
         → (number r < 256) × (head (number r) 0 ++ zeros c.size ≡ get_answer c.size bs proxy block)

@@ -1,5 +1,5 @@
 -- What the calls answer, from the answer of the settings' constructor.
-use mathlib.Core.Path.{◌≡◌, sym, ap, ◌∙◌}
+use mathlib.Core.Path.{◌≡◌, refl, sym, ap, ◌∙◌}
 use mathlib.Core.List.{List}
 use mathlib.Core.Bool.{true, false}
 use Prim.Native.Nat.{ℕ}
@@ -13,13 +13,14 @@ use Rattle.words.specs.Words.{words, unwords}
 use Rattle.words.proofs.Laws.{unwords_words}
 use Rattle.rules.specs.declared.settings.Settings.{Settings}
 use Rattle.std.specs.Prelude.{Ok, Err}
+use Rattle.std.specs.Result.{result_unwrap_or}
 use Rattle.rules.specs.declared.refusal.Refusal.{Refusal}
 use Rattle.rules.specs.declared.refusal.Refusal.TheVariants.{BadSettings}
 use Rattle.rules.specs.Limits.{in_limits, checked}
 use Rattle.rules.specs.Format.{format}
 use Rattle.layout.specs.Layout.{store_words}
 use Rattle.layout.specs.Store.{render, render_bytes, store_bytes}
-use Rattle.store.specs.Calls.{settings, length_of, may_format, Formatted}
+use Rattle.store.specs.Calls.{settings, length_of, length_answer, may_format, Formatted}
 
 -- ---- settings that were made are those asked for, and in their limits
 pub good_limits : (n s m l : ℕ) (c : Settings) → Ok c ≡ checked n s m l → in_limits (settings n s m l) ≡ true
@@ -50,6 +51,11 @@ length_good c y = rw y
 pub length_bad : (c : Settings) → in_limits c ≡ false → Err BadSettings ≡ length_of c
 unfolding length_of
 length_bad c q = rw q
+
+-- as a number
+pub length_number : (c : Settings) → result_unwrap_or (length_of c) 0 ≡ length_answer c
+unfolding length_of length_answer
+length_number c = by (in_limits c) (λ y. rw y refl) (λ q. rw q refl)
 
 -- ---- format
 pub refused : (c : Settings) (bs : List ℕ) → may_format c bs ≡ false → Formatted c bs 1 bs

@@ -23,7 +23,7 @@ set_head-requires-in-Err c =
     let f : Fills (decode (words s.store.now)) (Event.get s.proxy s.block) _ (Err c.in-Err.refusal) _ =
     rw c.in-Err.is at c.fill_block-answered.ensures in
     answer_no s.settings s.store.now c.requires.0 s.proxy s.block _ _ _ f in
-    (search rules, (refused).0)
+    (search rules, rw c.from.ensures (refused).0)
 
 pub returns-in-Ok : goal.returns-in-Ok
 returns-in-Ok c =
@@ -43,5 +43,5 @@ returns-in-Err c =
     answer_no s'.settings s'.store.now c.requires.0 s'.proxy s'.block _ _ _ f in
     let s = c.args in
     let filled : List ℕ = with_rest s.answer.now c.fill_block-answered.new.area in
-    c.set_head-in-Err.ensures ∙ ap (λ (l : List ℕ). head (number c.in-Err.refusal) 0 ++ l)
+    (rw c.from.ensures at c.set_head-in-Err.ensures) ∙ ap (λ (l : List ℕ). head (number c.in-Err.refusal) 0 ++ l)
     (rest_cleared s.settings.size filled _ (c.answer-1.given.1 ∙ c.requires.1) c.clear.ensures) ∙ (refused).1
