@@ -3,7 +3,6 @@ use mathlib.Core.List.{List}
 use Prim.Native.Nat.{ℕ, ◌≤◌}
 use native.Mathlib.Omega.{arith}
 use lib.ListN.{length, take, length-take}
-use borrow.Author.Rules.{rules}
 use Rattle.trace.specs.Goes.{piece}
 use Rattle.trace.proofs.Goes.{read_more, read_some_more, on_any}
 use Rattle.trace.proofs.read_some.Goals as goal
@@ -19,4 +18,4 @@ pub returns-clause-ok : goal.returns-clause-ok
 returns-clause-ok g c =
     let t = c.in_ok-now.ensures.ok in
     let short = within c.in_ok-n.n c.read.new.buf (c.read.auto.buf ∙ c.requires.3) in
-    (t.ready, read_more _ c.requires.1 t, search rules, omega (arith, t.number, c.requires.5, c.requires.4, short))
+    (t.ready, read_more _ c.requires.1 t, omega (arith, t.number, short))
