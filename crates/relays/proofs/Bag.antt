@@ -18,11 +18,12 @@ use Rattle.layout.specs.Layout.{bag_codec, bag_words}
 use Rattle.layout.specs.Store.{decode, render}
 use Rattle.layout.proofs.Foci.{bag_in}
 use Rattle.entries.proofs.Tables.{count_is, is_table}
+use Rattle.bag.specs.declared.Relay.{Relay as Read}
 use Rattle.bag.specs.Relays as bag
 use Rattle.lent.specs.Stores.{StoreOf}
 use Rattle.lent.proofs.Stores.{facts}
 use Rattle.lent.proofs.Effects.{later_value, later_effect}
-use Rattle.relays.specs.Relays.{BagSpan, BagPart}
+use Rattle.relays.specs.Relays.{BagSpan, BagPart, relay_of}
 
 module _ (c : Settings) (bs : List ℕ) (v : StoreOf c bs) (o e : ℕ) (p : BagSpan c o e) where
   abbrev state : State
@@ -72,16 +73,10 @@ module _ (c : Settings) (bs : List ℕ) (v : StoreOf c bs) (i : ℕ) (h : i < le
   own_bucket : bucket_no (decode (words bs)) found.block ≡ found.bucket
   own_bucket = ((facts c bs v).relays found (get_or_in (decode (words bs)).bag i blank_relay h)).bucket
 
-  pub relay_read : (view order block key : ℕ) → view ≡ (bag.relay_in_words w i).view → order ≡ (bag.relay_in_words w i).order → block ≡ (bag.relay_in_words w i).block
-      → key ≡ (bag.relay_in_words w i).key
-      → record { view = view; bucket = bucket_no (decode (words bs)) block; order = order; block = block; key = key } ≡ found
-  relay_read view order block key ev eo eb ek =
-      let q : bag.relay_in_words w i ≡ found = ap (λ (l : List Relay). get_or l i blank_relay) same in
-      let fv : view ≡ found.view = ev ∙ ap (λ (r : Relay). r.view) q in
-      let fo : order ≡ found.order = eo ∙ ap (λ (r : Relay). r.order) q in
-      let fb : block ≡ found.block = eb ∙ ap (λ (r : Relay). r.block) q in
-      let fk : key ≡ found.key = ek ∙ ap (λ (r : Relay). r.key) q in
-      let fg : bucket_no (decode (words bs)) block ≡ found.bucket = ap (bucket_no (decode (words bs))) fb ∙ own_bucket in
-      let f : ◌≡◌ {A = Relay} (record { view = view; bucket = bucket_no (decode (words bs)) block; order = order; block = block; key = key })
-      (record { view = found.view; bucket = found.bucket; order = found.order; block = found.block; key = found.key }) = cc in
-      f
+  abbrev of_block : Relay → Relay
+  of_block r = record { view = r.view; bucket = bucket_no (decode (words bs)) r.block; order = r.order; block = r.block; key = r.key }
+
+  pub relay_read : (r : Read) → bag.relay_of r ≡ bag.relay_in_words w i → relay_of (decode (words bs)) r ≡ found
+  relay_read r e =
+      ap of_block (e ∙ ap (λ (l : List Relay). get_or l i blank_relay) same)
+      ∙ ap (λ (g : ℕ). record { view = found.view; bucket = g; order = found.order; block = found.block; key = found.key }) own_bucket

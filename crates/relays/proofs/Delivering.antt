@@ -38,7 +38,7 @@ use Rattle.lent.proofs.Performs.{refused, accepted}
 use Rattle.mappings.specs.Copies.{with_entry}
 use Rattle.mappings.proofs.Buckets.{InBucket, takes_is, member_stands}
 use Rattle.mappings.proofs.Entering.{both_copies}
-use Rattle.relays.specs.declared.relay.Relay.{Relay as Read}
+use Rattle.bag.specs.declared.Relay.{Relay as Read}
 use Rattle.relays.specs.Relays.{BagSpan, BagPart, relay_of, takes_relay, FoundAt, Takeable}
 use Rattle.relays.specs.Asks.{take_asks}
 use Rattle.relays.proofs.Bag.{bag_later, bag_changed}

@@ -12,7 +12,7 @@ use Rattle.tables.specs.Tables.{IsTable}
 use Rattle.layout.specs.Layout.{bag_codec, bag_at, places_at}
 use Rattle.layout.specs.Store.{store_bytes}
 use Rattle.bag.specs.Relays.{relay_words}
-use Rattle.relays.specs.declared.relay.Relay.{Relay as Read}
+use Rattle.bag.specs.declared.Relay.{Relay as Read}
 use Rattle.relays.specs.Asks.{take_asks}
 
 -- ---- the bag
@@ -29,7 +29,7 @@ pub record BagPart (relays : List Relay) (part : List ℕ) : Type 0 where
   pub count : get_or (words part) 0 0 ≡ length relays
 
 -- ---- a relay
--- what the code has read: a relay's bucket is its block's
+-- one that the code has read, with its block's bucket
 abbrev pub relay_of : State → Read → Relay
 relay_of s r = record { view = r.view.0; bucket = bucket_no s r.block.0; order = r.order; block = r.block.0; key = r.key.0 }
 

@@ -12,7 +12,7 @@ ghost use Rattle.relays.specs.Relays.{relay_of, takes_relay, Takeable};
 ghost use Rattle.relays.specs.Asks.{take_asks};
 
 use crate::relay;
-use crate::relay::Relay;
+use bag::Relay;
 use layout::sizes;
 use lent::{Answer, brick, bucket};
 use mappings::{block, copy};

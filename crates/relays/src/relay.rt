@@ -7,9 +7,9 @@ ghost use Rattle.layout.specs.Store.{decode, render};
 ghost use Rattle.lent.specs.Stores.{StoreOf};
 ghost use Rattle.relays.specs.Relays.{BagSpan, BagPart, relay_of};
 
+use bag::Relay;
 use layout::sizes;
 use lent::place::Span;
-use rules::numbers::{BlockNumber, ChunkKey, ViewNumber};
 use rules::settings::Settings;
 
 // From which byte of the store to which the bag lies.
@@ -32,27 +32,12 @@ pub fn bag_part<'a>(store: &'a [u8], settings: Settings) -> &'a [u8]
     &store[from..to]
 }
 
-// A relay; its bucket is its block's.
-#[derive(Clone, Copy)]
-pub struct Relay {
-    pub view: ViewNumber,
-    pub order: u64,
-    pub block: BlockNumber,
-    pub key: ChunkKey,
-}
-
 // The relay at an index.
 pub fn read(store: &[u8], settings: Settings, index: usize) -> Relay
     requires { StoreOf settings store.now × (index < length (decode (words store.now)).bag) }
     ensures { relay_of (decode (words store.now)) result ≡ relay_at (decode (words store.now)) index }
 {
-    let relays = bag_part(store, settings);
-    Relay {
-        view: bag::view_at(relays, index),
-        order: bag::order_at(relays, index),
-        block: bag::block_at(relays, index),
-        key: bag::key_at(relays, index),
-    }
+    bag::relay_at(bag_part(store, settings), index)
 }
 
 // It leaves the bag.

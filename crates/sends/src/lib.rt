@@ -15,6 +15,7 @@ ghost use Rattle.lent.specs.Performs.{Performs};
 ghost use Rattle.lent.specs.Stores.{StoreOf};
 ghost use Rattle.sends.specs.Asks.{primary_asks};
 
+use bag::Relay;
 use layout::sizes;
 use lent::place::Span;
 use lent::{Answer, bucket};
@@ -75,7 +76,14 @@ fn relay(store: &mut [u8], settings: Settings, block: BlockNumber)
     let view = ViewNumber(lent::store::view(store, settings));
     let key = block::mapped(store, settings, block, 0);
     let Span { from, to } = relay::bag_span(settings);
-    bag::append(&mut store[from..to], view, bucket as u64, order, block, key);
+    let relay = Relay {
+        view,
+        bucket: bucket as u64,
+        order,
+        block,
+        key,
+    };
+    bag::append(&mut store[from..to], relay);
     words::write(
         store,
         sizes::agreed_at(settings, bucket) + sizes::LAST_SENT_AT,

@@ -4,6 +4,6 @@ use Rattle.relays.proofs.relay.read.Goals as goal
 
 pub returns : goal.returns
 returns c =
-    let part = c.bag_part-relays in
-    relay_read c.args.settings c.args.store.now c.requires.0 c.args.index c.requires.1 (words part.result.now) part.ensures.same _ _ _ _
-    c.view_at.ensures c.order_at.ensures c.block_at.ensures c.key_at.ensures
+    let part = c.bag_part in
+    relay_read c.args.settings c.args.store.now c.requires.0 c.args.index c.requires.1 (words part.result.now) part.ensures.same
+    c.relay_at.result c.relay_at.ensures
