@@ -22,7 +22,7 @@ use Rattle.layout.specs.Contents.{relay_row}
 use Rattle.layout.specs.Layout.{bag_codec, bag_words}
 use Rattle.layout.proofs.Codecs.{relay_exact}
 use Rattle.bag.specs.Relays.{relay_words}
-use Rattle.relay_list.specs.declared.Relay.{Relay}
+use Rattle.bag.specs.declared.Relay.{Relay}
 use Rattle.relay_list.specs.Relays.{relay_of, relays_of, bag_of, over, is_within, without, Loads, Stores}
 use Rattle.relay_list.specs.Bridges.{AsOnWords}
 use Rattle.relay_list.proofs.Records.{bag_over}

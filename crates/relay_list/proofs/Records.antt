@@ -9,7 +9,7 @@ use lib.ListN.{length, get_or, set, take, drop}
 use Rattle.lists.proofs.Tests.{and_l, and_r}
 use Rattle.rules.specs.State.{Relay as Held, blank_relay}
 use Rattle.rules.specs.Question.{first_no}
-use Rattle.relay_list.specs.declared.Relay.{Relay}
+use Rattle.bag.specs.declared.Relay.{Relay}
 use Rattle.relay_list.specs.Relays.{relay_of, relays_of, bag_of, over, has_room, is_within, record_at, Sends, Drops, Delivers, Loses, Within}
 use Rattle.relay_list.proofs.Elements.{blank}
 

@@ -7,7 +7,7 @@ use Rattle.std.proofs.Math.Numerals.{add-one}
 use lib.ListN.{length, get_or, set}
 use Rattle.rules.specs.State.{Relay as Held}
 use Rattle.rules.specs.Maps.{remove_at}
-use Rattle.relay_list.specs.declared.Relay.{Relay}
+use Rattle.bag.specs.declared.Relay.{Relay}
 use Rattle.relay_list.specs.Relays.{relay_of, relays_of, bag_of, over, Loses}
 use Rattle.relay_list.proofs.Elements.{blank}
 

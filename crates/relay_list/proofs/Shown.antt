@@ -15,7 +15,7 @@ use Rattle.rules.proofs.Refusals.{never_zero}
 use Rattle.rules.specs.State.{Relay as Held}
 use Rattle.words.specs.Words.{words}
 use Rattle.layout.specs.Store.{sound_bytes}
-use Rattle.relay_list.specs.declared.Relay.{Relay}
+use Rattle.bag.specs.declared.Relay.{Relay}
 use Rattle.relays.specs.Relays.{BagPart}
 use Rattle.relay_list.specs.Relays.{over, Loads}
 use Rattle.relay_list.specs.Shown.{stored_bag, show_asks, is_shown, Shows}

@@ -14,12 +14,8 @@ use Rattle.layout.specs.Contents.{relay_row}
 use Rattle.layout.proofs.Codecs.{relay_exact}
 use Rattle.tables.proofs.Typed.{map_set, typed_length, typed_back, typed_over}
 use Rattle.lists.specs.Rows.{table_enc}
-use Rattle.relay_list.specs.declared.Relay.{Relay}
+use Rattle.bag.specs.declared.Relay.{Relay}
 use Rattle.relay_list.specs.Relays.{relay_of, relays_of, over, Loads}
-
-pub made : (r : Relay) (h : Held) → r.view.0 ≡ h.view → r.bucket ≡ h.bucket → r.order ≡ h.order → r.block.0 ≡ h.block → r.key.0 ≡ h.key
-    → relay_of r ≡ h
-made r h view bucket order block key = λ i. record { view = view i; bucket = bucket i; order = order i; block = block i; key = key i }
 
 -- ---- records are filled one after the other with the relays that are held
 fills : (i : ℕ) (held : List Held) (list : List Relay) → i < length held → length held ≤ length list → set (over (take i held) list) i

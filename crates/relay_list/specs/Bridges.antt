@@ -6,7 +6,7 @@ use Rattle.rules.specs.Maps.{remove_at}
 use Rattle.codec.specs.Codec.{change}
 use Rattle.layout.specs.Layout.{bag_codec}
 use Rattle.bag.specs.Relays.{relay_in_words}
-use Rattle.relay_list.specs.declared.Relay.{Relay}
+use Rattle.bag.specs.declared.Relay.{Relay}
 use Rattle.relay_list.specs.Relays.{relay_of, bag_of, Sends, Drops, Delivers, Stores}
 
 -- `count` records of a list were loaded from these words. Each bridge is the identity on the bag; send is `bag::append`, drop and deliver are `bag::remove`,

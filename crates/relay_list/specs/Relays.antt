@@ -7,11 +7,8 @@ use Rattle.rules.specs.State.{Relay as Held, blank_relay}
 use Rattle.rules.specs.Maps.{remove_at}
 use Rattle.rules.specs.Question.{Question, ◌asks◌, first_no}
 use Rattle.layout.specs.Layout.{bag_codec}
-use Rattle.relay_list.specs.declared.Relay.{Relay}
-
--- a record as the rules have it
-abbrev pub relay_of : Relay → Held
-relay_of r = record { view = r.view.0; bucket = r.bucket; order = r.order; block = r.block.0; key = r.key.0 }
+use Rattle.bag.specs.declared.Relay.{Relay}
+pub use Rattle.bag.specs.Relays.{relay_of}
 
 -- all records, as the rules have them; lists of records that read as the same relays are the same (`same_records`)
 abbrev pub relays_of : List Relay → List Held

@@ -4,7 +4,7 @@ use Rattle.lists.specs.Tests.{◌and◌}
 use Rattle.rules.specs.State.{Relay as Held}
 use Rattle.rules.specs.Question.{Question, ◌asks◌, first_no}
 use Rattle.layout.specs.Store.{decode_bytes, sound_bytes}
-use Rattle.relay_list.specs.declared.Relay.{Relay}
+use Rattle.bag.specs.declared.Relay.{Relay}
 use Rattle.relay_list.specs.declared.BagAnswer.{BagAnswer}
 use Rattle.relay_list.specs.Relays.{relays_of, over}
 

@@ -14,21 +14,12 @@ ghost use Rattle.relay_list.specs.Relays.{Within, delivered_relay, Sends, Delive
 ghost use Rattle.relay_list.specs.Shown.{Shows};
 
 use rules::constants::MAX_RELAYS;
-use rules::numbers::{BlockNumber, ChunkKey, ViewNumber};
 use rules::refusal::Refusal;
 
 pub mod flat;
 pub mod stored;
 
-#[repr(C)]
-#[derive(Clone, Copy)]
-pub struct Relay {
-    pub view: ViewNumber,
-    pub bucket: u64,
-    pub order: u64,
-    pub block: BlockNumber,
-    pub key: ChunkKey,
-}
+pub use bag::Relay;
 
 // How many relays of a store's bag were handed out, or the number of the question that was answered no.
 // stays: C reads this struct, a code with a count beside it.
@@ -94,7 +85,7 @@ pub fn load(part: &[u8], list: &mut [Relay]) -> usize
 {
     let count = flat::count(part);
     for i in 0..count {
-        list[i] = flat::relay_at(part, i);
+        list[i] = bag::relay_at(part, i);
     }
     count
 }
@@ -106,7 +97,7 @@ pub fn store(list: &[Relay], count: usize, part: &mut [u8])
 {
     flat::clear(part);
     for relay in &list[..count] {
-        flat::append(part, *relay);
+        bag::append(part, *relay);
     }
 }
 
