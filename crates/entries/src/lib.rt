@@ -90,7 +90,7 @@ pub fn waits(t: &[u8], most: usize, b: BlockNumber) -> bool
     requires { IsTable entry_words most (words t.now) (length t.now) }
     ensures { result ≡ has ((entries_codec most).dec (words t.now)) b.0 }
 {
-    (0..words::read(t, 0) as usize).any(|i| block_at(t, most, i).0 == b.0)
+    (0..words::read(t, 0) as usize).any(|i| block_at(t, most, i) == b)
 }
 
 // May the table take the block?
