@@ -62,14 +62,10 @@ fn agree(
         × (agreed_of agreed ≡ agreed_in ((decode (words store.now)).bucket bucket)) }
     ensures { result ≡ agree ((decode (words store.now)).bucket bucket) block.0 }
 {
-    let key = copy::in_memory(store, settings, bucket, agreed.primary, block, guess).0;
-    if copy::on_disk(store, settings, bucket, agreed.primary, block, guess).0 != key {
-        return false;
-    }
-    if copy::in_memory(store, settings, bucket, agreed.backup, block, guess).0 != key {
-        return false;
-    }
-    copy::on_disk(store, settings, bucket, agreed.backup, block, guess).0 == key
+    let key = copy::in_memory(store, settings, bucket, agreed.primary, block, guess);
+    copy::on_disk(store, settings, bucket, agreed.primary, block, guess) == key
+        && copy::in_memory(store, settings, bucket, agreed.backup, block, guess) == key
+        && copy::on_disk(store, settings, bucket, agreed.backup, block, guess) == key
 }
 
 // Is the block pending: in a ready bucket, do the four not all give one key?
