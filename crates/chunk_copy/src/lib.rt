@@ -26,9 +26,8 @@ fn copied_to(store: &[u8], settings: Settings, key: ChunkKey) -> Option<usize>
     requires { StoreOf settings store.now }
     ensures { CopiedTo settings (decode (words store.now)) key.0 result }
 {
-    holders::target(store, settings, key).filter(|&target| !holders::holds_at(
-        store, settings, target, key,
-    ))
+    let target = holders::target(store, settings, key);
+    target.filter(|&place| !holders::holds_at(store, settings, place, key))
 }
 
 // Is there nothing to copy, or room for it?
@@ -36,8 +35,9 @@ fn has_room(store: &[u8], settings: Settings, key: ChunkKey) -> bool
     requires { StoreOf settings store.now }
     ensures { result ≡ has_room (decode (words store.now)) key.0 }
 {
-    copied_to(store, settings, key).is_none_or(|place| place::chunk_count(store, settings, place)
-        < settings.chunks as u64)
+    let most = settings.chunks as u64;
+    let place = copied_to(store, settings, key);
+    place.is_none_or(|place| place::chunk_count(store, settings, place) < most)
 }
 
 // Does the brick hold the chunk?
@@ -45,9 +45,8 @@ fn is_held(store: &[u8], settings: Settings, id: u64, key: ChunkKey) -> bool
     requires { StoreOf settings store.now }
     ensures { result ≡ held ((decode (words store.now)).bricks.log id) key.0 }
 {
-    brick::place_of(store, settings, id).is_some_and(|place| holders::holds_at(
-        store, settings, place, key,
-    ))
+    let place = brick::place_of(store, settings, id);
+    place.is_some_and(|place| holders::holds_at(store, settings, place, key))
 }
 
 fn asks(store: &[u8], settings: Settings, key: ChunkKey) -> Result<(), Refusal>

@@ -8,6 +8,6 @@ pub returns : goal.returns
 returns c =
     let a = c.args in
     let s = decode (words a.store.now) in
-    by_target a.settings s a.key.0 c.target.result _ _ c.target.ensures c.filter.ensures
+    by_target a.settings s a.key.0 c.target-target.result _ _ c.target-target.ensures c.filter.ensures
     (λ p h q. copy_found a.settings s a.key.0 p h q.0 c.filter.result (search (rules, tests)) (search rules))
     (λ z e. copy_none a.settings s a.key.0 c.filter.result z e)
