@@ -2,7 +2,7 @@
 
 #![tactic(auto)]
 
-// stays: (d) agreed, head and status each have their own read and write: no caller takes any record, so a trait would add members and share no line
+// stays: agreed, head and status each have their own read and write, since no caller takes just any record: a trait would add lines and share none
 
 pub mod agreed;
 pub mod head;

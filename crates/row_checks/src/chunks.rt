@@ -81,7 +81,7 @@ fn pass(bounds: &[u64], log: &[u8], chunks: usize, n: usize) -> bool
 {
     let mut top = u64::MAX;
     let mut i = n;
-    // stays: (d) each turn goes down past a stretch, as far as that reaches
+    // stays: each turn goes down past a stretch of rows, as far as that reaches, so a `for` doesn't count the turns
     while 0 < i {
         i -= 1;
         let at = words::read(log, 1 + 2 * chunks + i);

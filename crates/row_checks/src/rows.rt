@@ -111,7 +111,7 @@ fn rows_good(settings: Settings, bounds: &[u64], whose: Whose, table: &[u8], n: 
 {
     let mut ceiling = constants::BLOCKS;
     let mut i = n;
-    // stays: (d) each turn goes down past a stretch, as far as that reaches
+    // stays: each turn goes down past a stretch of rows, as far as that reaches, so a `for` doesn't count the turns
     while 0 < i {
         i -= 1;
         let block = words::read(table, 1 + 2 * i);
