@@ -41,6 +41,13 @@ pub record PlacePart (settings : Settings) (place : ℕ) (store part : List ℕ)
   pub size : length part ≡ 8 * place_words settings
   pub same : words part ≡ place_part settings place (words store)
 
+-- count words of it, from its word at on, lent to be read
+pub record WordsOf (settings : Settings) (place at count : ℕ) (store part : List ℕ) : Type 0 where
+  pub whole : List ℕ
+  pub of_place : PlacePart settings place store whole
+  pub size : length part ≡ 8 * count
+  pub same : words part ≡ run at count (words whole)
+
 -- from which byte to which they lie, in a store of these settings
 pub record SpanOf (settings : Settings) (place from to : ℕ) : Type 0 where
   pub start : from ≡ 8 * place_at settings place

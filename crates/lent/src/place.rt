@@ -6,12 +6,12 @@ ghost use Rattle.rules.specs.Derived.{up_member, is_up};
 ghost use Rattle.rules.specs.Refusals.{code_of};
 ghost use Rattle.rules.specs.Question.{first_no};
 ghost use Rattle.rules.specs.Limits.{Limits};
-ghost use Rattle.layout.specs.Layout.{copy_words, copies_words, copies_at, log_at};
+ghost use Rattle.layout.specs.Layout.{copy_words, copies_words, place_words, copies_at, log_at};
 ghost use Rattle.layout.specs.Store.{brick_in, decode};
 ghost use Rattle.records.specs.Records.{status_of};
 ghost use Rattle.lent.specs.Stores.{StoreOf};
 ghost use Rattle.lent.specs.Asks.{place_asks};
-ghost use Rattle.lent.specs.Places.{PlacePart, SpanOf};
+ghost use Rattle.lent.specs.Places.{PlacePart, WordsOf, SpanOf};
 ghost use Rattle.lent.specs.Parts.{CopyPart, BufferPart, LogPart};
 
 use layout::sizes;
@@ -120,28 +120,41 @@ pub fn disk_at(settings: Settings, bucket: usize) -> usize
     memory_at(settings, bucket) + sizes::copy_words(settings)
 }
 
+// So many words of a place, from its word `at` on.
+fn words_of<'a>(
+    store: &'a [u8],
+    settings: Settings,
+    place: usize,
+    at: usize,
+    count: usize,
+) -> &'a [u8]
+    requires { StoreOf settings store.now × (place < settings.places) × (at + count ≤ place_words settings) }
+    ensures { WordsOf settings place at count store.now result.now }
+{
+    let whole = part(store, settings, place);
+    let from = 8 * at;
+    let to = from + 8 * count;
+    &whole[from..to]
+}
+
 // Its append buffer.
 pub fn buffer<'a>(store: &'a [u8], settings: Settings, place: usize) -> &'a [u8]
     requires { StoreOf settings store.now × (place < settings.places) × (0 < (decode (words store.now)).ids place) }
     ensures { BufferPart ((decode (words store.now)).bricks.buffer ((decode (words store.now)).ids place)) result.now }
 {
-    let whole = part(store, settings, place);
-    let at = 8 * sizes::BUFFER_AT;
-    let end = at + 8 * sizes::BUFFER_WORDS;
-    &whole[at..end]
+    let at = sizes::BUFFER_AT;
+    words_of(store, settings, place, at, sizes::BUFFER_WORDS)
 }
 
 // Its copy of a bucket in memory, and the one on disk.
-// stays: two functions, for with a parameter that says which copy each caller would name it all the same, and the promise would choose between two fields.
+// stays: each is two lines; one function with a parameter for the copy would choose where it begins, and its promise would choose between two fields
 pub fn memory<'a>(store: &'a [u8], settings: Settings, place: usize, bucket: usize) -> &'a [u8]
     requires { StoreOf settings store.now × (place < settings.places) × (0 < (decode (words store.now)).ids place) × (bucket < buckets settings) }
     ensures { CopyPart settings.entries
         (((decode (words store.now)).bucket bucket).memory ((decode (words store.now)).ids place)) result.now }
 {
-    let whole = part(store, settings, place);
-    let at = 8 * memory_at(settings, bucket);
-    let end = at + 8 * sizes::copy_words(settings);
-    &whole[at..end]
+    let at = memory_at(settings, bucket);
+    words_of(store, settings, place, at, sizes::copy_words(settings))
 }
 
 pub fn disk<'a>(store: &'a [u8], settings: Settings, place: usize, bucket: usize) -> &'a [u8]
@@ -149,10 +162,8 @@ pub fn disk<'a>(store: &'a [u8], settings: Settings, place: usize, bucket: usize
     ensures { CopyPart settings.entries
         (((decode (words store.now)).bucket bucket).disk ((decode (words store.now)).ids place)) result.now }
 {
-    let whole = part(store, settings, place);
-    let at = 8 * disk_at(settings, bucket);
-    let end = at + 8 * sizes::copy_words(settings);
-    &whole[at..end]
+    let at = disk_at(settings, bucket);
+    words_of(store, settings, place, at, sizes::copy_words(settings))
 }
 
 // Its log.
@@ -160,10 +171,8 @@ pub fn log<'a>(store: &'a [u8], settings: Settings, place: usize) -> &'a [u8]
     requires { StoreOf settings store.now × (place < settings.places) × (0 < (decode (words store.now)).ids place) }
     ensures { LogPart settings ((decode (words store.now)).bricks.log ((decode (words store.now)).ids place)) result.now }
 {
-    let whole = part(store, settings, place);
-    let at = 8 * sizes::log_at(settings);
-    let end = at + 8 * sizes::log_words(settings);
-    &whole[at..end]
+    let at = sizes::log_at(settings);
+    words_of(store, settings, place, at, sizes::log_words(settings))
 }
 
 // How many chunks its log has.

@@ -1,17 +1,8 @@
-use Prim.Native.Nat.{◌+◌, ◌*◌}
-use native.Mathlib.Omega.{arith}
-use Rattle.layout.specs.Layout.{copy_words, copies_at}
-use Rattle.layout.proofs.Lent.{lent}
 use Rattle.lent.proofs.Parts.{disk_part}
-use borrow.Author.Rules.{rules}
 use Rattle.lent.proofs.place.disk.Goals as goal
 
 pub returns : goal.returns
 returns c =
-    let n = c.args.settings in
-    let g = c.args.bucket in
-    let whole = c.part-whole.result.now in
-    let at = c.disk_at-at.result in
-    let size = c.copy_words.result in
-    disk_part n c.args.store.now whole c.requires.0 c.args.place c.requires.1 c.part-whole.ensures c.requires.2 g c.requires.3 _
-    (search rules) (lent whole (8 * at) (8 * at + 8 * size) (copies_at n g + copy_words n) (copy_words n) (omega arith) (omega arith) (omega arith))
+    let a = c.args in
+    let e = rw (c.disk_at-at.ensures.0, c.copy_words.ensures) at c.words_of.ensures in
+    disk_part a.settings a.store.now e.whole c.requires.0 a.place c.requires.1 e.of_place c.requires.2 a.bucket c.requires.3 _ e.size e.same
