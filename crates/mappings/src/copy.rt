@@ -29,7 +29,7 @@ pub fn index_of(
 }
 
 // The key of a block in memory, and the one on disk: 0 where it has no mapping. It is looked for at the guess first.
-// stays: two functions, as lent::place has two: a parameter that says which copy would be named at each call all the same.
+// stays: each is one look-up; one function with a parameter for the copy would choose between place::memory and place::disk, and its promise between two fields
 pub fn in_memory(
     store: &[u8],
     settings: Settings,
