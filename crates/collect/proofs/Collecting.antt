@@ -2,6 +2,7 @@
 use mathlib.Core.Path.{◌≡◌, refl, sym, ap, subst, ◌∙◌}
 use mathlib.Core.Bool.{Bool, true}
 use mathlib.Core.List.{List, [], ◌∷◌}
+use Rattle.std.specs.Prelude.{Option, None}
 use Prim.Native.Nat.{ℕ, ◌+◌, ◌*◌, ◌/◌, ◌≤◌, ◌<◌}
 use native.Mathlib.Omega.{arith}
 use lib.ListN.{length, get_or}
@@ -27,7 +28,7 @@ use Rattle.layout.specs.Layout.{word_bytes, log_codec, log_words}
 use Rattle.layout.specs.Store.{decode, render}
 use Rattle.lent.specs.Stores.{StoreOf}
 use Rattle.lent.proofs.Stores.{settings_are, facts}
-use Rattle.named.specs.Tables.{EntriesAt, named, AllNamed, names_at}
+use Rattle.named.specs.Tables.{CopyAt, EntriesAt, named, AllNamed, names_at}
 use Rattle.named.proofs.Copies.{named_is, beside_log, inside_store, entry_names}
 use Rattle.lent.specs.Places.{log_from}
 use Rattle.lent.proofs.Logs.{log_inside, log_bytes, log_run, log_length, log_lies, log_changed}
@@ -57,26 +58,26 @@ module _ (c : Settings) (bs : List ℕ) (v : StoreOf c bs) where
         mapped_disk = λ i e m. let z = ((ok.disk i).each e m).key.home in omega arith;
       }
 
-  module _ (g from : ℕ) (p : g < buckets c) (a : EntriesAt c (words bs) g (named s g) from) where
-    nothing_pending_name : (k : ℕ) → nothing_pending (s.bucket g) ≡ true → names_at (words bs) from k ≡ pair_names (s.bucket g) k
-    nothing_pending_name k y =
-        entry_names c bs v g from p a k ∙ ap (λ (l : List Entry). names l k) (named_is s g (nothing_pending_agrees (s.bucket g) y).0)
+  module _ (g : ℕ) (p : g < buckets c) where
+    nothing_pending_name : (from : Option ℕ) → EntriesAt c (words bs) g (named s g) from → (k : ℕ) → nothing_pending (s.bucket g) ≡ true → names_at (words bs) from k ≡ pair_names (s.bucket g) k
+    nothing_pending_name from a k y =
+        entry_names c bs v g p from a k ∙ ap (λ (l : List Entry). names l k) (named_is s g (nothing_pending_agrees (s.bucket g) y).0)
         ∙ sym (nothing_pending_names (s.bucket g) (bucket_tables g p) y k)
 
-    pub table_in : (at q : ℕ) → q < c.places → at ≡ log_from c q → 0 < from → TableIn c at from (words bs) (length bs)
-    table_in at q l e z = record {
-      inside = omega (arith, inside_store c g from p (a.lies z), v.size);
-      few = (a.table z).few;
-      apart = rw e (beside_log c g q from p l (a.lies z));
+    pub table_in : (from : ℕ) → CopyAt c (words bs) g (named s g) from → (at q : ℕ) → q < c.places → at ≡ log_from c q → TableIn c at from (words bs) (length bs)
+    table_in from a at q l e = record {
+      inside = omega (arith, inside_store c g from p a.lies, v.size);
+      few = a.table.few;
+      apart = rw e (beside_log c g q from p l a.lies);
     }
 
 -- ---- what is known where the log begins at word `at`, and the named entries at those of the array
-pub record Lies (c : Settings) (bs : List ℕ) (p : ℕ) (tables : List ℕ) (at : ℕ) : Type 0 where
+pub record Lies (c : Settings) (bs : List ℕ) (p : ℕ) (tables : List (Option ℕ)) (at : ℕ) : Type 0 where
   pub there : Collects c bs p
   pub known : AllNamed c bs tables
   pub begins : at ≡ log_from c p
 
-module _ (c : Settings) (bs : List ℕ) (p : ℕ) (tables : List ℕ) (at : ℕ) (o : Lies c bs p tables at) where
+module _ (c : Settings) (bs : List ℕ) (p : ℕ) (tables : List (Option ℕ)) (at : ℕ) (o : Lies c bs p tables at) where
   h : Collects c bs p
   h = o.there
 
@@ -87,12 +88,12 @@ module _ (c : Settings) (bs : List ℕ) (p : ℕ) (tables : List ℕ) (at : ℕ)
   unfolding named_first is_named
   all_names k =
       rw (settings_are c bs h.store)
-      (some_same (buckets c) _ _ (λ g q. nothing_pending_name c bs h.store g (get_or tables g 0) q (o.known.lie g q) k (each_nothing_pending g q)))
+      (some_same (buckets c) _ _ (λ g q. nothing_pending_name c bs h.store g q (get_or tables g None) (o.known.lie g q) k (each_nothing_pending g q)))
 
   pub tables_in : TablesIn c at tables (words bs) (length bs)
   tables_in = record {
     many = o.known.many;
-    each = λ g q z. table_in c bs h.store g (get_or tables g 0) q (o.known.lie g q) at p h.inside o.begins z;
+    each = λ g q from e. table_in c bs h.store g q from (subst (EntriesAt c (words bs) g (named (decode (words bs)) g)) e (o.known.lie g q)) at p h.inside o.begins;
   }
 
   abbrev log : List ℕ

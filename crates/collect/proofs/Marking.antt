@@ -3,6 +3,7 @@ use mathlib.Core.Path.{◌≡◌, refl, sym, ap, ◌∙◌}
 use mathlib.Core.Logic.{◌⊎◌, inl, inr}
 use mathlib.Core.Bool.{Bool, true, false}
 use mathlib.Core.List.{List, ◌++◌}
+use Rattle.std.specs.Prelude.{Option, Some, None}
 use Prim.Native.Nat.{ℕ, zero, suc, ◌+◌, ◌*◌, ◌-◌, ◌/◌, ◌≤◌, ◌<◌}
 use native.Mathlib.Numerals.{add-one}
 use native.Mathlib.Nat.{add-zero}
@@ -10,10 +11,10 @@ use native.Mathlib.Omega.{arith}
 use lib.Dec.{eqb}
 use lib.ListN.{length, take, drop, get_or, length-drop}
 use lib.Seq.{length-take-le}
-use borrow.Author.Tests.{eq-eqb, ne_eqb, eqb-true}
+use borrow.Author.Tests.{eq-eqb, eqb-true}
 use Rattle.lists.specs.Tests.{◌or◌, any_below}
 use Rattle.lists.specs.Runs.{run}
-use Rattle.lists.proofs.Tests.{by_eq, same_test}
+use Rattle.lists.proofs.Tests.{same_test}
 use Rattle.lists.proofs.Runs.{run_length, on_by, on_id, on_same, on_at_before, on_twice}
 use Rattle.words.specs.Words.{words}
 use Rattle.words.proofs.Laws.{lent_run}
@@ -121,11 +122,11 @@ some_same zero f g e = refl
 some_same (suc n) f g e = rw (some_same n f g (λ k p. e k (omega arith)), e n (omega arith))
 
 module _ (c : Settings) (at : ℕ) (ws : List ℕ) (len : ℕ) (h : at + log_words c ≤ length ws) (o : LogIn c at ws len) where
-  pub named_none : (from : ℕ) → from ≡ 0 → ws ≡ marks c at (names_at ws from) ws
-  named_none from e = marks_none c at ws len h o (names_at ws from) (λ k. unfold names_at in rw (eq-eqb from 0 e))
+  pub named_none : ws ≡ marks c at (names_at ws None) ws
+  named_none = marks_none c at ws len h o (names_at ws None) (λ k. unfold names_at in refl)
 
-  pub named_table : (from : ℕ) → (from ≡ 0 → ⊥) → marks c at (names_in ws from) ws ≡ marks c at (names_at ws from) ws
-  named_table from n = marks_same c at ws len h o (names_in ws from) (names_at ws from) (λ k. unfold names_at in rw (ne_eqb from 0 n))
+  pub named_table : (from : ℕ) → marks c at (names_in ws from) ws ≡ marks c at (names_at ws (Some from)) ws
+  named_table from = marks_same c at ws len h o (names_in ws from) (names_at ws (Some from)) (λ k. unfold names_at in refl)
 
   module _ (f : ℕ → Bool) (from : ℕ) (t : TableIn c at from ws len) where
     away : (j : ℕ) → j < copy_words c → get_or (marks c at f ws) (from + j) 0 ≡ get_or ws (from + j) 0
@@ -143,28 +144,29 @@ module _ (c : Settings) (at : ℕ) (ws : List ℕ) (len : ℕ) (h : at + log_wor
         unfold names_first in rw same_count
         (some_same (get_or ws from 0) _ _ (λ i p. ap (eqb k) (away (2 + i * 2) (omega (arith, t.few)))))
 
-  module _ (tables : List ℕ) (t : TablesIn c at tables ws len) where
+  module _ (tables : List (Option ℕ)) (t : TablesIn c at tables ws len) where
     pub tables_start : ws ≡ marks c at (named_first ws tables 0) ws
     tables_start = marks_none c at ws len h o (named_first ws tables 0) (λ k. unfold named_first any_below in refl)
 
-    pub table_still : (n g : ℕ) → g < buckets c → 0 < get_or tables g 0 → TableIn c at (get_or tables g 0) (marks c at (named_first ws tables n) ws) len
-    table_still n g p z = table_marks (named_first ws tables n) (get_or tables g 0) (t.each g p z)
+    pub table_still : (n g : ℕ) → g < buckets c → (from : ℕ) → get_or tables g None ≡ Some from
+        → TableIn c at from (marks c at (named_first ws tables n) ws) len
+    table_still n g p from e = table_marks (named_first ws tables n) from (t.each g p from e)
 
-    names_still : (n g k : ℕ) → g < buckets c → names_at (marks c at (named_first ws tables n) ws) (get_or tables g 0) k ≡ names_at ws (get_or tables g 0) k
+    names_still : (n g k : ℕ) → g < buckets c → (from : Option ℕ) → get_or tables g None ≡ from
+        → names_at (marks c at (named_first ws tables n) ws) from k ≡ names_at ws from k
     unfolding names_at
-    names_still n g k p =
-        by_eq (get_or tables g 0) 0 (λ q _. rw q)
-        (λ q z. rw q (names_marks (named_first ws tables n) (get_or tables g 0) (t.each g p (omega arith)) k))
+    names_still n g k p (Some from) e = names_marks (named_first ws tables n) from (t.each g p from e) k
+    names_still n g k p None e = refl
 
     pub tables_turn : (n : ℕ) (vs us : List ℕ) → n < buckets c → vs ≡ marks c at (named_first ws tables n) ws
-        → us ≡ marks c at (names_at vs (get_or tables n 0)) vs → us ≡ marks c at (named_first ws tables (n + 1)) ws
+        → us ≡ marks c at (names_at vs (get_or tables n None)) vs → us ≡ marks c at (named_first ws tables (n + 1)) ws
     tables_turn n vs us p e u =
-        u ∙ ap (λ (v : List ℕ). marks c at (names_at v (get_or tables n 0)) v) e
-        ∙ marks_twice c at ws len h o (names_at (marks c at (named_first ws tables n) ws) (get_or tables n 0)) (named_first ws tables n)
+        u ∙ ap (λ (v : List ℕ). marks c at (names_at v (get_or tables n None)) v) e
+        ∙ marks_twice c at ws len h o (names_at (marks c at (named_first ws tables n) ws) (get_or tables n None)) (named_first ws tables n)
         ∙ marks_same c at ws len h o _ (named_first ws tables (n + 1)) (λ k. turn k)
       where
-        turn : (k : ℕ) → (named_first ws tables n k or names_at (marks c at (named_first ws tables n) ws) (get_or tables n 0) k) ≡ named_first ws tables (n + 1) k
-        turn k = rw (add-one n, names_still n n k p) (unfold named_first any_below in refl)
+        turn : (k : ℕ) → (named_first ws tables n k or names_at (marks c at (named_first ws tables n) ws) (get_or tables n None) k) ≡ named_first ws tables (n + 1) k
+        turn k = rw (add-one n, names_still n n k p (get_or tables n None) refl) (unfold named_first any_below in refl)
 
 -- ---- the log lent
 module _ (c : Settings) (at : ℕ) (s : List ℕ) (i : LogIn c at (words s) (length s)) (o e : ℕ) (eo : o ≡ 8 * at) (ee : e ≡ o + 8 * log_words c) where

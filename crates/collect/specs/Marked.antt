@@ -1,5 +1,5 @@
 -- Marks in a log that lies in a store, and the rows of a table whose keys get them.
-use Rattle.std.specs.Prelude.{◌≡◌, ◌⊎◌, Bool, List, ℕ, ◌+◌, ◌*◌, ◌/◌, ◌≤◌, ◌<◌, length, get_or}
+use Rattle.std.specs.Prelude.{◌≡◌, ◌⊎◌, Bool, List, ℕ, ◌+◌, ◌*◌, ◌/◌, ◌≤◌, ◌<◌, length, get_or, Option, Some, None}
 use Rattle.lists.specs.Tests.{any_below}
 use Rattle.lists.specs.Runs.{run, on_run}
 use Rattle.rules.specs.declared.settings.Settings.{Settings}
@@ -26,13 +26,13 @@ pub record TableIn (c : Settings) (at from : ℕ) (ws : List ℕ) (len : ℕ) : 
   pub few : get_or ws from 0 ≤ c.entries
   pub apart : (from + copy_words c ≤ at) ⊎ (at + log_words c ≤ from)
 
--- ---- the tables of all buckets, where 0 stands for none
-unfoldable pub named_first : List ℕ → List ℕ → ℕ → ℕ → Bool
-named_first ws tables n key = any_below n (λ g. names_at ws (get_or tables g 0) key)
+-- ---- the tables of all buckets
+unfoldable pub named_first : List ℕ → List (Option ℕ) → ℕ → ℕ → Bool
+named_first ws tables n key = any_below n (λ g. names_at ws (get_or tables g None) key)
 
-pub record TablesIn (c : Settings) (at : ℕ) (tables ws : List ℕ) (len : ℕ) : Type 0 where
+pub record TablesIn (c : Settings) (at : ℕ) (tables : List (Option ℕ)) (ws : List ℕ) (len : ℕ) : Type 0 where
   pub many : length tables ≡ buckets c
-  pub each : (g : ℕ) → g < buckets c → 0 < get_or tables g 0 → TableIn c at (get_or tables g 0) ws len
+  pub each : (g : ℕ) → g < buckets c → (from : ℕ) → get_or tables g None ≡ Some from → TableIn c at from ws len
 
 -- the chunks without a mark gone, and all marks off
 unfoldable pub sweeps : Settings → ℕ → List ℕ → List ℕ

@@ -89,7 +89,7 @@ fn asks(store: &[u8], settings: Settings, place: u64) -> Result<(), Refusal>
 // ---- the effect
 
 // All buckets are ready with nothing pending, so the four copies of each pair name what the primary's memory names. There is room for where they lie.
-fn collect_in(store: &mut [u8], settings: Settings, place: usize, tables: &mut [usize])
+fn collect_in(store: &mut [u8], settings: Settings, place: usize, tables: &mut [Option<usize>])
     requires { Collects settings store.old place × (length tables.old ≡ buckets settings) }
     ensures { words store.new
         ≡ render (collect_effect (decode (words store.old)) ((decode (words store.old)).ids place)) (words store.old) }
@@ -106,7 +106,7 @@ fn collect_log(store: &mut [u8], settings: Settings, place: usize)
         ≡ render (collect_effect (decode (words store.old)) ((decode (words store.old)).ids place)) (words store.old) }
 {
     let count = settings.buckets();
-    let mut tables = [0usize; constants::MAX_BUCKETS];
+    let mut tables = [None; constants::MAX_BUCKETS];
     collect_in(store, settings, place, &mut tables[0..count]);
 }
 

@@ -1,5 +1,5 @@
 // Marks in a log that lies in a store, on the chunks that tables of entries name; and a sweep of the chunks without one.
-ghost use Rattle.std.specs.Prelude.{◌≡◌, ◌<◌, eqb, length};
+ghost use Rattle.std.specs.Prelude.{◌≡◌, ℕ, eqb, length, Some};
 ghost use Rattle.words.specs.Words.{words};
 ghost use Rattle.rules.specs.Limits.{buckets};
 ghost use Rattle.named.specs.Tables.{names_in, names_at};
@@ -37,27 +37,26 @@ fn mark_table(store: &mut [u8], settings: Settings, at: usize, from: usize)
     }
 }
 
-// The same, and none where `from` is 0.
-fn mark_named(store: &mut [u8], settings: Settings, at: usize, from: usize)
+// The same, and none where there is no table.
+fn mark_named(store: &mut [u8], settings: Settings, at: usize, table: Option<usize>)
     requires log_in { LogIn settings at (words store.old) (length store.old) }
-    requires table_in { 0 < from → TableIn settings at from (words store.old) (length store.old) }
-    ensures { words store.new ≡ marks settings at (names_at (words store.old) from) (words store.old) }
+    requires table_in { (from : ℕ) → table ≡ Some from → TableIn settings at from (words store.old) (length store.old) }
+    ensures { words store.new ≡ marks settings at (names_at (words store.old) table) (words store.old) }
 {
-    if from == 0 {
-        return;
+    if let Some(from) = table {
+        mark_table(store, settings, at, from);
     }
-    mark_table(store, settings, at, from);
 }
 
 // The chunks that the entries of any of the buckets' tables name get marks.
-pub fn mark_tables(store: &mut [u8], settings: Settings, at: usize, tables: &[usize])
+pub fn mark_tables(store: &mut [u8], settings: Settings, at: usize, tables: &[Option<usize>])
     requires log_in { LogIn settings at (words store.old) (length store.old) }
     requires tables_in { TablesIn settings at tables.now (words store.old) (length store.old) }
     ensures { words store.new
         ≡ marks settings at (named_first (words store.old) tables.now (buckets settings)) (words store.old) }
 {
-    for from in tables {
-        mark_named(store, settings, at, *from);
+    for table in tables {
+        mark_named(store, settings, at, *table);
     }
 }
 

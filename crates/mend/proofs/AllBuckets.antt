@@ -1,6 +1,7 @@
 -- Bucket by bucket: the effect of mend.
 use mathlib.Core.Path.{◌≡◌, refl, sym, ap, subst, ◌∙◌}
 use mathlib.Core.List.{List, []}
+use Rattle.std.specs.Prelude.{Option, Some, None}
 use Prim.Native.Nat.{ℕ, zero, suc, ◌+◌, ◌≤◌, ◌<◌}
 use native.Mathlib.Nat.{add-zero}
 use native.Mathlib.Numerals.{add-one}
@@ -19,7 +20,7 @@ use Rattle.rules.proofs.Sound.{Sound, LogOk, KeyOf}
 use Rattle.layout.specs.Layout.{log_words, store_words}
 use Rattle.layout.specs.Store.{decode, render}
 use Rattle.lent.proofs.Stores.{settings_are, facts}
-use Rattle.named.specs.Tables.{EntriesAt, named}
+use Rattle.named.specs.Tables.{CopyAt, EntriesAt, named}
 use Rattle.lent.specs.Places.{log_from}
 use Rattle.lent.proofs.Logs.{log_inside, log_changed}
 use Rattle.mend.specs.Fit.{with_log_at, log_of, MendsTable, table_of, table_mended, Mended, MendsAll}
@@ -34,7 +35,7 @@ buckets_ok : {s : State} (v : Sound s) (id n : ℕ) → LogOk (KeyOf s) s.settin
 buckets_ok {s} v id zero = unfold mend_buckets in v.logs id
 buckets_ok {s} v id (suc n) = rw (bucket_more s id n) (keys_ok v id (named s n) (mend_buckets s id n) (buckets_ok v id n))
 
-module _ (c : Settings) (bs : List ℕ) (p : ℕ) (tables : List ℕ) (t : MendsAll c bs p tables) where
+module _ (c : Settings) (bs : List ℕ) (p : ℕ) (tables : List (Option ℕ)) (t : MendsAll c bs p tables) where
   abbrev s : State
   s = decode (words bs)
 
@@ -74,22 +75,16 @@ module _ (c : Settings) (bs : List ℕ) (p : ℕ) (tables : List ℕ) (t : Mends
       ∙ sym (log_changed c bs t.there.store p t.there.inside (stands c bs p t.there) (mended s id))
 
   module _ (n : ℕ) (q : n < buckets c) (now : List ℕ) (h : length now ≡ length bs) (e : words now ≡ with_log_at c p (upto n) (words bs)) where
-    abbrev from : ℕ
-    from = get_or tables n 0
-
-    at : EntriesAt c (words bs) n (named s n) from
-    at = t.known.lie n q
-
     here : Way c bs p (upto n) now
     here = way c bs p t.there (upto n) (buckets_ok (facts c bs t.there.store) id n) (room n (omega arith)) now h e
 
     more : upto (n + 1) ≡ mend_keys s id (upto n) (named s n)
     more = ap upto (add-one n) ∙ bucket_more s id n
 
-    module _ (z : 0 < from) where
+    module _ (from : ℕ) (at : CopyAt c (words bs) n (named s n) from) where
       table_now : table_of c from (words now) ≡ named s n
       table_now =
-          ap (table_of c from) e ∙ table_beside c p t.there.inside n from q (at.lies z) (words bs) long (upto n) ∙ sym (at.table z).same
+          ap (table_of c from) e ∙ table_beside c p t.there.inside n from q at.lies (words bs) long (upto n) ∙ sym at.table.same
 
       mended_is : table_mended c p from (words now) ≡ upto (n + 1)
       mended_is =
@@ -101,13 +96,13 @@ module _ (c : Settings) (bs : List ℕ) (p : ℕ) (tables : List ℕ) (t : Mends
           (λ k y. y)
           ∙ sym more
 
-      pub bucket_mends : MendsTable c now p from
-      bucket_mends = record {
+      table_mends : MendsTable c now p from
+      table_mends = record {
         there = still_up c bs p t.there (upto n) now here;
         bucket = n;
         in_bucket = q;
-        lies = at.lies z;
-        few = subst (λ (k : ℕ). k ≤ c.entries) (sym count) (at.table z).few;
+        lies = at.lies;
+        few = subst (λ (k : ℕ). k ≤ c.entries) (sym count) at.table.few;
         room = subst (λ (l : List Chunk). length l ≤ c.chunks) (sym mended_is) (room (n + 1) (omega arith));
       }
         where
@@ -115,22 +110,24 @@ module _ (c : Settings) (bs : List ℕ) (p : ℕ) (tables : List ℕ) (t : Mends
           count =
               ap (λ (v : List ℕ). get_or v from 0) e
               ∙ ap (λ (k : ℕ). get_or (with_log_at c p (upto n) (words bs)) k 0) (sym (add-zero from))
-              ∙ word_beside c p t.there.inside n from q (at.lies z) (words bs) long (upto n) 0 (omega arith)
+              ∙ word_beside c p t.there.inside n from q at.lies (words bs) long (upto n) 0 (omega arith)
               ∙ ap (λ (k : ℕ). get_or (words bs) k 0) (add-zero from)
+
+    pub bucket_mends : (from : ℕ) → get_or tables n None ≡ Some from → MendsTable c now p from
+    bucket_mends from e = table_mends from (subst (EntriesAt c (words bs) n (named s n)) e (t.known.lie n q))
 
     longer : length (upto n) ≤ length (upto (n + 1))
     longer = omega (arith, keys_grow s id (named s n) (upto n), ap length more)
 
-    pub buckets_turn : (vs : List ℕ) → Mended c p from (words now) vs → vs ≡ with_log_at c p (upto (n + 1)) (words bs)
-    buckets_turn vs m =
-        by_eq from 0
-        (λ _ z. m.none z ∙ e ∙ ap (λ (l : List Chunk). with_log_at c p l (words bs)) (sym (more ∙ nothing z)))
-        (λ _ z. let o : 0 < from = omega arith in
-        m.some o ∙ ap (λ (l : List Chunk). with_log_at c p l (words now)) (mended_is o) ∙ ap (with_log_at c p (upto (n + 1))) e
-        ∙ log_over c p (upto n) (upto (n + 1)) (words bs) fits longer (room (n + 1) (omega arith)))
+    turn : (vs : List ℕ) (from : Option ℕ) → EntriesAt c (words bs) n (named s n) from → Mended c p from (words now) vs
+        → vs ≡ with_log_at c p (upto (n + 1)) (words bs)
+    turn vs (Some from) at m =
+        m ∙ ap (λ (l : List Chunk). with_log_at c p l (words now)) (mended_is from at) ∙ ap (with_log_at c p (upto (n + 1))) e
+        ∙ log_over c p (upto n) (upto (n + 1)) (words bs) fits longer (room (n + 1) (omega arith))
+    turn vs None at m = m ∙ e ∙ ap (λ (l : List Chunk). with_log_at c p l (words bs)) (sym (more ∙ ap (mend_keys s id (upto n)) at ∙ none))
       where
-        nothing : from ≡ 0 → mend_keys s id (upto n) (named s n) ≡ upto n
-        nothing z = ap (mend_keys s id (upto n)) (at.none z) ∙ none
-          where
-            none : mend_keys s id (upto n) [] ≡ upto n
-            none = unfold mend_keys in refl
+        none : mend_keys s id (upto n) [] ≡ upto n
+        none = unfold mend_keys in refl
+
+    pub buckets_turn : (vs : List ℕ) → Mended c p (get_or tables n None) (words now) vs → vs ≡ with_log_at c p (upto (n + 1)) (words bs)
+    buckets_turn vs m = turn vs (get_or tables n None) (t.known.lie n q) m

@@ -2,6 +2,7 @@
 use mathlib.Core.Path.{◌≡◌, refl, sym, ap, ◌∙◌}
 use mathlib.Core.Bool.{Bool, true, cond}
 use mathlib.Core.List.{List}
+use Rattle.std.specs.Prelude.{Option, Some, None}
 use Prim.Native.Nat.{ℕ, zero, suc, ◌+◌, ◌*◌, ◌/◌, ◌≤◌, ◌<◌}
 use native.Mathlib.Numerals.{add-one}
 use native.Mathlib.Nat.{le_refl}
@@ -10,7 +11,7 @@ use lib.Dec.{leb}
 use lib.ListN.{length, get_or}
 use borrow.Author.Tests.{leb-true, le-leb}
 use Rattle.lists.specs.Tests.{count_below}
-use Rattle.lists.proofs.Tests.{by_eq, same_test, count_at_most}
+use Rattle.lists.proofs.Tests.{same_test, count_at_most}
 use Rattle.rules.proofs.Limits.{few_buckets}
 use Rattle.words.specs.Words.{words}
 use Rattle.words.proofs.Laws.{length_words}
@@ -22,9 +23,8 @@ use Rattle.rules.specs.State.{State}
 use Rattle.rules.specs.Upkeep.{mend_buckets, mended}
 use Rattle.chunk_log.proofs.Codec.{dec_length}
 use Rattle.layout.specs.Store.{decode}
-use Rattle.lent.specs.Stores.{StoreOf}
 use Rattle.lent.specs.Parts.{LogPart}
-use Rattle.named.specs.Tables.{EntriesAt, named, AllNamed}
+use Rattle.named.specs.Tables.{CopyAt, EntriesAt, named, AllNamed}
 use Rattle.named.proofs.Copies.{inside_store, entries_inside, table_length, table_key}
 use Rattle.mend.specs.Keys.{key_at, before, adds, adds_inside, lacks_beyond, counted, added}
 use Rattle.mend.proofs.Flagged.{met_by}
@@ -33,45 +33,46 @@ use Rattle.mend.specs.Flags.{Met, Meets}
 use Rattle.mend.specs.Counts.{TableFit, CountAt, InBucket, InAll, named_below}
 
 -- ---- the tables of the buckets
-module _ (c : Settings) (bs tables : List ℕ) (o : AllNamed c bs tables) (g : ℕ) (p : g < buckets c)
+module _ (c : Settings) (bs : List ℕ) (tables : List (Option ℕ)) (o : AllNamed c bs tables) (g : ℕ) (p : g < buckets c)
   where
     abbrev es : List Entry
     es = named (decode (words bs)) g
 
-    abbrev from : ℕ
-    from = get_or tables g 0
+    lies_at : (from : Option ℕ) → get_or tables g None ≡ from → EntriesAt c (words bs) g es from
+    lies_at from e = rw (sym e) (o.lie g p)
 
-    a : EntriesAt c (words bs) g (named (decode (words bs)) g) (get_or tables g 0)
-    a = o.lie g p
+    module _ (from : ℕ) (e : get_or tables g None ≡ Some from) where
+      a : CopyAt c (words bs) g es from
+      a = lies_at (Some from) e
 
-    v : StoreOf c bs
-    v = o.store
+      pub table_fit : TableFit c from (words bs) (length bs)
+      table_fit = record { inside = omega (arith, inside_store c g from p a.lies, o.store.size); few = a.table.few }
 
-    pub table_fit : 0 < from → TableFit c from (words bs) (length bs)
-    table_fit z = record { inside = omega (arith, inside_store c g from p (a.lies z), v.size); few = (a.table z).few }
+      pub key_is : (i : ℕ) → i < length es → get_or (words bs) (from + (2 + i * 2)) 0 ≡ key_at (decode (words bs)) g i
+      key_is i q = sym (table_key c (words bs) es from a.table (entries_inside c bs o.store g p from a) i q)
 
-    pub in_use_at : (i : ℕ) → i < length es → 0 < from
-    in_use_at i q = pos from refl
-      where
-        pos : (n : ℕ) → n ≡ from → 0 < from
-        pos zero e = absurd (omega (arith, ap length (a.none (sym e))))
-        pos (suc n) e = omega arith
+      pub count_is : length es ≡ get_or (words bs) from 0
+      count_is = table_length c (words bs) es from a.table (entries_inside c bs o.store g p from a)
 
-    pub key_is : (i : ℕ) → i < length es → get_or (words bs) (from + (2 + i * 2)) 0 ≡ key_at (decode (words bs)) g i
-    key_is i q = let z = in_use_at i q in sym (table_key c (words bs) es from (a.table z) (entries_inside c bs v g from p a z) i q)
+      pub row_fits : (i : ℕ) → i < length es → 8 * (from + (2 + i * 2)) + 8 ≤ length bs
+      row_fits i q = omega (arith, table_fit.inside, table_fit.few, count_is)
 
-    pub count_is : 0 < from → length es ≡ get_or (words bs) from 0
-    count_is z = table_length c (words bs) es from (a.table z) (entries_inside c bs v g from p a z)
+    pub no_entries : get_or tables g None ≡ None → 0 ≡ length es
+    no_entries e = let l : EntriesAt c (words bs) g es None = lies_at None e in sym (ap length l)
 
-    pub row_fits : (i : ℕ) → i < length es → 8 * (from + (2 + i * 2)) + 8 ≤ length bs
-    row_fits i q = let z = in_use_at i q in omega (arith, (table_fit z).inside, (table_fit z).few, count_is z)
+    few_in : (from : Option ℕ) → get_or tables g None ≡ from → length es ≤ c.entries
+    few_in (Some from) e = omega (arith, count_is from e, (table_fit from e).few)
+    few_in None e = omega (arith, no_entries e)
 
     pub named_few : length es ≤ c.entries
-    named_few = by_eq from 0 (λ _ e. omega (arith, ap length (a.none e))) (λ _ e. let z : 0 < from = omega arith in omega (arith, count_is z, (a.table z).few))
+    named_few = few_in (get_or tables g None) refl
 
-    pub bucket_count : (r : ℕ) → CountAt from (words bs) r → r ≡ length es
-    bucket_count r h =
-        by_eq from 0 (λ _ e. h.none e ∙ sym (ap length (a.none e))) (λ _ e. let z : 0 < from = omega arith in h.some z ∙ sym (count_is z))
+    counted_at : (from : Option ℕ) → get_or tables g None ≡ from → (r : ℕ) → CountAt from (words bs) r → r ≡ length es
+    counted_at (Some from) e r h = h ∙ sym (count_is from e)
+    counted_at None e r h = h ∙ no_entries e
+
+    pub bucket_count : (r : ℕ) → CountAt (get_or tables g None) (words bs) r → r ≡ length es
+    bucket_count = counted_at (get_or tables g None) refl
 
 -- ---- the sums
 count_next : (n : ℕ) (test : ℕ → Bool) → count_below (n + 1) test ≡ cond (test n) 1 0 + count_below n test
@@ -105,14 +106,15 @@ bucket_few s id base g i inside beyond n =
     (omega (arith, n.here, count_at_most i (adds_inside s id base g)), omega (arith, n.far, count_at_most i (lacks_beyond s id base g)))
 
 -- the same of an entry whose key was read where its bucket's table lies
-pub entry_counted : (c : Settings) (bs tables : List ℕ) (h : AllNamed c bs tables) (g : ℕ) (p : g < buckets c) (id base n : ℕ) → CountAt (get_or tables g 0) (words bs) n
-    → (i key : ℕ) → i < n → key ≡ get_or (words bs) (get_or tables g 0 + (2 + i * 2)) 0 → (flags after : List ℕ) (inside beyond x y : ℕ)
+pub entry_counted : (c : Settings) (bs : List ℕ) (tables : List (Option ℕ)) (h : AllNamed c bs tables) (g : ℕ) (p : g < buckets c) (from : ℕ)
+    → get_or tables g None ≡ Some from → (id base i key : ℕ) → i < get_or (words bs) from 0 → key ≡ get_or (words bs) (from + (2 + i * 2)) 0
+    → (flags after : List ℕ) (inside beyond x y : ℕ)
     → Meets c (decode (words bs)) id base key flags after x y → Met c (decode (words bs)) id base (before (decode (words bs)) g i) flags
     → InBucket (decode (words bs)) id base g i inside beyond
     → InBucket (decode (words bs)) id base g (i + 1) (inside + x) (beyond + y) × Met c (decode (words bs)) id base (before (decode (words bs)) g (i + 1)) after
-entry_counted c bs tables h g p id base n k i key l e flags after inside beyond x y m met sums =
-    let q : i < length (named (decode (words bs)) g) = omega (arith, bucket_count c bs tables h g p n k) in
-    entry_turn c (decode (words bs)) id base g i key flags after inside beyond x y q (e ∙ key_is c bs tables h g p i q) m met sums
+entry_counted c bs tables h g p from o id base i key l e flags after inside beyond x y m met sums =
+    let q : i < length (named (decode (words bs)) g) = omega (arith, count_is c bs tables h g p from o) in
+    entry_turn c (decode (words bs)) id base g i key flags after inside beyond x y q (e ∙ key_is c bs tables h g p from o i q) m met sums
 
 -- a log has as many chunks as its count says
 pub log_count : (c : Settings) (part : List ℕ) (l : List Chunk) → LogPart c l part → (n : ℕ) → n ≡ get_or (words part) 0 0 → n ≡ length l
@@ -142,7 +144,7 @@ pub names_more : (s : State) (g : ℕ) → named_below s (g + 1) ≡ length (nam
 names_more s g = ap (named_below s) (add-one g) ∙ (unfold named_below in refl)
 
 -- so few that no sum of them overflows
-pub named_at_most : (c : Settings) (bs tables : List ℕ) → AllNamed c bs tables → (n : ℕ) → n ≤ buckets c → named_below (decode (words bs)) n ≤ n * 1024
+pub named_at_most : (c : Settings) (bs : List ℕ) (tables : List (Option ℕ)) → AllNamed c bs tables → (n : ℕ) → n ≤ buckets c → named_below (decode (words bs)) n ≤ n * 1024
 unfolding named_below
 named_at_most c bs tables k zero p = omega arith
 named_at_most c bs tables k (suc n) p =
@@ -154,7 +156,7 @@ unfolding counted named_below
 counted_few s test zero = omega arith
 counted_few s test (suc n) = omega (arith, counted_few s test n, count_at_most (length (named s n)) (test n))
 
-pub all_few : (c : Settings) (bs tables : List ℕ) → AllNamed c bs tables → (id base n inside beyond : ℕ) → n ≤ buckets c
+pub all_few : (c : Settings) (bs : List ℕ) (tables : List (Option ℕ)) → AllNamed c bs tables → (id base n inside beyond : ℕ) → n ≤ buckets c
     → InAll (decode (words bs)) id base n inside beyond → (inside ≤ n * 1024) × (beyond ≤ n * 1024)
 all_few c bs tables k id base n inside beyond p h =
     let s = decode (words bs) in
@@ -162,10 +164,10 @@ all_few c bs tables k id base n inside beyond p h =
     (omega (arith, h.here, counted_few s (adds_inside s id base) n), omega (arith, h.far, counted_few s (lacks_beyond s id base) n))
 
 -- in all
-pub named_small : (c : Settings) (bs tables : List ℕ) → AllNamed c bs tables → named_below (decode (words bs)) (buckets c) ≤ 65536
+pub named_small : (c : Settings) (bs : List ℕ) (tables : List (Option ℕ)) → AllNamed c bs tables → named_below (decode (words bs)) (buckets c) ≤ 65536
 named_small c bs tables k = omega (arith, named_at_most c bs tables k (buckets c) (le_refl _), few_buckets c)
 
-pub added_small : (c : Settings) (bs : List ℕ) (tables : List ℕ) → AllNamed c bs tables → (id : ℕ) → added (decode (words bs)) id (buckets c) ≤ 65536
+pub added_small : (c : Settings) (bs : List ℕ) (tables : List (Option ℕ)) → AllNamed c bs tables → (id : ℕ) → added (decode (words bs)) id (buckets c) ≤ 65536
 added_small c bs tables k id = omega (arith, counted_few (decode (words bs)) (adds (decode (words bs)) id) (buckets c), named_small c bs tables k)
 
 -- ---- the answer

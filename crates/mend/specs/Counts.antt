@@ -1,5 +1,5 @@
 -- What the functions that count added chunks ask for.
-use Rattle.std.specs.Prelude.{◌≡◌, List, ℕ, zero, suc, ◌+◌, ◌*◌, ◌≤◌, ◌<◌, length, get_or}
+use Rattle.std.specs.Prelude.{◌≡◌, List, ℕ, zero, suc, ◌+◌, ◌*◌, ◌≤◌, length, get_or, Option, Some, None}
 use Rattle.lists.specs.Tests.{count_below}
 use Rattle.rules.specs.declared.settings.Settings.{Settings}
 use Rattle.rules.specs.State.{State}
@@ -14,14 +14,14 @@ pub record TableFit (c : Settings) (from : ℕ) (ws : List ℕ) (len : ℕ) : Ty
   pub few : get_or ws from 0 ≤ c.entries
 
 -- a place that holds an up member, and where the named entries lie
-pub record Counts (c : Settings) (bs : List ℕ) (place : ℕ) (tables : List ℕ) : Type 0 where
+pub record Counts (c : Settings) (bs : List ℕ) (place : ℕ) (tables : List (Option ℕ)) : Type 0 where
   pub there : UpAt c bs place
   pub known : AllNamed c bs tables
 
--- the entries of the table at word `from`, and none where it is 0
-pub record CountAt (from : ℕ) (ws : List ℕ) (r : ℕ) : Type 0 where
-  pub none : from ≡ 0 → r ≡ 0
-  pub some : 0 < from → r ≡ get_or ws from 0
+-- the entries of the table at a word, and none where there is no table
+abbrev pub CountAt : Option ℕ → List ℕ → ℕ → Type 0
+CountAt (Some from) ws r = r ≡ get_or ws from 0
+CountAt (None) ws r = r ≡ 0
 
 -- the entries that the first buckets name
 unfoldable pub named_below : State → ℕ → ℕ

@@ -1,5 +1,5 @@
 -- What the functions that mend a log ask for.
-use Rattle.std.specs.Prelude.{◌≡◌, true, List, ℕ, ◌≤◌, ◌<◌, length, get_or}
+use Rattle.std.specs.Prelude.{◌≡◌, true, List, ℕ, ◌≤◌, ◌<◌, length, get_or, Option, Some, None}
 use Rattle.lists.specs.Runs.{run, on_run}
 use Rattle.words.specs.Words.{words}
 use Rattle.rules.specs.declared.settings.Settings.{Settings}
@@ -57,13 +57,13 @@ pub record MendsTable (c : Settings) (bs : List ℕ) (place from : ℕ) : Type 0
   pub few : get_or (words bs) from 0 ≤ c.entries
   pub room : length (table_mended c place from (words bs)) ≤ c.chunks
 
--- what a table leaves, and none where `from` is 0
-pub record Mended (c : Settings) (place from : ℕ) (ws vs : List ℕ) : Type 0 where
-  pub none : from ≡ 0 → vs ≡ ws
-  pub some : 0 < from → vs ≡ with_log_at c place (table_mended c place from ws) ws
+-- what the table at a word leaves; the same words where there is no table
+abbrev pub Mended : Settings → ℕ → Option ℕ → List ℕ → List ℕ → Type 0
+Mended c place (Some from) ws vs = vs ≡ with_log_at c place (table_mended c place from ws) ws
+Mended c place (None) ws vs = vs ≡ ws
 
 -- all named keys are mended: where they lie, and that there is room
-pub record MendsAll (c : Settings) (bs : List ℕ) (place : ℕ) (tables : List ℕ) : Type 0 where
+pub record MendsAll (c : Settings) (bs : List ℕ) (place : ℕ) (tables : List (Option ℕ)) : Type 0 where
   pub there : UpAt c bs place
   pub known : AllNamed c bs tables
   pub room : length (mended (decode (words bs)) ((decode (words bs)).ids place)) ≤ c.chunks

@@ -1,6 +1,6 @@
 // The effect of mend, key by key: a place's log gets chunks saved that up members hold. What is written is the place's part alone; the bytes of a chunk
 // that comes from another place go through an area of a block's size, which is lent and left with any bytes.
-ghost use Rattle.std.specs.Prelude.{◌≡◌, ◌<◌, length};
+ghost use Rattle.std.specs.Prelude.{◌≡◌, ℕ, ◌<◌, length, Some};
 ghost use Rattle.words.specs.Words.{words};
 ghost use Rattle.rules.specs.Chunks.{save_key};
 ghost use Rattle.rules.specs.Upkeep.{mend_effect};
@@ -77,15 +77,20 @@ fn mend_table(store: &mut [u8], settings: Settings, place: usize, from: usize, a
     }
 }
 
-// The same, and nothing where `from` is 0.
-fn mend_named(store: &mut [u8], settings: Settings, place: usize, from: usize, area: &mut [u8])
-    requires { (0 < from → MendsTable settings store.old place from) × (length area.old ≡ settings.size) }
+// The same, and nothing where there is no table.
+fn mend_named(
+    store: &mut [u8],
+    settings: Settings,
+    place: usize,
+    from: Option<usize>,
+    area: &mut [u8],
+)
+    requires { ((at : ℕ) → from ≡ Some at → MendsTable settings store.old place at) × (length area.old ≡ settings.size) }
     ensures { Mended settings place from (words store.old) (words store.new) }
 {
-    if from == 0 {
-        return;
+    if let Some(at) = from {
+        mend_table(store, settings, place, at, area);
     }
-    mend_table(store, settings, place, from, area);
 }
 
 // The place gets every chunk saved that is named, bucket by bucket.
@@ -93,7 +98,7 @@ pub fn mend_all(
     store: &mut [u8],
     settings: Settings,
     place: usize,
-    tables: &[usize],
+    tables: &[Option<usize>],
     area: &mut [u8],
 )
     requires { MendsAll settings store.old place tables.now × (length area.old ≡ settings.size) }

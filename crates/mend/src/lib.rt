@@ -29,7 +29,7 @@ fn mend_in(
     store: &mut [u8],
     settings: Settings,
     place: usize,
-    tables: &mut [usize],
+    tables: &mut [Option<usize>],
     area: &mut [u8],
 ) -> Result<(), Refusal>
     requires { UpAt settings store.old place × (length tables.old ≡ buckets settings) × (length area.old ≡ settings.size) }
@@ -53,7 +53,7 @@ pub fn mend(store: &mut [u8], settings: Settings, place: u64) -> Answer
 {
     place::asks(store, settings, place)?;
     let count = settings.buckets();
-    let mut tables = [0usize; constants::MAX_BUCKETS];
+    let mut tables = [None; constants::MAX_BUCKETS];
     let size = settings.size;
     let mut area = [0u8; Settings::MAX_SIZE];
     mend_in(

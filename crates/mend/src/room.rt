@@ -1,7 +1,7 @@
 // Question 10 of mend: is there room for all chunks that it adds? A chunk is added where its key is named first, so each is counted once, and before
 // anything changes. A chunk that the place lacks lies in some row of some place's log, and no other chunk does: a flag for each row and place says
 // whether its key was named before. There are flags for a part of the rows; logs that have more are counted part by part.
-ghost use Rattle.std.specs.Prelude.{◌≡◌, not, ◌+◌, ◌<◌, ◌≤◌, leb, length};
+ghost use Rattle.std.specs.Prelude.{◌≡◌, not, ℕ, ◌+◌, ◌<◌, ◌≤◌, leb, length, Some};
 ghost use Rattle.words.specs.Words.{words};
 ghost use Rattle.rules.specs.Limits.{buckets, max_places};
 ghost use Rattle.rules.specs.Upkeep.{mended};
@@ -96,15 +96,15 @@ fn count_key(
     }
 }
 
-// So many entries has a bucket whose table lies at word `from`, and none where `from` is 0.
-fn count_at(store: &[u8], settings: Settings, from: usize) -> usize
-    requires { 0 < from → TableFit settings from (words store.now) (length store.now) }
+// So many entries has a bucket whose table lies at word `from`, and none where there is no table.
+fn count_at(store: &[u8], settings: Settings, from: Option<usize>) -> usize
+    requires { (at : ℕ) → from ≡ Some at → TableFit settings at (words store.now) (length store.now) }
     ensures { CountAt from (words store.now) result }
 {
-    if from == 0 {
-        return 0;
+    match from {
+        Some(at) => words::read(store, at) as usize,
+        None => 0,
     }
-    words::read(store, from) as usize
 }
 
 // What do the keys of a bucket count?
@@ -112,7 +112,7 @@ fn count_in(
     store: &[u8],
     settings: Settings,
     place: usize,
-    tables: &[usize],
+    tables: &[Option<usize>],
     bucket: usize,
     base: usize,
     flags: &mut [u8],
@@ -124,8 +124,13 @@ fn count_in(
         × Met settings (decode (words store.now)) ((decode (words store.now)).ids place) base
         (before (decode (words store.now)) (bucket + 1) 0) flags.new }
 {
-    let from = tables[bucket];
-    let n = count_at(store, settings, from);
+    let Some(from) = tables[bucket] else {
+        return Count {
+            inside: 0,
+            beyond: 0,
+        };
+    };
+    let n = words::read(store, from) as usize;
     let mut inside = 0;
     let mut beyond = 0;
     for i in 0..n {
@@ -142,7 +147,7 @@ fn count_all(
     store: &[u8],
     settings: Settings,
     place: usize,
-    tables: &[usize],
+    tables: &[Option<usize>],
     base: usize,
     flags: &mut [u8],
 ) -> Count
@@ -165,7 +170,7 @@ fn count_part(
     store: &[u8],
     settings: Settings,
     place: usize,
-    tables: &[usize],
+    tables: &[Option<usize>],
     base: usize,
 ) -> Count
     requires { Counts settings store.now place tables.now }
@@ -178,7 +183,13 @@ fn count_part(
 
 // Are at most `room` chunks added? At least those of the parts so far are, and at most those and the ones counted beyond; while that leaves it open, the next
 // part is counted.
-fn at_most(store: &[u8], settings: Settings, place: usize, tables: &[usize], room: usize) -> bool
+fn at_most(
+    store: &[u8],
+    settings: Settings,
+    place: usize,
+    tables: &[Option<usize>],
+    room: usize,
+) -> bool
     requires { Counts settings store.now place tables.now × (room ≤ settings.chunks) }
     ensures { result ≡ leb (added (decode (words store.now)) ((decode (words store.now)).ids place) (buckets settings)) room }
 {
@@ -198,7 +209,7 @@ fn at_most(store: &[u8], settings: Settings, place: usize, tables: &[usize], roo
 
 // ---- entries that are named: at most so many chunks are added
 
-fn named_count(store: &[u8], settings: Settings, tables: &[usize]) -> usize
+fn named_count(store: &[u8], settings: Settings, tables: &[Option<usize>]) -> usize
     requires { AllNamed settings store.now tables.now }
     ensures { result ≡ named_below (decode (words store.now)) (buckets settings) }
 {
@@ -210,7 +221,7 @@ fn named_count(store: &[u8], settings: Settings, tables: &[usize]) -> usize
 }
 
 // Is there room for all? Where there is room for as many chunks as there are entries, nothing else is looked at.
-pub fn has_room(store: &[u8], settings: Settings, place: usize, tables: &[usize]) -> bool
+pub fn has_room(store: &[u8], settings: Settings, place: usize, tables: &[Option<usize>]) -> bool
     requires { Counts settings store.now place tables.now }
     ensures { result ≡ leb (length (mended (decode (words store.now)) ((decode (words store.now)).ids place))) settings.chunks }
 {

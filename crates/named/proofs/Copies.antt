@@ -2,6 +2,7 @@
 use mathlib.Core.Path.{◌≡◌, refl, sym, ap, subst, ◌∙◌}
 use mathlib.Core.Logic.{◌⊎◌, inl, inr}
 use mathlib.Core.List.{List}
+use Rattle.std.specs.Prelude.{Option, Some, None}
 use mathlib.Core.Bool.{true, false}
 use Prim.Native.Nat.{ℕ, ◌+◌, ◌*◌, ◌≤◌, ◌<◌}
 use native.Mathlib.Nat.{add-zero}
@@ -34,7 +35,7 @@ use Rattle.entries.proofs.Words.{key_word}
 use Rattle.lent.specs.Stores.{StoreOf}
 use Rattle.lent.specs.Places.{Stands}
 use Rattle.lent.proofs.Stores.{settings_are, facts}
-use Rattle.named.specs.Tables.{TableAt, AtCopies, EntriesAt, named, key_in, names_first, names_at}
+use Rattle.named.specs.Tables.{TableAt, AtCopies, CopyAt, EntriesAt, named, key_in, names_first, names_at}
 use Rattle.named.proofs.Names.{names_none, names_all}
 
 -- ---- a copy in memory at a place
@@ -65,11 +66,10 @@ module _ (c : Settings) (bs : List ℕ) (v : StoreOf c bs) (g : ℕ) (m : g < bu
   abbrev s : State
   s = decode (words bs)
 
-  pub memory_lies : (id p at : ℕ) → Stands c s id p → at ≡ place_at c p + copies_at c g → EntriesAt c (words bs) g ((s.bucket g).memory id) at
+  pub memory_lies : (id p at : ℕ) → Stands c s id p → at ≡ place_at c p + copies_at c g → EntriesAt c (words bs) g ((s.bucket g).memory id) (Some at)
   memory_lies id p at h e = record {
-    none = λ z. absurd (omega arith);
-    lies = λ z. record { place = p; inside = h.inside; begins = e };
-    table = λ z. let same = ap (s.bucket g).memory (sym h.here) ∙ held ∙ ap (λ (k : ℕ). (copy_codec c).dec (run k (copy_words c) (words bs))) (sym e) in
+    lies = record { place = p; inside = h.inside; begins = e };
+    table = let same = ap (s.bucket g).memory (sym h.here) ∙ held ∙ ap (λ (k : ℕ). (copy_codec c).dec (run k (copy_words c) (words bs))) (sym e) in
         record { same = same; few = omega (arith, ap length same, table_count c (words bs) at, room) };
   }
     where
@@ -81,30 +81,26 @@ module _ (c : Settings) (bs : List ℕ) (v : StoreOf c bs) (g : ℕ) (m : g < bu
       room : length ((s.bucket g).memory id) ≤ c.entries
       room = rw (settings_are c bs v) at (((facts c bs v).buckets_ok g (rw (settings_are c bs v) m)).memory id).room
 
-  pub memory_none : (id : ℕ) → brick_in s id ≡ blank_brick → EntriesAt c (words bs) g ((s.bucket g).memory id) 0
-  memory_none id e = record {
-    none = λ z. ap (λ (b : Brick). (b.copies g).memory) e;
-    lies = λ z. absurd (omega arith);
-    table = λ z. absurd (omega arith);
-  }
+  pub memory_none : (id : ℕ) → brick_in s id ≡ blank_brick → EntriesAt c (words bs) g ((s.bucket g).memory id) None
+  memory_none id e = ap (λ (b : Brick). (b.copies g).memory) e
 
   -- the entries that count are those of the primary, or none
-  pub named_ready : (primary at : ℕ) → (s.bucket g).ready ≡ true → (s.bucket g).primary ≡ primary
+  pub named_ready : (primary : ℕ) (at : Option ℕ) → (s.bucket g).ready ≡ true → (s.bucket g).primary ≡ primary
       → EntriesAt c (words bs) g ((s.bucket g).memory primary) at → EntriesAt c (words bs) g (named s g) at
   named_ready primary at r e o = subst (λ (l : List Entry). EntriesAt c (words bs) g l at) (sym (named_is s g r ∙ ap (s.bucket g).memory e)) o
 
-  pub named_none : (s.bucket g).ready ≡ false → EntriesAt c (words bs) g (named s g) 0
+  pub named_none : (s.bucket g).ready ≡ false → EntriesAt c (words bs) g (named s g) None
   unfolding named
-  named_none r = record { none = λ z. rw r; lies = λ z. absurd (omega arith); table = λ z. absurd (omega arith) }
+  named_none r = rw r
 
 -- one bucket more
-pub named_more : (c : Settings) (ws : List ℕ) (t : State) (tables : List ℕ) (n at : ℕ) → n < length tables
-    → ((g : ℕ) → g < n → EntriesAt c ws g (named t g) (get_or tables g 0)) → EntriesAt c ws n (named t n) at
-    → (g : ℕ) → g < n + 1 → EntriesAt c ws g (named t g) (get_or (set tables n at) g 0)
+pub named_more : (c : Settings) (ws : List ℕ) (t : State) (tables : List (Option ℕ)) (n : ℕ) (at : Option ℕ) → n < length tables
+    → ((g : ℕ) → g < n → EntriesAt c ws g (named t g) (get_or tables g None)) → EntriesAt c ws n (named t n) at
+    → (g : ℕ) → g < n + 1 → EntriesAt c ws g (named t g) (get_or (set tables n at) g None)
 named_more c ws t tables n at h old new g p =
     by_eq g n
-    (λ _ e. rw (e, get_or-set_same tables n at 0) new)
-    (λ _ e. rw (get_or-set_other tables n g at 0 e) (old g (omega arith)))
+    (λ _ e. rw (e, get_or-set_same tables n at None) new)
+    (λ _ e. rw (get_or-set_other tables n g at None e) (old g (omega arith)))
 
 -- ---- no copy lies in a log
 pub beside_log : (c : Settings) (g p at : ℕ) → g < buckets c → p < c.places → AtCopies c g at
@@ -136,18 +132,17 @@ module _ (c : Settings) (ws : List ℕ) (l : List Entry) (at : ℕ) (t : TableAt
       ∙ run_at at (copy_words c) (2 + i * 2) ws (omega arith)
 
 -- ---- what a table of named entries names
-module _ (c : Settings) (bs : List ℕ) (v : StoreOf c bs) (g from : ℕ) (p : g < buckets c) (a : EntriesAt c (words bs) g (named (decode (words bs)) g) from)
-  where
-    pub entries_inside : 0 < from → from + copy_words c ≤ length (words bs)
-    entries_inside z = let long = v.sound.size ∙ ap store_words (sym v.same) in omega (arith, inside_store c g from p (a.lies z))
+module _ (c : Settings) (bs : List ℕ) (v : StoreOf c bs) (g : ℕ) (p : g < buckets c) where
+  abbrev es : List Entry
+  es = named (decode (words bs)) g
 
-    pub entry_names : (k : ℕ) → names_at (words bs) from k ≡ names (named (decode (words bs)) g) k
-    unfolding names_at names_first
-    entry_names k =
-        by_eq from 0
-        (λ q e. rw q (sym (ap (λ (l : List Entry). names l k) (a.none e) ∙ names_none k)))
-        (λ q e. let z : 0 < from = omega arith in
-        let h = entries_inside z in
-        rw q (ap (λ (n : ℕ). any_below n (λ i. eqb k (key_in (words bs) from i)))
-        (sym (table_length c (words bs) (named (decode (words bs)) g) from (a.table z) h))
-        ∙ sym (names_all (named (decode (words bs)) g) (key_in (words bs) from) (table_key c (words bs) (named (decode (words bs)) g) from (a.table z) h) k)))
+  pub entries_inside : (from : ℕ) → CopyAt c (words bs) g es from → from + copy_words c ≤ length (words bs)
+  entries_inside from a = let long = v.sound.size ∙ ap store_words (sym v.same) in omega (arith, inside_store c g from p a.lies)
+
+  pub entry_names : (from : Option ℕ) → EntriesAt c (words bs) g es from → (k : ℕ) → names_at (words bs) from k ≡ names es k
+  unfolding names_at names_first
+  entry_names (Some from) a k =
+      let h = entries_inside from a in
+      ap (λ (n : ℕ). any_below n (λ i. eqb k (key_in (words bs) from i))) (sym (table_length c (words bs) es from a.table h))
+      ∙ sym (names_all es (key_in (words bs) from) (table_key c (words bs) es from a.table h) k)
+  entry_names None a k = sym (ap (λ (l : List Entry). names l k) a ∙ names_none k)

@@ -13,19 +13,17 @@ use layout::sizes;
 use lent::{brick, bucket, place};
 use rules::settings::Settings;
 
-// The word at which a brick's copy of a bucket in memory begins; 0 where no place holds the brick.
-fn memory_at(store: &[u8], settings: Settings, bucket: usize, id: u64) -> usize
+// The word at which a brick's copy of a bucket in memory begins, where a place holds the brick.
+fn memory_at(store: &[u8], settings: Settings, bucket: usize, id: u64) -> Option<usize>
     requires { StoreOf settings store.now × (bucket < buckets settings) }
     ensures { EntriesAt settings (words store.now) bucket (((decode (words store.now)).bucket bucket).memory id) result }
 {
-    match brick::place_of(store, settings, id) {
-        Some(place) => sizes::place_at(settings, place) + place::memory_at(settings, bucket),
-        None => 0,
-    }
+    let place = brick::place_of(store, settings, id)?;
+    Some(sizes::place_at(settings, place) + place::memory_at(settings, bucket))
 }
 
 // The word at which the entries lie whose keys a bucket names: the primary's memory, where the bucket is ready.
-fn named_at(store: &[u8], settings: Settings, bucket: usize) -> usize
+fn named_at(store: &[u8], settings: Settings, bucket: usize) -> Option<usize>
     requires { StoreOf settings store.now × (bucket < buckets settings) }
     ensures { EntriesAt settings (words store.now) bucket (named (decode (words store.now)) bucket) result }
 {
@@ -33,11 +31,11 @@ fn named_at(store: &[u8], settings: Settings, bucket: usize) -> usize
     if agreed.ready {
         return memory_at(store, settings, bucket, agreed.primary);
     }
-    0
+    None
 }
 
 // The same for every bucket.
-pub fn all_named(store: &[u8], settings: Settings, tables: &mut [usize])
+pub fn all_named(store: &[u8], settings: Settings, tables: &mut [Option<usize>])
     requires { StoreOf settings store.now × (length tables.old ≡ buckets settings) }
     ensures { AllNamed settings store.now tables.new }
 {
