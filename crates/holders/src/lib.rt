@@ -122,7 +122,7 @@ fn first_holder(
         (first_holder (decode (words store.now)).bricks key.0 (between (decode (words store.now)) from to)) key.0 result }
 {
     let mut low = from;
-    // stays: a while, for it goes from member to member, by steps of any size.
+    // stays: each turn goes past the next member's id, so no range tells the turns
     while low < to {
         let place = next_member(store, settings, low, to)?;
         if let Some(row) = find_at(store, settings, place, key) {

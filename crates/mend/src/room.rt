@@ -195,7 +195,7 @@ fn at_most(
 {
     let mut count = 0;
     let mut base = 0;
-    // stays: a while, for it ends by what is counted; a range of parts would need a last one, and a count of them.
+    // stays: it ends by what is counted; a range of parts would need their number first
     while count <= room {
         let part = count_part(store, settings, place, tables, base);
         count += part.inside;
