@@ -10,6 +10,10 @@ pub fn move_up(s: &mut [u8], from: usize, to: usize, n: usize)
     requires { (from ≤ to) × (8 * (to + n) ≤ length s.old) }
     ensures { words s.new ≡ paste (words s.old) to (drop from (words s.old)) n }
 {
+    // nearly every move is of one block: no count of blocks for it
+    if n <= spans::BLOCK_WORDS {
+        return spans::move_block(s, from, to, n);
+    }
     for block in (0..n.div_ceil(spans::BLOCK_WORDS)).rev() {
         let at = block * spans::BLOCK_WORDS;
         spans::move_block(s, from + at, to + at, spans::BLOCK_WORDS.min(n - at));
@@ -21,6 +25,9 @@ pub fn move_down(s: &mut [u8], from: usize, to: usize, n: usize)
     requires { (to ≤ from) × (8 * (from + n) ≤ length s.old) }
     ensures { words s.new ≡ paste (words s.old) to (drop from (words s.old)) n }
 {
+    if n <= spans::BLOCK_WORDS {
+        return spans::move_block(s, from, to, n);
+    }
     for block in 0..n.div_ceil(spans::BLOCK_WORDS) {
         let at = block * spans::BLOCK_WORDS;
         spans::move_block(s, from + at, to + at, spans::BLOCK_WORDS.min(n - at));

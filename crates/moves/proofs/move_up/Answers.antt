@@ -15,6 +15,6 @@ loop-block-preserved c =
     let left = min (c.loop-block.block * 1024) c.args.n in
     let full : min ((c.loop-block.block - 1) * 1024) c.args.n ≡ (c.loop-block.block - 1) * 1024 = omega arith in
     rw full
-    (c.move_block.ensures ∙ ap (λ (w : List ℕ). paste w (c.args.to + at) (drop (c.args.from + at) w) c.min.result) c.loop-block.invariant
+    (c.move_block-in-loop-block.ensures ∙ ap (λ (w : List ℕ). paste w (c.args.to + at) (drop (c.args.from + at) w) c.min.result) c.loop-block.invariant
     ∙ up_turn (words c.args.s.now) c.args.from c.args.to c.args.n left at c.min.result
     c.requires.0 (room c.args.s.now (c.args.to + c.args.n) c.requires.1) (omega arith) (omega arith))
