@@ -100,6 +100,8 @@ fn keep_up(store: &mut [u8], settings: Settings, kind: u64, place: u64) -> Answe
 }
 
 // Any kind, on a sound store; a number of no kind answers 3.
+// Compiled in place: an answer is handed out of a call in memory, which would nearly double the time of a list of small events.
+#[inline(always)]
 pub fn perform(
     store: &mut [u8],
     settings: Settings,
